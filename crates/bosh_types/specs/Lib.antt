@@ -1,0 +1,4 @@
+pub mod ById
+pub mod Condition
+pub mod Decimal
+pub mod Rid
