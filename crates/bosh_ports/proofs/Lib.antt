@@ -1,0 +1,4 @@
+pub mod FaultLemmas
+pub mod GivingLemmas
+pub mod PartsLemmas
+pub mod TakingLemmas

@@ -1,0 +1,6 @@
+pub mod Bell
+pub mod Faults
+pub mod Link
+pub mod Memory
+pub mod Sink
+pub mod Source

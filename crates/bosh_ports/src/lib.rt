@@ -1,0 +1,34 @@
+// The outside as traits, each with a written meaning and a count of faults: one implementation in memory that fails at
+// listed calls, one that never fails, and the real thing. Callers are generic over the trait, so that a proof holds of
+// all three.
+#![tactic(auto)]
+
+mod bell;
+mod giving;
+mod link;
+mod memory;
+mod memory_link;
+mod quiet;
+mod quiet_link;
+mod real_bell;
+mod sending;
+mod sink;
+mod source;
+mod streams;
+mod tcp_link;
+#[cfg(test)]
+mod tests;
+
+pub use bell::{Bell, ListedBell, SteadyBell, Woken};
+pub use giving::{WriteFault, give_all};
+pub use link::Link;
+pub use memory::{MemorySink, MemorySource};
+pub use memory_link::MemoryLink;
+pub use quiet::{Discard, QuietSource};
+pub use quiet_link::QuietLink;
+pub use real_bell::RealBell;
+pub use sending::{send_all, send_parts};
+pub use sink::{Gave, Sink};
+pub use source::{Got, Source};
+pub use streams::{ReadSource, WriteSink};
+pub use tcp_link::TcpLink;
