@@ -1,0 +1,10 @@
+// One session, apart from every connection, clock and thread: which request stands for an id, what goes inward, and when
+// the session ends. Here so far is the plain session, which keeps all that arrived and searches it each time.
+#![tactic(auto)]
+
+mod arrival;
+mod bare;
+mod search;
+
+pub use arrival::Arrival;
+pub use bare::{Bare, BareSeen};
