@@ -1,0 +1,6 @@
+pub mod Fault
+pub mod Line
+pub mod Lines
+pub mod Report
+pub mod Script
+pub mod Step

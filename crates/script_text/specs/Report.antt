@@ -1,0 +1,66 @@
+-- The lines of a report, as bytes.
+use Rattle.std.specs.Prelude.{ℕ, List, [], ◌∷◌, ◌++◌, codes}
+use Rattle.std.specs.Fmt.{decimal}
+use Rattle.bosh_types.specs.Condition.{name_of}
+use Rattle.bosh_types.specs.declared.condition.Condition.TheVariants.{ItemNotFound, PolicyViolation, RemoteConnectionFailed, RemoteStreamError, SystemShutdown, UndefinedCondition}
+use Rattle.bosh_types.specs.declared.ending.Closing.{Closing}
+use Rattle.bosh_types.specs.declared.ending.Closing.TheVariants.{Plain, RemoteConnectionFailed as ByConnection, RemoteStreamError as ByStream, SystemShutdown as ByShutdown}
+use Rattle.bosh_types.specs.declared.ending.Ending.{Ending}
+use Rattle.bosh_types.specs.declared.ending.Ending.TheVariants.{Terminated, Stale, Above, WrongKey, UnknownStream, PauseTooLong, Overactive, Silent, Closed, JournalFull}
+use Rattle.script_text.specs.declared.line.BadKind.{BadKind}
+use Rattle.script_text.specs.declared.line.BadKind.TheVariants.{Count, End, Length, Later, Grammar}
+use Rattle.script_text.specs.declared.report.ReportLine.{ReportLine}
+use Rattle.script_text.specs.declared.report.ReportLine.TheVariants.{In, Over, Done, Bad}
+
+-- numbers, each after a space
+abbrev pub numbers_text : List ℕ → List ℕ
+numbers_text [] = []
+numbers_text (number ∷ numbers) = codes " " ++ decimal number ++ numbers_text numbers
+
+-- the word for a closing
+abbrev pub closing_text : Closing → List ℕ
+closing_text Plain = codes "closed"
+closing_text ByConnection = name_of RemoteConnectionFailed
+closing_text ByStream = name_of RemoteStreamError
+closing_text ByShutdown = name_of SystemShutdown
+
+-- an ending with its numbers
+unfoldable pub ending_text : Ending → List ℕ
+ending_text (Terminated rid) = codes "terminate" ++ numbers_text (rid ∷ [])
+ending_text (Stale rid lowest) = codes "item-not-found stale" ++ numbers_text (rid ∷ lowest ∷ [])
+ending_text (Above rid last requests) = codes "item-not-found above" ++ numbers_text (rid ∷ last ∷ requests ∷ [])
+ending_text (WrongKey rid) = codes "item-not-found key" ++ numbers_text (rid ∷ [])
+ending_text (UnknownStream rid) = codes "item-not-found stream" ++ numbers_text (rid ∷ [])
+ending_text (PauseTooLong rid pause maxpause) = codes "policy-violation pause" ++ numbers_text (rid ∷ pause ∷ maxpause ∷ [])
+ending_text (Overactive rid apart) = codes "policy-violation often" ++ numbers_text (rid ∷ apart ∷ [])
+ending_text (Silent since now) = codes "silent" ++ numbers_text (since ∷ now ∷ [])
+ending_text (Closed closing rid) = closing_text closing ++ numbers_text (rid ∷ [])
+ending_text (JournalFull counted cost) = codes "undefined-condition journal" ++ numbers_text (counted ∷ cost ∷ [])
+
+-- the word for a kind of bad line
+abbrev pub kind_text : BadKind → List ℕ
+kind_text Count = codes "count"
+kind_text End = codes "end"
+kind_text Length = codes "length"
+kind_text Later = codes "later"
+kind_text Grammar = codes "grammar"
+
+-- one line of a report, without its LF
+unfoldable pub line_text : ReportLine → List ℕ
+line_text (In session stream stanza) = codes "in s" ++ decimal session ++ codes " " ++ decimal stream ++ codes " " ++ stanza
+line_text (Over session ending) = codes "over s" ++ decimal session ++ codes " " ++ ending_text ending
+line_text (Done line) = codes "done " ++ decimal line
+line_text (Bad line kind) = codes "bad " ++ decimal line ++ codes " " ++ kind_text kind
+
+-- a report: its lines, each ended by LF
+abbrev pub report_text : List ReportLine → List ℕ
+report_text [] = []
+report_text (line ∷ lines) = line_text line ++ 10 ∷ report_text lines
+
+-- the stanzas that a report says went inward, in order
+abbrev pub inward_in : List ReportLine → List (List ℕ)
+inward_in [] = []
+inward_in (In session stream stanza ∷ lines) = stanza ∷ inward_in lines
+inward_in (Over session ending ∷ lines) = inward_in lines
+inward_in (Done line ∷ lines) = inward_in lines
+inward_in (Bad line kind ∷ lines) = inward_in lines

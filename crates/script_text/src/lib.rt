@@ -1,0 +1,16 @@
+// Scripts and their reports: what a line of a script says, where a script is bad, and how it is run over sessions line by
+// line, from bytes in to bytes out.
+#![tactic(auto)]
+
+mod drive;
+mod driven;
+mod ending;
+mod line;
+mod lines;
+mod report;
+mod text;
+
+pub use drive::run_drive;
+pub use driven::{DriveError, Driven};
+pub use line::{BadKind, LineRead, ScriptLine, read_line};
+pub use report::{ReportLine, print_line};
