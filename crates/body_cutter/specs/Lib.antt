@@ -1,0 +1,9 @@
+pub mod Chars
+pub mod References
+pub mod Tables
+pub mod Names
+pub mod Reader
+pub mod Reading
+pub mod Refusal
+pub mod Grammar
+pub mod BodyText

@@ -1,0 +1,23 @@
+// Cuts the text of a body into its attributes and its children, and reads a single stanza. What it accepts is a profile of
+// XML 1.0 for XEP-0124, and each refusal names the first place that is wrong. A reader takes each byte once, from left to
+// right, and keeps the names of the open elements, so nothing recurs on depth.
+#![tactic(auto)]
+
+mod chars;
+mod content;
+mod laws;
+mod names;
+mod parts;
+mod place;
+mod prolog;
+mod reader;
+mod references;
+mod tags;
+mod whole_text;
+
+pub use laws::reader_takes_the_grammar;
+pub use parts::{Attr, Attrs, Cut, CutError, CutRefusal, Span, Spans};
+pub use whole_text::{cut, read_stanza};
+
+#[cfg(test)]
+mod tests;

@@ -1,0 +1,280 @@
+use crate::{Cut, CutError, CutRefusal, Span, cut, read_stanza};
+use std::alloc::{AllocError, Global};
+use std::test::Fail;
+
+/// The refusal of a text, or none.
+fn refusal_of(alloc: Global, text: &[u8]) -> Result<Option<CutRefusal>, AllocError> {
+    match cut(alloc, text) {
+        Ok(_) => Ok(None),
+        Err(CutError::Refused(refusal)) => Ok(Some(refusal)),
+        Err(CutError::Memory) => Err(AllocError),
+    }
+}
+
+#[test]
+fn refuses_at_the_first_wrong_place(rt: HostRuntime) -> Result<(), Fail> {
+    let rows: [(&str, Option<CutRefusal>); 62] = [
+        ("", Some(CutRefusal::NotBody)),
+        (
+            "<body><a><!--x--></a></body>",
+            Some(CutRefusal::Forbidden(11)),
+        ),
+        ("<body><!--x--></body>", Some(CutRefusal::Forbidden(7))),
+        (
+            "<body><a>&nbsp;</a></body>",
+            Some(CutRefusal::Forbidden(10)),
+        ),
+        ("<body>x</body>", Some(CutRefusal::Malformed(6))),
+        ("<body><a>", Some(CutRefusal::Malformed(9))),
+        ("<body a='1' a='2'/>", Some(CutRefusal::Malformed(13))),
+        ("<body></bodx>", Some(CutRefusal::Malformed(11))),
+        ("<body/>", None),
+        ("<body />", None),
+        (" <body\t>\r\n</body > ", None),
+        ("<bodx/>", Some(CutRefusal::NotBody)),
+        ("<body", Some(CutRefusal::NotBody)),
+        ("<body?", Some(CutRefusal::NotBody)),
+        ("<body ", Some(CutRefusal::Malformed(6))),
+        ("<body/", Some(CutRefusal::Malformed(6))),
+        ("<body/>x", Some(CutRefusal::Malformed(7))),
+        ("<body/><!--x-->", Some(CutRefusal::Malformed(7))),
+        ("<body/><body/>", Some(CutRefusal::Malformed(7))),
+        ("<?xml ?><body/>", None),
+        ("<?xml version='1.0'?>\n<body/>", None),
+        ("<?xml ? > ??><body/>", None),
+        ("<?xml?><body/>", Some(CutRefusal::NotBody)),
+        (" <?xml ?><body/>", Some(CutRefusal::NotBody)),
+        ("<?xml ?><?xml ?><body/>", Some(CutRefusal::NotBody)),
+        ("\u{feff}<body/>", Some(CutRefusal::NotBody)),
+        ("<body><![CDATA[x]]></body>", Some(CutRefusal::Forbidden(7))),
+        ("<body><?x?></body>", Some(CutRefusal::Forbidden(7))),
+        ("<body><a><?x?></a></body>", Some(CutRefusal::Forbidden(10))),
+        (
+            "<body><a><!DOCTYPE></a></body>",
+            Some(CutRefusal::Forbidden(11)),
+        ),
+        ("<body><a><![CDATb", Some(CutRefusal::Forbidden(16))),
+        (
+            "<body><a><![CDATA[<!\u{1}]]></a></body>",
+            Some(CutRefusal::Forbidden(20)),
+        ),
+        (
+            "<body><a><![CDATA[!\u{1}]]></a></body>",
+            Some(CutRefusal::Malformed(19)),
+        ),
+        ("<body><a><![CDATA[]]]]></a></body>", None),
+        ("<body><a><![CDATA[<b>&x;]]>]]&gt;</a></body>", None),
+        ("<body><a>]]></a></body>", Some(CutRefusal::Malformed(11))),
+        ("<body><a>]]]></a></body>", Some(CutRefusal::Malformed(12))),
+        ("<body><a>]]<b/>></a></body>", None),
+        ("<body><a>]]<![CDATA[]]>></a></body>", None),
+        ("<body><a>&#93;]></a></body>", None),
+        ("<body>&#32;</body>", Some(CutRefusal::Malformed(6))),
+        (
+            "<body><a>&lt;&gt;&amp;&apos;&quot;&#x10FFFF;&#0000009;&#xaF;</a></body>",
+            None,
+        ),
+        ("<body><a>&#0;</a></body>", Some(CutRefusal::Forbidden(12))),
+        (
+            "<body><a>&#xFFFE;</a></body>",
+            Some(CutRefusal::Forbidden(16)),
+        ),
+        (
+            "<body><a>&#55296;</a></body>",
+            Some(CutRefusal::Forbidden(16)),
+        ),
+        (
+            "<body><a>&#x110000;</a></body>",
+            Some(CutRefusal::Forbidden(17)),
+        ),
+        (
+            "<body><a>&#1114112;</a></body>",
+            Some(CutRefusal::Forbidden(17)),
+        ),
+        ("<body><a>&#;</a></body>", Some(CutRefusal::Forbidden(11))),
+        ("<body><a>&#x;</a></body>", Some(CutRefusal::Forbidden(12))),
+        ("<body><a>&lt</a></body>", Some(CutRefusal::Forbidden(12))),
+        ("<body><a>&lt", Some(CutRefusal::Malformed(12))),
+        ("<body a='&", Some(CutRefusal::Malformed(10))),
+        ("<body a='<'/>", Some(CutRefusal::Malformed(9))),
+        ("<body a=1/>", Some(CutRefusal::Malformed(8))),
+        ("<body a='1'b='2'/>", Some(CutRefusal::Malformed(11))),
+        ("<body a='' a />", Some(CutRefusal::Malformed(12))),
+        ("<body a='' ab='' a:='' a-=''/>", None),
+        ("<body><a></b></body>", Some(CutRefusal::Malformed(11))),
+        ("<body><a></ab></a></body>", Some(CutRefusal::Malformed(12))),
+        ("<body><a></a ></body\n>", None),
+        ("<body><1/></body>", Some(CutRefusal::Malformed(7))),
+        ("<body><é.ü-1 ö='' /></body>", None),
+    ];
+    for (text, want) in &rows {
+        let found = refusal_of(rt.alloc(), text.as_bytes())?;
+        assert_eq!(rt; found, *want, "at {text}");
+    }
+    Ok(())
+}
+
+/// A text with so many of one piece in it.
+fn repeated(
+    alloc: Global,
+    front: &str,
+    piece: &str,
+    count: u32,
+    back: &str,
+) -> Result<Vec<u8>, AllocError> {
+    let mut text = Vec::from_slice(alloc, front.as_bytes())?;
+    for _ in 0..count {
+        text.extend_from_slice(piece.as_bytes())?;
+    }
+    text.extend_from_slice(back.as_bytes())?;
+    Ok(text)
+}
+
+/// A tag with so many attributes of different names.
+fn with_attributes(alloc: Global, count: u32) -> Result<Vec<u8>, AllocError> {
+    let mut text = Vec::from_slice(alloc, b"<body><a")?;
+    for n in 0..count {
+        let attribute = format!(in alloc; " a{n}=''")?;
+        text.extend_from_slice(attribute.as_bytes())?;
+    }
+    text.extend_from_slice(b"/></body>")?;
+    Ok(text)
+}
+
+#[test]
+fn keeps_to_the_limits(rt: HostRuntime) -> Result<(), Fail> {
+    let alloc = rt.alloc();
+    for (count, want) in [(32, None), (33, Some(CutRefusal::TooManyAttributes))] {
+        let text = with_attributes(alloc, count)?;
+        assert_eq!(rt;
+            refusal_of(alloc, text.as_slice())?,
+            want,
+            "{count} attributes"
+        );
+    }
+    for (count, want) in [(1024, None), (1025, Some(CutRefusal::TooManyChildren))] {
+        let text = repeated(alloc, "<body>", "<a/>", count, "</body>")?;
+        assert_eq!(rt;
+            refusal_of(alloc, text.as_slice())?,
+            want,
+            "{count} children"
+        );
+    }
+    for (count, want) in [(63, None), (64, Some(CutRefusal::TooDeep))] {
+        let opened = repeated(alloc, "<body>", "<a>", count, "<b/>")?;
+        let mut text = opened;
+        let closed = repeated(alloc, "", "</a>", count, "</body>")?;
+        text.extend_from_slice(closed.as_slice())?;
+        assert_eq!(rt;
+            refusal_of(alloc, text.as_slice())?,
+            want,
+            "{count} elements around one"
+        );
+    }
+    for (count, want) in [(1_048_566u32, None), (1_048_567, Some(CutRefusal::TooLong))] {
+        let text = repeated(alloc, "<body a='", "x", count.saturating_sub(2), "'/>")?;
+        assert_eq!(rt;
+            refusal_of(alloc, text.as_slice())?,
+            want,
+            "a value of {count} bytes less 2"
+        );
+    }
+    Ok(())
+}
+
+#[test]
+fn gives_values_and_children(rt: HostRuntime) -> Result<(), Fail> {
+    let alloc = rt.alloc();
+    let text =
+        "<body sid='a&lt;\r\n\t\rb&#xe9;\"&#9;'> <a><![CDATA[<x>]]></a>\n<b c=\"'\"/></body>";
+    match cut(alloc, text.as_bytes()) {
+        Ok(Cut { attrs, children }) => {
+            assert_eq!(rt; attrs.len(), 1);
+            for attr in attrs.as_slice() {
+                assert_eq!(rt; (attr.name.start, attr.name.end), (6, 9));
+                assert_eq!(rt; attr.value.as_slice(), "a<   bé\"\t".as_bytes());
+            }
+            let wanted = [Span { start: 35, end: 57 }, Span { start: 58, end: 68 }];
+            assert_eq!(rt; children.as_slice(), wanted.as_slice());
+        }
+        Err(error) => assert!(rt; false, "{error}"),
+    }
+    Ok(())
+}
+
+#[test]
+fn refuses_characters_that_are_not_allowed(rt: HostRuntime) -> Result<(), Fail> {
+    let alloc = rt.alloc();
+    let rows: [(&[u8], Option<CutRefusal>); 9] = [
+        (
+            b"<body a='\x7f\xc2\x80\xed\x9f\xbf\xee\x80\x80\xef\xbf\xbd\xf4\x8f\xbf\xbf'/>",
+            None,
+        ),
+        (b"<body a='\x1f'/>", Some(CutRefusal::Malformed(9))),
+        (b"<body a='\xef\xbf\xbe'/>", Some(CutRefusal::Malformed(11))),
+        (b"<body a='\xef\xbf\xbf'/>", Some(CutRefusal::Malformed(11))),
+        (b"<body a='\xed\xa0\x80'/>", Some(CutRefusal::NotUtf8)),
+        (b"<body a='\xc0\x80'/>", Some(CutRefusal::NotUtf8)),
+        (
+            b"<body><a\xef\xbf\xbe/></body>",
+            Some(CutRefusal::Malformed(10)),
+        ),
+        (
+            b"<body><\xc3\xa9></\xc3\xa8></body>",
+            Some(CutRefusal::Malformed(13)),
+        ),
+        (b"<?xml \x01?><body/>", Some(CutRefusal::NotBody)),
+    ];
+    for (text, want) in &rows {
+        assert_eq!(rt; refusal_of(alloc, text)?, *want, "at {text:?}");
+    }
+    Ok(())
+}
+
+#[test]
+fn reads_a_stanza_by_itself(rt: HostRuntime) -> Result<(), Fail> {
+    let alloc = rt.alloc();
+    let rows: [(&str, Result<(), CutError>); 10] = [
+        ("<a/>", Ok(())),
+        ("<message to='a@b'><body>]] &gt;</body></message>", Ok(())),
+        ("<a>", Err(CutError::Refused(CutRefusal::Malformed(3)))),
+        ("", Err(CutError::Refused(CutRefusal::Malformed(0)))),
+        ("<!--", Err(CutError::Refused(CutRefusal::Forbidden(1)))),
+        ("<?x?>", Err(CutError::Refused(CutRefusal::Forbidden(1)))),
+        ("</a>", Err(CutError::Refused(CutRefusal::Malformed(1)))),
+        (" <a/>", Err(CutError::Refused(CutRefusal::Malformed(0)))),
+        ("<a/> ", Err(CutError::Refused(CutRefusal::Malformed(4)))),
+        (
+            "<a>&#0;</a>",
+            Err(CutError::Refused(CutRefusal::Forbidden(6))),
+        ),
+    ];
+    for (text, want) in &rows {
+        assert_eq!(rt; read_stanza(alloc, text.as_bytes()), *want, "at {text}");
+    }
+    for (count, want) in [
+        (63, Ok(())),
+        (64, Err(CutError::Refused(CutRefusal::TooDeep))),
+    ] {
+        let mut text = repeated(alloc, "", "<a>", count, "<b/>")?;
+        let closed = repeated(alloc, "", "</a>", count, "")?;
+        text.extend_from_slice(closed.as_slice())?;
+        assert_eq!(rt;
+            read_stanza(alloc, text.as_slice()),
+            want,
+            "{count} elements around one"
+        );
+    }
+    for (count, want) in [
+        (999_993, Ok(())),
+        (999_994, Err(CutError::Refused(CutRefusal::TooLong))),
+    ] {
+        let text = repeated(alloc, "<a>", "x", count, "</a>")?;
+        assert_eq!(rt;
+            read_stanza(alloc, text.as_slice()),
+            want,
+            "data of {count} bytes"
+        );
+    }
+    Ok(())
+}
