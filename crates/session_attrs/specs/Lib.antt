@@ -1,0 +1,9 @@
+pub mod Admission
+pub mod Attributes
+pub mod Forms
+pub mod Meaning
+pub mod Reading
+pub mod Refusal
+pub mod Rows
+pub mod Terms
+pub mod Values

@@ -1,0 +1,23 @@
+// What the attributes of a body mean: the request that they make, or the first refusal of the table that holds; the terms
+// on which a session is created; and the host that a request is for. Attributes that no row of the table names are ignored.
+#![tactic(auto)]
+
+mod admission;
+mod attributes;
+mod forms;
+mod laws;
+mod reading;
+mod refusal;
+mod request;
+mod rows;
+mod terms;
+
+pub use admission::{Admitted, admit};
+pub use laws::{attributes_mean_one_request, reading_gives_the_meaning};
+pub use reading::read_request;
+pub use refusal::{AttrRefusal, Numbered, RequestError};
+pub use request::{Creation, Kind, Request};
+pub use terms::negotiate;
+
+#[cfg(test)]
+mod tests;
