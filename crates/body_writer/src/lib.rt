@@ -1,0 +1,12 @@
+// The texts of bodies, to the byte: what the manager answers and what a client asks (XEP-0124 and XEP-0206).
+#![tactic(auto)]
+
+mod answer;
+mod attribute;
+mod request;
+
+pub use answer::{AnswerKind, AnswerParts, Created, write_answer};
+pub use request::{RequestParts, write_request};
+
+#[cfg(test)]
+mod tests;

@@ -1,0 +1,166 @@
+ghost use Rattle.std.specs.Prelude.{◌≡◌, ◌++◌, codes, IfOk, OnOk};
+ghost use Rattle.body_writer.specs.Request.{request_text, xmpp_namespace, sid_text, creation_text, ack_text, key_text, pause_text, terminate_text, version_text, restart_text};
+
+use crate::attribute::{
+    push_attribute, push_httpbind, push_number, push_payloads, push_text, push_xbosh,
+    push_xmpp_version, room_for,
+};
+use bosh_types::{Key, Rid, Stanzas, Text};
+use std::alloc::{AllocError, Global};
+
+/// The parts of a client's request, from which its text is made.
+#[derive(Debug, Drop)]
+pub struct RequestParts {
+    /// The request's id (XEP-0124, section 6).
+    pub rid: Rid,
+    /// The session's id, in every request but a creation.
+    pub sid: Option<Text>,
+    /// What a creation asks for: the host, the longest wait in seconds, and how many requests are held at most (XEP-0124,
+    /// section 7).
+    pub creation: Option<(Text, u32, u32)>,
+    /// The highest id whose answer and those of all lower ids have come; in a creation 1, which asks for acknowledgements
+    /// (XEP-0124, section 9).
+    pub ack: Option<u64>,
+    /// The next key of a key sequence (XEP-0124, section 15).
+    pub key: Option<Key>,
+    /// The first key of a new key sequence (XEP-0124, section 15).
+    pub newkey: Option<Key>,
+    /// How long the client will be silent, in seconds (XEP-0124, section 10).
+    pub pause: Option<u32>,
+    /// Whether this request ends the session (XEP-0124, section 13).
+    pub terminate: bool,
+    /// Whether the XMPP stream is to begin anew (XEP-0206, section 5).
+    pub restart: bool,
+    /// The stanzas and other elements of the request, which are written as they are.
+    pub payloads: Stanzas,
+}
+
+/// The text of a request, in the form of an answer's text. The only error is want of memory.
+#[tactic(auto, unfolding(crate::specs::Request::request_text))]
+pub fn write_request(alloc: Global, parts: &RequestParts) -> Result<Text, AllocError>
+    ensures { IfOk result (λ text. text ≡ request_text parts.now) }
+{
+    let mut text = room_for(alloc, &parts.payloads)?;
+    text.extend_from_slice(b"<body")?;
+    push_httpbind(&mut text)?;
+    push_xmpp_namespace(&mut text, &parts.creation, parts.restart)?;
+    push_number(alloc, &mut text, "rid", parts.rid.value())?;
+    push_sid(&mut text, &parts.sid)?;
+    push_creation(alloc, &mut text, &parts.creation)?;
+    push_ack(alloc, &mut text, parts.ack)?;
+    push_key(&mut text, "key", &parts.key)?;
+    push_key(&mut text, "newkey", &parts.newkey)?;
+    push_pause(alloc, &mut text, parts.pause)?;
+    push_terminate(&mut text, parts.terminate)?;
+    push_version(&mut text, &parts.creation)?;
+    push_restart(&mut text, parts.restart)?;
+    push_payloads(&mut text, &parts.payloads)?;
+    Ok(Text::from_vec(text))
+}
+
+#[tactic(auto, unfolding(crate::specs::Request::xmpp_namespace))]
+fn push_xmpp_namespace(
+    text: &mut Vec<u8>,
+    creation: &Option<(Text, u32, u32)>,
+    restart: bool,
+) -> Result<(), AllocError>
+    ensures { OnOk result (text.new.items ≡ text.old.items ++ xmpp_namespace creation.now restart) }
+{
+    if creation.is_none() && !restart {
+        return Ok(());
+    }
+    push_xbosh(text)
+}
+
+#[tactic(auto, unfolding(crate::specs::Request::sid_text))]
+fn push_sid(text: &mut Vec<u8>, sid: &Option<Text>) -> Result<(), AllocError>
+    ensures { OnOk result (text.new.items ≡ text.old.items ++ sid_text sid.now) }
+{
+    match sid {
+        None => Ok(()),
+        Some(sid) => push_text(text, "sid", sid),
+    }
+}
+
+#[tactic(auto, unfolding(crate::specs::Request::creation_text))]
+fn push_creation(
+    alloc: Global,
+    text: &mut Vec<u8>,
+    creation: &Option<(Text, u32, u32)>,
+) -> Result<(), AllocError>
+    ensures { OnOk result (text.new.items ≡ text.old.items ++ creation_text creation.now) }
+{
+    match creation {
+        None => Ok(()),
+        Some((to, wait, hold)) => {
+            push_text(text, "to", to)?;
+            push_attribute(text, "xml:lang", b"en")?;
+            push_number(alloc, text, "wait", u64::from(*wait))?;
+            push_number(alloc, text, "hold", u64::from(*hold))?;
+            push_attribute(text, "ver", b"1.11")?;
+            push_attribute(text, "content", b"text/xml; charset=utf-8")
+        }
+    }
+}
+
+#[tactic(auto, unfolding(crate::specs::Request::ack_text))]
+fn push_ack(alloc: Global, text: &mut Vec<u8>, ack: Option<u64>) -> Result<(), AllocError>
+    ensures { OnOk result (text.new.items ≡ text.old.items ++ ack_text ack) }
+{
+    match ack {
+        None => Ok(()),
+        Some(ack) => push_number(alloc, text, "ack", ack),
+    }
+}
+
+#[tactic(auto, unfolding(crate::specs::Request::key_text))]
+fn push_key(text: &mut Vec<u8>, name: &str, key: &Option<Key>) -> Result<(), AllocError>
+    ensures { OnOk result (text.new.items ≡ text.old.items ++ key_text name.now key.now) }
+{
+    match key {
+        None => Ok(()),
+        Some(key) => push_attribute(text, name, key.as_slice()),
+    }
+}
+
+#[tactic(auto, unfolding(crate::specs::Request::pause_text))]
+fn push_pause(alloc: Global, text: &mut Vec<u8>, pause: Option<u32>) -> Result<(), AllocError>
+    ensures { OnOk result (text.new.items ≡ text.old.items ++ pause_text pause) }
+{
+    match pause {
+        None => Ok(()),
+        Some(pause) => push_number(alloc, text, "pause", u64::from(pause)),
+    }
+}
+
+#[tactic(auto, unfolding(crate::specs::Request::terminate_text))]
+fn push_terminate(text: &mut Vec<u8>, terminate: bool) -> Result<(), AllocError>
+    ensures { OnOk result (text.new.items ≡ text.old.items ++ terminate_text terminate) }
+{
+    if terminate {
+        push_attribute(text, "type", b"terminate")
+    } else {
+        Ok(())
+    }
+}
+
+#[tactic(auto, unfolding(crate::specs::Request::version_text))]
+fn push_version(text: &mut Vec<u8>, creation: &Option<(Text, u32, u32)>) -> Result<(), AllocError>
+    ensures { OnOk result (text.new.items ≡ text.old.items ++ version_text creation.now) }
+{
+    match creation {
+        None => Ok(()),
+        Some(_) => push_xmpp_version(text),
+    }
+}
+
+#[tactic(auto, unfolding(crate::specs::Request::restart_text))]
+fn push_restart(text: &mut Vec<u8>, restart: bool) -> Result<(), AllocError>
+    ensures { OnOk result (text.new.items ≡ text.old.items ++ restart_text restart) }
+{
+    if restart {
+        push_attribute(text, "xmpp:restart", b"true")
+    } else {
+        Ok(())
+    }
+}
