@@ -1,0 +1,2 @@
+pub mod PlainWindow
+pub mod StandsFor

@@ -1,0 +1,119 @@
+ghost use Rattle.std.specs.Prelude.{◌≡◌, ◌-◌, ◌<◌, ◌≤◌, IfOk, is_some, slice_index_or, vec_len};
+
+use bosh_types::Rid;
+use std::alloc::{AllocError, Global};
+
+/// What became of an item. One that wasn't placed is handed back, and nothing changed.
+#[derive(Debug, Drop)]
+pub enum Placed<T> {
+    /// It stands in its place.
+    Done,
+    /// Its id was taken before, or is lower than the window's first.
+    Below(T),
+    /// Its id has an item that wasn't taken yet.
+    Repeat(T),
+    /// Its id is beyond the window (XEP-0124, section 14.1).
+    Above(T),
+}
+
+/// A window over request ids: it begins at the lowest id not taken, and each of its ids has a place.
+#[derive(Drop)]
+pub struct Window<T> {
+    next: Option<Rid>,
+    // The places of `next` and of the ids after it: as many as the width, and one for an id that is extra.
+    places: Vec<Option<T>>,
+    ghost roomy: { 0 < vec_len places },
+}
+
+impl<T: Drop> Window<T> {
+    ghost use Rattle.rid_window.specs.PlainWindow.{PlainWindow, new_window, PlaceSays, after_place, reach, ready, after_ready};
+    ghost use Rattle.rid_window.specs.StandsFor.{StandsFor};
+
+    /// An empty window of `width` ids from `first` on.
+    pub fn new(alloc: Global, first: Rid, width: u32) -> Result<Self, AllocError>
+        requires some { 1 ≤ width }
+        requires few { width ≤ 16 }
+        ensures { IfOk result (λ window. StandsFor window (new_window first width)) }
+    {
+        let size = width as usize + 1;
+        let mut places = Vec::with_capacity(alloc, size)?;
+        'fill: for _ in 0..size {
+            places.push(None)?;
+        }
+        Ok(Window {
+            next: Some(first),
+            places,
+        })
+    }
+
+    /// Puts an item into the place of its id. With `extra` the window is one id wider.
+    pub fn place(&mut self, rid: Rid, extra: bool, item: T) -> Placed<T>
+        ensures answer {
+            (plain : PlainWindow T) → StandsFor self.old plain
+                → PlaceSays plain rid extra item result
+        }
+        ensures after {
+            (plain : PlainWindow T) → StandsFor self.old plain
+                → StandsFor self.new (after_place plain rid item result)
+        }
+    {
+        let Some(next) = self.next else {
+            return Placed::Below(item);
+        };
+        if rid.value() < next.value() {
+            return Placed::Below(item);
+        }
+        let ahead = (rid.value() - next.value()) as usize;
+        if self.is_filled(ahead) {
+            return Placed::Repeat(item);
+        }
+        if ahead >= self.reach(extra) {
+            return Placed::Above(item);
+        }
+        self.places[ahead] = Some(item);
+        Placed::Done
+    }
+
+    /// Takes the item of the lowest id not taken: `None` exactly where its place is empty, or no id is left.
+    pub fn take_ready(&mut self) -> Option<(Rid, T)>
+        ensures answer {
+            (plain : PlainWindow T) → StandsFor self.old plain → result ≡ ready plain
+        }
+        ensures after {
+            (plain : PlainWindow T) → StandsFor self.old plain
+                → StandsFor self.new (after_ready plain)
+        }
+    {
+        let next = self.next?;
+        let item = self.places[0].take()?;
+        self.places.rotate_left(1);
+        let later = next.next();
+        self.next = later;
+        Some((next, item))
+    }
+
+    /// The lowest id not taken: `None` exactly after the greatest was taken.
+    pub fn next(&self) -> Option<Rid>
+        ensures { (plain : PlainWindow T) → StandsFor self.now plain → result ≡ plain.next }
+    {
+        self.next
+    }
+
+    // How many ids have a place.
+    fn reach(&self, extra: bool) -> usize
+        ensures { result ≡ reach (vec_len self.now.places - 1) extra }
+    {
+        let width = self.places.len() - 1;
+        if extra { width + 1 } else { width }
+    }
+
+    // Whether the place so many ids after `next` has an item.
+    fn is_filled(&self, ahead: usize) -> bool
+        ensures { result ≡ is_some (slice_index_or self.now.places.items ahead None) }
+    {
+        match self.places.get(ahead) {
+            Some(place) => place.is_some(),
+            None => false,
+        }
+    }
+}
