@@ -1,0 +1,2 @@
+pub mod PlainKeep
+pub mod StandsFor
