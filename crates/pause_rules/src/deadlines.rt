@@ -1,0 +1,122 @@
+ghost use Rattle.std.specs.Prelude.{◌≡◌, ◌<◌, ◌↔◌, IsTrue, IsSome, IfSome};
+ghost use Rattle.std.specs.Int.{abs_diff};
+ghost use Rattle.pause_rules.specs.Due.{IsWaitDue, IsSilentDue};
+ghost use Rattle.pause_rules.specs.Overactive.{IsOveractive, ServesNothing};
+
+use crate::mark::Mark;
+use bosh_types::{Moment, Terms};
+use std::marker::Model;
+
+const SECOND: u64 = 1000;
+
+/// What was made of a request for a pause.
+#[derive(Clone, Copy, Debug, PartialEq, Eq)]
+pub enum PauseSet {
+    /// The client may be silent for so long.
+    Set,
+    /// It asked for more than the session allows, and nothing changed.
+    TooLong,
+}
+
+/// The deadlines of one session: its terms, and how long its client may be silent until its next request.
+#[derive(Clone, Copy, Debug)]
+pub struct Deadlines {
+    terms: Terms,
+    period: u32,
+}
+
+// Clauses see the terms, and the seconds of silence that are allowed now.
+impl Model for Deadlines {
+    ghost use Rattle.pause_rules.specs.Pace.{Pace};
+
+    ghost Value = { Pace };
+
+    ghost view = { λ d. record { terms = d.terms; period = d.period } };
+
+    ghost inverse = { λ p. record { terms = p.terms; period = p.period } };
+}
+
+impl Deadlines {
+    /// The deadlines of a new session, with its usual period of silence.
+    pub fn new(terms: Terms) -> Self
+        ensures terms { result.terms ≡ terms }
+        ensures period { result.period ≡ terms.inactivity }
+    {
+        Deadlines {
+            terms,
+            period: terms.inactivity,
+        }
+    }
+
+    /// Whether a request that arrived then has been held for the session's `wait` (XEP-0124, section 7.1).
+    pub fn wait_due(&self, arrived: Moment, now: Moment) -> bool
+        ensures { IsTrue result ↔ IsWaitDue self.now.terms arrived now }
+    {
+        let wait = u64::from(self.terms.wait) * SECOND;
+        match now.millis().checked_sub(arrived.millis()) {
+            Some(waited) => waited >= wait,
+            None => false,
+        }
+    }
+
+    /// Whether a client that was last heard or answered then has been silent for too long (XEP-0124, section 10).
+    pub fn silent_due(&self, quiet: Moment, now: Moment) -> bool
+        ensures { IsTrue result ↔ IsSilentDue self.now.period quiet now }
+    {
+        let period = u64::from(self.period) * SECOND;
+        match now.millis().checked_sub(quiet.millis()) {
+            Some(silent) => silent > period,
+            None => false,
+        }
+    }
+
+    /// Allows a silence of so many seconds, until `usual` is called (XEP-0124, section 10).
+    pub fn pause(&mut self, seconds: u32) -> PauseSet
+        ensures too_long { (result ≡ PauseSet.TooLong) ↔ (self.old.terms.maxpause < seconds) }
+        ensures set { result ≡ PauseSet.Set → self.new ≡ record self.old { period = seconds } }
+        ensures refused { result ≡ PauseSet.TooLong → self.new ≡ self.old }
+    {
+        if seconds > self.terms.maxpause {
+            return PauseSet::TooLong;
+        }
+        self.period = seconds;
+        PauseSet::Set
+    }
+
+    /// Allows the session's usual silence again, as after each request that is no pause.
+    pub fn usual(&mut self)
+        ensures { self.new ≡ record self.old { period = self.old.terms.inactivity } }
+    {
+        self.period = self.terms.inactivity;
+    }
+
+    /// By how many milliseconds a request lies apart from the one with the id before it, where that is too close: `held`
+    /// requests are held before it (XEP-0124, sections 11 and 12).
+    pub fn overactive(&self, held: u32, this: Mark, prior: Mark) -> Option<u64>
+        ensures found { IsSome result ↔ IsOveractive self.now.terms held this prior }
+        ensures apart { IfSome result (λ millis. millis ≡ abs_diff this.arrived prior.arrived) }
+    {
+        if !this.empty {
+            return None;
+        }
+        let apart = this.apart(&prior);
+        if apart >= u64::from(self.terms.polling) * SECOND {
+            return None;
+        }
+        if self.serves_nothing(held, &prior) {
+            Some(apart)
+        } else {
+            None
+        }
+    }
+
+    // Whether an empty request only makes the manager answer.
+    fn serves_nothing(&self, held: u32, prior: &Mark) -> bool
+        ensures { IsTrue result ↔ ServesNothing self.now.terms held prior.now }
+    {
+        if self.terms.polled {
+            return !prior.creation && prior.empty && prior.bare;
+        }
+        held >= self.terms.hold
+    }
+}
