@@ -1,0 +1,51 @@
+-- What a pass knows, and what a call through a gate adds to it.
+use Rattle.std.specs.Prelude.{◌≡◌, ℕ, List, ◌∷◌, ◌++◌, [], length, Option}
+use Rattle.std.specs.Option.{option_to_list}
+use Rattle.parked_gate.specs.declared.object.Object.{Ghosts}
+use Rattle.parked_gate.specs.declared.pass.Pass.{Pass}
+use Rattle.parked_gate.specs.declared.gate.Gate.{Gate}
+use Rattle.parked_gate.specs.Histories.{StartsWith, Appends}
+
+-- a pass's number, the history that it has seen, its own entries there, and how long the history was each time it learnt it
+pub record Known (E : Type 0) : Type 0 where
+  pub number : ℕ
+  pub seen : List E
+  pub mine : List E
+  pub learnt : List ℕ
+
+module _ {O C R A F Q W E : Type 0} {g : Ghosts O C R A F Q W E} where
+  abbrev pub known : Pass O C R A F Q W E g → Known E
+  known pass = record { number = pass.number; seen = pass.seat.me.0.seen; mine = pass.seat.me.0.mine; learnt = pass.seat.me.0.learnt }
+
+  -- the pass was made by this gate
+  abbrev pub IsPassOf : Gate O C R A F Q W E → Pass O C R A F Q W E g → Type 0
+  IsPassOf gate pass = pass.seat.table_id ≡ gate.table.shared.table_id
+
+module _ {E : Type 0} where
+  -- The pass took its turn. `before` is the history that it found, which goes on from what it had seen, and `made` the entry
+  -- that was added there, if one was. It has seen the history after that, and has no entries of its own but the old ones and that one
+  pub record Calls (caller_of : E → ℕ) (Says : List E → Option E → Type 0) (old new : Known E) : Type 0 where
+    pub before : List E
+    pub made : Option E
+    pub begins : StartsWith before old.seen
+    pub says : Says before made
+    pub seen : Appends caller_of old.number before made new.seen
+    pub mine : new.mine ≡ old.mine ++ option_to_list made
+    pub earlier : List ℕ
+    pub learnt : new.learnt ≡ (old.learnt ++ earlier) ++ length before ∷ []
+
+  -- the pass looked at the whole history, which goes on from what it had seen, and added nothing
+  pub record Looks (Says : List E → Type 0) (old new : Known E) : Type 0 where
+    pub begins : StartsWith new.seen old.seen
+    pub says : Says new.seen
+    pub mine : new.mine ≡ old.mine
+    pub earlier : List ℕ
+    pub learnt : new.learnt ≡ (old.learnt ++ earlier) ++ length new.seen ∷ []
+
+  -- the pass has seen more, and has looked more often, and nothing else
+  pub record Grows (old new : Known E) : Type 0 where
+    pub number : new.number ≡ old.number
+    pub begins : StartsWith new.seen old.seen
+    pub mine : new.mine ≡ old.mine
+    pub earlier : List ℕ
+    pub learnt : new.learnt ≡ old.learnt ++ earlier

@@ -1,0 +1,52 @@
+// Passes are split off and joined.
+ghost use Rattle.std.specs.Prelude.{◌≡◌, ◌≢◌, []};
+ghost use Rattle.parked_gate.specs.Histories.{StartsWith, longer};
+ghost use Rattle.parked_gate.specs.Passes.{known, IsPassOf};
+
+use crate::gate::Gate;
+use crate::law::Part;
+use crate::object::Object;
+use crate::pass::Pass;
+use std::sync::Wait;
+
+impl<O: Object> Gate<O> {
+    /// A pass with a number that no other pass of the gate has had, which has seen as much. Once 4,294,967,295 passes
+    /// were made it waits without end.
+    pub fn split<R: Wait>(&self, rt: &R, pass: &mut Pass<O>) -> Pass<O>
+        requires { IsPassOf self.now pass.old }
+        ensures old_pass { IsPassOf self.now pass.new }
+        ensures old_same { known pass.new ≡ known pass.old }
+        ensures pass { IsPassOf self.now result }
+        ensures number { (known result).number ≢ (known pass.old).number }
+        ensures seen { (known result).seen ≡ (known pass.old).seen }
+        ensures mine { (known result).mine ≡ [] }
+        ensures learnt { (known result).learnt ≡ [] }
+    {
+        let number = self.draw_number(rt, &mut pass.seat);
+        let seat = self.table.shared.split_seat::<Part>(&mut pass.seat);
+        Pass {
+            seat,
+            number,
+            length: pass.length,
+        }
+    }
+
+    /// Joins a pass to another one, which has then seen what either had. The joined number is never used again.
+    pub fn join(&self, into: &mut Pass<O>, other: Pass<O>)
+        requires into { IsPassOf self.now into.old }
+        requires other { IsPassOf self.now other }
+        ensures pass { IsPassOf self.now into.new }
+        ensures longer { known into.new ≡ record (known into.old) { seen = longer (known into.old).seen (known other).seen } }
+        ensures begins_with_this { StartsWith (known into.new).seen (known into.old).seen }
+        ensures begins_with_other { StartsWith (known into.new).seen (known other).seen }
+        ensures numbers { (known other).number ≢ (known into.old).number }
+    {
+        let Pass {
+            seat,
+            number: _,
+            length,
+        } = other;
+        self.meet(&mut into.seat, seat);
+        into.length = into.length.max(length);
+    }
+}
