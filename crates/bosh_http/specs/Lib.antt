@@ -1,0 +1,4 @@
+pub mod Fields
+pub mod Message
+pub mod Refusal
+pub mod Texts

@@ -1,0 +1,11 @@
+// Laws of the definitions, with no code.
+ghost use Rattle.std.specs.Prelude.{◌≡◌, ℕ, List, Bool};
+ghost use Rattle.bosh_http.specs.Message.{IsRequestMessage, HasRefusedHead};
+ghost use Rattle.bosh_http.specs.declared.refusal.HttpRefusal.{HttpRefusal};
+
+/// A stream is cut into messages in one way, and a head has one refusal or none.
+pub fn streams_are_cut_in_one_way()
+    ensures message { (stream content content' : List ℕ) (count count' : ℕ) (closing closing' : Bool) → IsRequestMessage stream count content closing → IsRequestMessage stream count' content' closing' → (count ≡ count') × (content ≡ content') × (closing ≡ closing') }
+    ensures refusal { (stream : List ℕ) (refusal refusal' : HttpRefusal) → HasRefusedHead stream refusal → HasRefusedHead stream refusal' → refusal ≡ refusal' }
+    ensures either { (stream content : List ℕ) (count : ℕ) (closing : Bool) (refusal : HttpRefusal) → IsRequestMessage stream count content closing → ¬ (HasRefusedHead stream refusal) }
+{}
