@@ -1,6 +1,4 @@
-use crate::run::{
-    BAD_SCRIPT, DONE, READ_FAULT, WRITE_FAULT, WRONG_WORDS, run_local,
-};
+use crate::run::{BAD_SCRIPT, DONE, READ_FAULT, WRITE_FAULT, WRONG_WORDS, run_local};
 use bosh_ports::{MemorySink, MemorySource};
 use std::alloc::Global;
 use std::test::Fail;
@@ -49,7 +47,10 @@ fn scripts_give_their_reports(rt: HostRuntime) -> Result<(), Fail> {
         (b"open 5\n\xff\xfe\n", b"bad 2 grammar\n"),
         (b"open 0\nend\n", b"bad 1 grammar\n"),
         (b"open 9007199254740992\nend\n", b"bad 1 grammar\n"),
-        (b"open 9007199254740991\nshort 9007199254740991 <a/>\nend", b"done 3\n"),
+        (
+            b"open 9007199254740991\nshort 9007199254740991 <a/>\nend",
+            b"done 3\n",
+        ),
         (
             b"open 9007199254740990\nshort 9007199254740991 <a/>\nend",
             b"in s1 0 <a/>\ndone 3\n",
@@ -60,7 +61,11 @@ fn scripts_give_their_reports(rt: HostRuntime) -> Result<(), Fail> {
     for (script, report) in rows {
         let (status, given) = run(rt.alloc(), script, &[], &[])?;
         assert_eq!(rt; given.as_slice(), report, "of {script:?}");
-        let wanted = if report.starts_with(b"bad") { BAD_SCRIPT } else { DONE };
+        let wanted = if report.starts_with(b"bad") {
+            BAD_SCRIPT
+        } else {
+            DONE
+        };
         assert_eq!(rt; status, wanted, "of {script:?}");
     }
     Ok(())

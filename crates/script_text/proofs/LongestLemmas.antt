@@ -5,8 +5,8 @@ use Rattle.bosh_types.specs.Rid.{greatest_rid}
 use Rattle.bosh_types.specs.declared.ending.Ending.{Ending}
 use Rattle.session_core.specs.declared.arrival.Arrival.{Arrival}
 use Rattle.session_core.specs.Bare.{BareSession, inward_of}
-use Rattle.session_core.specs.Ending.{session_after, ending_at, over_at}
-use Rattle.session_core.specs.Run.{stands, run_from, run_after, IsLongestRun}
+use Rattle.session_core.specs.BareEnding.{session_after, ending_at, over_at}
+use Rattle.session_core.specs.BareRun.{stands, run_from, run_after, IsLongestRun}
 use Rattle.session_core.proofs.RunLemmas.{which_stands, run_from-none, run_from-some, stands-still, run_after-longest}
 use Rattle.script_text.specs.declared.line.BadKind.{BadKind}
 use Rattle.script_text.specs.declared.line.ScriptLine.TheVariants.{Open, Short, End as LastLine}

@@ -4,7 +4,7 @@ use Rattle.std.proofs.lemmas.Bool.Decides.{nat_tests}
 use Rattle.std.proofs.Math.Seq.{drop-append_seam}
 use Rattle.bosh_types.specs.declared.ending.Ending.{Ending}
 use Rattle.session_core.specs.Bare.{BareSession, inward_of}
-use Rattle.session_core.specs.Ending.{over_at, session_after}
+use Rattle.session_core.specs.BareEnding.{over_at, session_after}
 use Rattle.script_text.specs.declared.report.ReportLine.TheVariants.{In}
 use Rattle.std.specs.Io.KnownBytes.{Appends, prepend_known}
 use Rattle.std.proofs.KnownBytes.{prepend_known-nil}

@@ -3,8 +3,8 @@ use Rattle.std.specs.Prelude.{ℕ, ◌+◌, ◌≡◌, List, [], ◌∷◌, ◌+
 use Rattle.std.specs.Io.KnownBytes.{Appends}
 use Rattle.bosh_types.specs.declared.ending.Ending.{Ending}
 use Rattle.session_core.specs.Bare.{BareSession, inward_of}
-use Rattle.session_core.specs.Ending.{over_at, session_after}
-use Rattle.session_core.specs.Run.{IsLongestRun}
+use Rattle.session_core.specs.BareEnding.{over_at, session_after}
+use Rattle.session_core.specs.BareRun.{IsLongestRun}
 use Rattle.script_text.specs.declared.line.BadKind.{BadKind}
 use Rattle.script_text.specs.declared.line.BadKind.TheVariants.{Count, End, Length, Later, Grammar}
 use Rattle.script_text.specs.declared.line.ScriptLine.{ScriptLine}

@@ -1,7 +1,7 @@
 -- One line of a script, as it was read: what it says and what it does.
 use Rattle.std.specs.Prelude.{ℕ, List, [], ◌∷◌, Option, None, Some, Result, Err}
 use Rattle.session_core.specs.Bare.{BareSession}
-use Rattle.session_core.specs.Ending.{session_after}
+use Rattle.session_core.specs.BareEnding.{session_after}
 use Rattle.script_text.specs.declared.line.BadKind.{BadKind}
 use Rattle.script_text.specs.declared.line.BadKind.TheVariants.{End, Length, Grammar}
 use Rattle.script_text.specs.declared.line.ScriptLine.TheVariants.{Open, Short, End as LastLine}

@@ -1,2 +1,6 @@
 pub mod BareLemmas
+pub mod EndingRows
+pub mod JournalRows
+pub mod RowTools
 pub mod RunLemmas
+pub mod SessionRows

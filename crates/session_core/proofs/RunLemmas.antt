@@ -6,7 +6,7 @@ use Rattle.std.proofs.lemmas.Bool.Decides.{nat_tests}
 use Rattle.std.proofs.lemmas.List.Elements.{All-cons}
 use Rattle.bosh_types.specs.Rid.{greatest_rid}
 use Rattle.session_core.specs.declared.arrival.Arrival.{Arrival}
-use Rattle.session_core.specs.Run.{stands, run_from, run_after, IsFirstWith, IsLongestRun}
+use Rattle.session_core.specs.BareRun.{stands, run_from, run_after, IsFirstWith, IsLongestRun}
 
 -- either nothing stands or some stanza does
 pub which_stands : (o : Option (List ℕ)) → (o ≡ None) ⊎ ((stanza : List ℕ) × (o ≡ Some stanza))
