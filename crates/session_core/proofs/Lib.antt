@@ -1,5 +1,6 @@
 pub mod BareLemmas
 pub mod EndingRows
+pub mod FactRows
 pub mod JournalRows
 pub mod RowTools
 pub mod RunLemmas
