@@ -1,13 +1,12 @@
 -- The fact of each ending holds in a session that ends so.
-use Rattle.std.proofs.Common.{◌≡◌, refl, arith}
-use Rattle.std.specs.Prelude.{ℕ, Bool, true, false, List, [], ◌∷◌, ◌++◌, length, Option, Some, None, codes}
+use Rattle.std.proofs.Common.{refl, arith}
+use Rattle.std.specs.Prelude.{true, List, [], ◌∷◌, Some, codes}
 use Rattle.bosh_types.specs.declared.ending.Closing.TheVariants as closings
 use Rattle.bosh_types.specs.declared.ending.Ending.{Ending}
 use Rattle.bosh_types.specs.declared.ending.Ending.TheVariants as endings
-use Rattle.session_attrs.specs.declared.request.Request.{Request}
 use Rattle.session_core.specs.Facts.{Fact}
-use Rattle.session_core.specs.Journal.{Call, Arrive, Back, BackClosed, Tick, Entered, Made, Limit, Arrival, step, after_entry}
-use Rattle.session_core.specs.Machine.{Opening, opened}
+use Rattle.session_core.specs.Journal.{Call, BackClosed, Tick, Entered, Made, Limit, Arrival, step, after_entry}
+use Rattle.session_core.specs.Machine.{opened}
 use Rattle.session_core.specs.Run.{tested_at}
 use Rattle.session_core.specs.State.{PlainSession}
 use Rattle.session_core.proofs.RowTools.{usual, opening, opening_with, empty, carrying, plain, bodies_compute, keys_compute}

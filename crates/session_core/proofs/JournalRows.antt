@@ -1,20 +1,20 @@
 -- Both views of a session agree on the rows: what a search of the whole journal finds is what the calls did.
 use Rattle.std.proofs.Common.{◌≡◌, refl}
-use Rattle.std.specs.Prelude.{ℕ, ◌+◌, ◌*◌, Bool, true, false, List, [], ◌∷◌, ◌++◌, map, take, Option, Some, None, codes}
+use Rattle.std.specs.Prelude.{ℕ, ◌+◌, ◌*◌, true, false, List, [], ◌∷◌, ◌++◌, map, take, Some, None, codes}
 use Rattle.bosh_types.specs.declared.ending.Closing.TheVariants as closings
 use Rattle.bosh_types.specs.declared.ending.Ending.TheVariants as endings
 use Rattle.bosh_types.specs.declared.inward.Inward.{Inward}
-use Rattle.bosh_types.specs.declared.inward.Inward.TheVariants.{Item, Restart}
+use Rattle.bosh_types.specs.declared.inward.Inward.TheVariants.{Item}
 use Rattle.session_core.specs.declared.replies.Arrived.TheVariants.{Answer, Parked}
 use Rattle.session_core.specs.declared.replies.Collected.TheVariants as collections
 use Rattle.session_core.specs.Copy.{id_of}
-use Rattle.session_core.specs.Journal.{Call, Arrive, Collect, Back, BackClosed, Tick, TakeInward, Journal, ToArrive, ToCollect, state_of, counted}
+use Rattle.session_core.specs.Journal.{Collect, Back, BackClosed, Tick, TakeInward, Journal, ToArrive, ToCollect, state_of}
 use Rattle.session_core.specs.Laws.{items_taken, is_acknowledged}
 use Rattle.session_core.specs.Machine.{opened, is_full}
 use Rattle.session_core.specs.Passed.{passed_of, given_in}
 use Rattle.session_core.specs.Run.{run_of}
-use Rattle.session_core.specs.State.{PlainSession, Outward, Stanza, Close, inward, waiting}
-use Rattle.session_core.proofs.RowTools.{Outcome, usual, opening, opening_with, empty, carrying, plain, outcome_after, journal_of, terminal_body, bodies_compute, keys_compute}
+use Rattle.session_core.specs.State.{Outward, Stanza, Close, inward, waiting}
+use Rattle.session_core.proofs.RowTools.{usual, opening, opening_with, empty, carrying, plain, outcome_after, journal_of, terminal_body, bodies_compute, keys_compute}
 
 -- what the two views tell of a journal: the run's ids by searching and by the calls, what was passed on, what the server
 -- gave by the entries and by the answers with what waits, and the counted bytes

@@ -1,5 +1,5 @@
 -- What the rows of sessions are made of: a session with the host example.org, requests for it, and what comes of calls.
-use Rattle.std.specs.Prelude.{ℕ, ◌+◌, Bool, true, false, List, [], ◌∷◌, ◌++◌, length, Option, Some, None, codes, ⊤}
+use Rattle.std.specs.Prelude.{ℕ, ◌+◌, false, List, [], ◌∷◌, ◌++◌, length, Option, Some, None, codes, ⊤}
 use Rattle.std.specs.Fmt.{decimal, digits}
 use Rattle.bosh_types.specs.declared.ending.Ending.{Ending}
 use Rattle.bosh_types.specs.declared.inward.Inward.{Inward}

@@ -1,18 +1,17 @@
 -- The definitions of a session compute: calls, their replies, and what is to be seen of the state after them.
 use Rattle.std.proofs.Common.{◌≡◌, refl}
-use Rattle.std.specs.Prelude.{ℕ, Bool, true, false, List, [], ◌∷◌, ◌++◌, Option, Some, None, codes}
-use Rattle.bosh_types.specs.declared.ending.Closing.TheVariants as closings
+use Rattle.std.specs.Prelude.{[], ◌∷◌, Some, None, codes}
 use Rattle.bosh_types.specs.declared.ending.Ending.TheVariants as endings
-use Rattle.bosh_types.specs.declared.inward.Inward.TheVariants.{Item, Restart}
+use Rattle.bosh_types.specs.declared.inward.Inward.TheVariants.{Item}
 use Rattle.body_writer.specs.Answer.{answer_text}
 use Rattle.session_core.specs.declared.replies.Arrived.TheVariants.{Answer, Parked, Over}
 use Rattle.session_core.specs.declared.replies.Collected.TheVariants as collections
 use Rattle.session_core.specs.declared.replies.Taken.TheVariants as takings
 use Rattle.session_core.specs.declared.replies.Ticked.TheVariants.{Changed, Quiet}
-use Rattle.session_core.specs.Journal.{Call, Arrive, Collect, Back, BackClosed, Tick, TakeInward, ToArrive, ToCollect, ToBack, ToTick, ToTakeInward}
+use Rattle.session_core.specs.Journal.{Collect, Back, Tick, TakeInward, ToArrive, ToCollect, ToBack, ToTick, ToTakeInward}
 use Rattle.session_core.specs.Machine.{created_parts}
-use Rattle.session_core.specs.State.{Stanza, Close}
-use Rattle.session_core.proofs.RowTools.{Outcome, usual, opening, opening_with, empty, carrying, plain, outcome, empty_body, ack_body, payload_body, terminal_body, terminate_body, bodies_compute, keys_compute}
+use Rattle.session_core.specs.State.{Stanza}
+use Rattle.session_core.proofs.RowTools.{usual, opening, opening_with, empty, carrying, plain, outcome, empty_body, ack_body, payload_body, terminal_body, bodies_compute, keys_compute}
 
 -- the answer to a creation
 creation : answer_text (created_parts opening) ≡ codes "<body xmlns='http://jabber.org/protocol/httpbind' xmlns:xmpp='urn:xmpp:xbosh' xmlns:stream='http://etherx.jabber.org/streams' sid='s1' wait='60' requests='2' inactivity='30' polling='5' maxpause='120' hold='1' ver='1.6' from='example.org' ack='1000' xmpp:version='1.0' xmpp:restartlogic='true'><stream:features/></body>"

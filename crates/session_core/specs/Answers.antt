@@ -1,8 +1,7 @@
 -- When the oldest held request is answered, and what its answer takes, XEP-0124 sections 7.1, 9, 10, 11 and 12.
-use Rattle.std.specs.Prelude.{ℕ, zero, suc, ◌+◌, ◌-◌, ◌==◌, ◌&&◌, Bool, true, false, not, nat_lt, nat_le, min, List, [], ◌∷◌, ◌++◌, map, length, take, sum_by, Option, Some, None, is_some, if◌then◌else◌}
+use Rattle.std.specs.Prelude.{ℕ, zero, suc, ◌+◌, ◌-◌, ◌==◌, ◌&&◌, Bool, true, false, not, nat_lt, nat_le, min, List, [], ◌∷◌, ◌++◌, length, take, sum_by, Option, Some, None, is_some, if◌then◌else◌}
 use Rattle.std.specs.List.{list_any, list_all}
 use Rattle.std.specs.Option.{option_map}
-use Rattle.bosh_types.specs.declared.ending.Closing.{Closing}
 use Rattle.bosh_types.specs.declared.ending.Ending.TheVariants.{Closed}
 use Rattle.body_writer.specs.declared.answer.AnswerKind.TheVariants.{Usual}
 use Rattle.body_writer.specs.declared.answer.AnswerParts.{AnswerParts}
@@ -11,7 +10,7 @@ use Rattle.pause_rules.specs.Due.{is_wait_due}
 use Rattle.session_core.specs.Copy.{Copy, id_of, is_pause}
 use Rattle.session_core.specs.Endings.{terminal, closing_condition, ended}
 use Rattle.session_core.specs.Kept.{bytes_in}
-use Rattle.session_core.specs.State.{PlainSession, Answered, Outward, Stanza, Close, last_of, held, waiting, is_over}
+use Rattle.session_core.specs.State.{PlainSession, Outward, Stanza, Close, last_of, held, waiting, is_over}
 
 pub data Reason : Type 0 where
   Items : Reason

@@ -1,5 +1,5 @@
 -- What the ending of a session gives to the requests that are open then, XEP-0124 sections 13 and 17.
-use Rattle.std.specs.Prelude.{ℕ, ◌+◌, ◌==◌, Bool, List, [], ◌∷◌, ◌++◌, map, Option, Some, None, if◌then◌else◌}
+use Rattle.std.specs.Prelude.{ℕ, ◌+◌, ◌==◌, List, [], ◌++◌, map, Option, Some, None, if◌then◌else◌}
 use Rattle.bosh_types.specs.declared.condition.Condition.{Condition}
 use Rattle.bosh_types.specs.declared.condition.Condition.TheVariants as conditions
 use Rattle.bosh_types.specs.declared.ending.Closing.{Closing}

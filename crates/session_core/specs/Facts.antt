@@ -1,6 +1,6 @@
 -- The fact of each ending, with its numbers: what held at the call that ended the session. `before` is the state at which
 -- that call tests, `after` the state that it leaves.
-use Rattle.std.specs.Prelude.{◌≡◌, ℕ, ◌+◌, ◌*◌, ◌<◌, ◌≤◌, true, false, List, [], ◌∷◌, Option, Some, None, IsTrue, length}
+use Rattle.std.specs.Prelude.{◌≡◌, ℕ, ◌+◌, ◌*◌, ◌<◌, ◌≤◌, List, [], ◌∷◌, Option, Some, None, IsTrue, length}
 use Rattle.std.specs.List.{last_or}
 use Rattle.bosh_types.specs.declared.ending.Closing.{Closing}
 use Rattle.bosh_types.specs.declared.ending.Ending.{Ending}
@@ -9,10 +9,10 @@ use Rattle.key_sequence.specs.Current.{fits}
 use Rattle.pause_rules.specs.Overactive.{is_overactive, apart}
 use Rattle.session_attrs.specs.declared.request.Request.{Request}
 use Rattle.session_core.specs.Copy.{Copy, id_of, is_pause}
-use Rattle.session_core.specs.Journal.{Call, Arrive, Collect, Back, BackClosed, Tick, TakeInward, Entered, Made, Limit}
+use Rattle.session_core.specs.Journal.{Arrive, Collect, Back, BackClosed, Tick, TakeInward, Entered, Made, Limit}
 use Rattle.session_core.specs.Kept.{kept_of, lowest_kept}
 use Rattle.session_core.specs.Rules.{mark_of, prior_of}
-use Rattle.session_core.specs.State.{PlainSession, Answered, Outward, Close, last_of, answered_of, standing_at, held}
+use Rattle.session_core.specs.State.{PlainSession, Answered, Close, last_of, answered_of, standing_at, held}
 use Rattle.session_core.specs.Time.{quiet_of}
 use Rattle.session_core.specs.Window.{is_above}
 

@@ -1,5 +1,5 @@
 -- Which answers are kept, to be given again byte for byte, XEP-0124 sections 9.2 and 14.3.
-use Rattle.std.specs.Prelude.{ℕ, ◌+◌, ◌==◌, Bool, nat_lt, List, [], ◌∷◌, map, length, Option, Some, None, is_some, filter}
+use Rattle.std.specs.Prelude.{ℕ, ◌+◌, ◌==◌, List, [], ◌∷◌, map, length, Option, is_some}
 use Rattle.std.specs.List.{find}
 use Rattle.std.specs.Option.{option_map, unwrap_or}
 use Rattle.bosh_types.specs.declared.kept.KeptAnswer.{KeptAnswer}

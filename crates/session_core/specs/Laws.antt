@@ -9,7 +9,7 @@ use Rattle.session_core.specs.Journal.{Call, Entered, Journal, IsJournal, counte
 use Rattle.session_core.specs.Kept.{kept_of, answer_at}
 use Rattle.session_core.specs.Passed.{passed_of, given_in}
 use Rattle.session_core.specs.Run.{run_of, tested_at, tester}
-use Rattle.session_core.specs.State.{PlainSession, Answered, Outward, answered_of, inward, waiting, is_over}
+use Rattle.session_core.specs.State.{Answered, Outward, answered_of, inward, waiting, is_over}
 
 -- the items that answers took, in order
 abbrev pub items_taken : List Answered → List Outward

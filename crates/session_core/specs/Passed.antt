@@ -1,14 +1,14 @@
 -- What went inward and what the server gave, as a journal tells it.
-use Rattle.std.specs.Prelude.{ℕ, ◌==◌, Bool, List, [], ◌∷◌, ◌++◌, map, take, sum_by, filter, Option, Some, None, if◌then◌else◌}
+use Rattle.std.specs.Prelude.{ℕ, ◌==◌, Bool, List, ◌++◌, map, take, sum_by, filter, Option, Some, None}
 use Rattle.std.specs.List.{filter_map}
 use Rattle.bosh_types.specs.declared.inward.Inward.{Inward}
 use Rattle.bosh_types.specs.declared.inward.Inward.TheVariants.{Item, Restart}
 use Rattle.session_core.specs.declared.replies.Taken.{Taken}
 use Rattle.session_core.specs.declared.replies.Taken.TheVariants as takings
 use Rattle.session_core.specs.Copy.{unnamed}
-use Rattle.session_core.specs.Journal.{Call, Arrive, Collect, Back, BackClosed, Tick, TakeInward, Entered, Made, Limit, Entry, Journal}
+use Rattle.session_core.specs.Journal.{Arrive, Collect, Back, BackClosed, Tick, TakeInward, Entered, Made, Limit, Journal}
 use Rattle.session_core.specs.Machine.{back, back_closed}
-use Rattle.session_core.specs.Run.{Point, points_of, run_of}
+use Rattle.session_core.specs.Run.{points_of, run_of}
 use Rattle.session_core.specs.State.{PlainSession, Outward, Stanza, Close, items_of_all}
 
 abbrev pub stream_of : Inward → ℕ

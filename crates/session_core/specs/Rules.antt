@@ -1,6 +1,6 @@
 -- What a copy breaks when it is processed, once it and all lower ids have come.
-use Rattle.std.specs.Prelude.{ℕ, ◌&&◌, ◌==◌, Bool, true, false, not, nat_lt, List, [], ◌∷◌, length, Option, Some, None, is_some, if◌then◌else◌}
-use Rattle.std.specs.List.{find, last_or}
+use Rattle.std.specs.Prelude.{ℕ, ◌&&◌, ◌==◌, Bool, false, nat_lt, List, [], ◌∷◌, length, Option, Some, None, is_some, if◌then◌else◌}
+use Rattle.std.specs.List.{last_or}
 use Rattle.std.specs.Option.{option_map_or}
 use Rattle.bosh_types.specs.declared.ending.Ending.{Ending}
 use Rattle.bosh_types.specs.declared.ending.Ending.TheVariants.{WrongKey, UnknownStream, PauseTooLong, Overactive}

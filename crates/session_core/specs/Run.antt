@@ -4,7 +4,7 @@ use Rattle.std.specs.Prelude.{ℕ, zero, suc, ◌+◌, ◌==◌, Bool, List, [],
 use Rattle.std.specs.List.{find, filter_map, list_all, range_with_len}
 use Rattle.key_sequence.specs.Current.{current_after}
 use Rattle.session_core.specs.Copy.{Copy, id_of}
-use Rattle.session_core.specs.Journal.{Call, Arrive, Collect, Back, BackClosed, Tick, TakeInward, Entered, Made, Limit, Entry, Journal, after_entry}
+use Rattle.session_core.specs.Journal.{Arrive, Collect, Back, BackClosed, Tick, TakeInward, Entered, Made, Limit, Entry, Journal, after_entry}
 use Rattle.session_core.specs.Machine.{opened, creation_of}
 use Rattle.session_core.specs.Rules.{broken_rule}
 use Rattle.session_core.specs.State.{PlainSession, is_over}

@@ -1,5 +1,5 @@
 -- The plain state of a session: full lists, from which nothing is ever taken.
-use Rattle.std.specs.Prelude.{ℕ, ◌+◌, ◌-◌, ◌==◌, Bool, nat_lt, List, [], ◌∷◌, ◌++◌, map, length, drop, sum_by, Option, filter, is_some}
+use Rattle.std.specs.Prelude.{ℕ, ◌+◌, ◌-◌, ◌==◌, Bool, nat_lt, List, [], ◌∷◌, ◌++◌, length, drop, sum_by, Option, filter, is_some}
 use Rattle.std.specs.List.{find}
 use Rattle.bosh_types.specs.declared.ending.Closing.{Closing}
 use Rattle.bosh_types.specs.declared.ending.Ending.{Ending}

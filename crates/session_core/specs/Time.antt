@@ -1,7 +1,7 @@
 -- What time alone does: it comes first in each call that has a moment, XEP-0124 sections 7.1 and 10.
-use Rattle.std.specs.Prelude.{ℕ, ◌==◌, ◌&&◌, ◌||◌, Bool, not, max, List, length, Option, None, if◌then◌else◌}
+use Rattle.std.specs.Prelude.{ℕ, ◌==◌, ◌&&◌, ◌||◌, Bool, not, max, length, None, if◌then◌else◌}
 use Rattle.std.specs.List.{last_or}
-use Rattle.std.specs.Option.{option_map, option_map_or}
+use Rattle.std.specs.Option.{option_map_or}
 use Rattle.bosh_types.specs.declared.ending.Ending.TheVariants.{Silent}
 use Rattle.pause_rules.specs.Due.{is_silent_due}
 use Rattle.session_core.specs.Answers.{has_reason, settled}
