@@ -15,6 +15,7 @@ mod references;
 mod tags;
 mod whole_text;
 
+pub use chars::is_allowed;
 pub use laws::reader_takes_the_grammar;
 pub use parts::{Attr, Attrs, Cut, CutError, CutRefusal, Span, Spans};
 pub use whole_text::{cut, read_stanza};
