@@ -17,3 +17,8 @@ pub mod TakenTags
 pub mod TakenContent
 pub mod TakenDocument
 pub mod Bodies
+pub mod Utf8Codes
+pub mod Utf8Bytes
+pub mod Utf8Takes
+pub mod Utf8Allowed
+pub mod Utf8Bodies

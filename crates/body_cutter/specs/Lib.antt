@@ -7,3 +7,4 @@ pub mod Reading
 pub mod Refusal
 pub mod Grammar
 pub mod BodyText
+pub mod Utf8
