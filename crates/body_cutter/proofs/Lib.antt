@@ -22,3 +22,12 @@ pub mod Utf8Bytes
 pub mod Utf8Takes
 pub mod Utf8Allowed
 pub mod Utf8Bodies
+pub mod CompletionTools
+pub mod CompletionReferences
+pub mod CompletionStates
+pub mod CompletionPlaces
+pub mod CompletionKept
+pub mod CompletionSteps
+pub mod CompletionNumbers
+pub mod CompletionRuns
+pub mod CompletionViable

@@ -8,3 +8,4 @@ pub mod Refusal
 pub mod Grammar
 pub mod BodyText
 pub mod Utf8
+pub mod Completion

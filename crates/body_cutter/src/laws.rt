@@ -1,12 +1,15 @@
-ghost use Rattle.std.specs.Prelude.{◌≡◌, ℕ, ◌↔◌, List, true, IsUtf8};
+ghost use Rattle.std.specs.Prelude.{◌≡◌, ℕ, ◌↔◌, List, ◌++◌, Some, Err, true, IsUtf8};
+ghost use Rattle.std.specs.Str.{is_utf8};
 ghost use Rattle.std.specs.List.{list_all};
 ghost use Rattle.body_cutter.specs.declared.place.Wide.TheVariants.{Whole};
 ghost use Rattle.body_cutter.specs.declared.place.Place.TheVariants.{Start, StanzaStart};
 ghost use Rattle.body_cutter.specs.declared.place.Kind.TheVariants as kinds;
-ghost use Rattle.body_cutter.specs.Reader.{first_state};
-ghost use Rattle.body_cutter.specs.Refusal.{is_accepted, reading};
+ghost use Rattle.body_cutter.specs.declared.parts.CutRefusal.{CutRefusal};
+ghost use Rattle.body_cutter.specs.Reader.{State, first_state};
+ghost use Rattle.body_cutter.specs.Refusal.{Ended, is_accepted, reading, text_answer};
 ghost use Rattle.body_cutter.specs.BodyText.{IsBodyText, IsElementText};
 ghost use Rattle.body_cutter.specs.Chars.{ends_whole, is_allowed, is_char_byte};
+ghost use Rattle.body_cutter.specs.Completion.{completion, has_state, place_of, IsLongestViable, IsViable};
 ghost use Rattle.body_cutter.specs.Utf8.{IsUtf8Of, is_tabled};
 
 /// The reader takes exactly the texts of the grammar.
@@ -24,4 +27,19 @@ pub fn texts_are_allowed_characters()
     // A text of the grammar is of allowed characters.
     ensures body { (text : List ℕ) → IsBodyText text → IsUtf8Of is_allowed text }
     ensures stanza { (text : List ℕ) → IsElementText text → IsUtf8Of is_allowed text }
+{}
+
+/// Some bytes make a text of the grammar of a prefix exactly where the reader has a state after it.
+pub fn prefixes_are_viable_where_read()
+    // What completes the state makes a text of the prefix that was read to it.
+    ensures completed_body { (front : List ℕ) (s : State) → reading 0 (first_state kinds.Body Start) front ≡ Ended s → IsBodyText (front ++ completion s) }
+    ensures completed_stanza { (front : List ℕ) (s : State) → reading 0 (first_state kinds.Stanza StanzaStart) front ≡ Ended s → IsElementText (front ++ completion s) }
+    ensures body { (front : List ℕ) → IsViable IsBodyText front ↔ (has_state (reading 0 (first_state kinds.Body Start) front) ≡ true) }
+    ensures stanza { (front : List ℕ) → IsViable IsElementText front ↔ (has_state (reading 0 (first_state kinds.Stanza StanzaStart) front) ≡ true) }
+{}
+
+/// The place of a refusal is the length of the longest prefix that some bytes complete.
+pub fn places_are_of_longest_viable_prefixes()
+    ensures body { (text : List ℕ) (refusal : CutRefusal) (place : ℕ) → text_answer kinds.Body Start 1048576 (is_utf8 text) text ≡ Err refusal → place_of refusal ≡ Some place → IsLongestViable IsBodyText place text }
+    ensures stanza { (text : List ℕ) (refusal : CutRefusal) (place : ℕ) → text_answer kinds.Stanza StanzaStart 1000000 (is_utf8 text) text ≡ Err refusal → place_of refusal ≡ Some place → IsLongestViable IsElementText place text }
 {}
