@@ -31,3 +31,6 @@ pub mod CompletionSteps
 pub mod CompletionNumbers
 pub mod CompletionRuns
 pub mod CompletionViable
+pub mod CompletionNames
+pub mod CompletionLater
+pub mod CompletionNamed

@@ -1,4 +1,4 @@
-ghost use Rattle.std.specs.Prelude.{◌≡◌, ℕ, ◌↔◌, List, ◌++◌, Some, Err, true, IsUtf8};
+ghost use Rattle.std.specs.Prelude.{◌≡◌, ℕ, ◌↔◌, List, ◌++◌, Some, Err, true};
 ghost use Rattle.std.specs.Str.{is_utf8};
 ghost use Rattle.std.specs.List.{list_all};
 ghost use Rattle.body_cutter.specs.declared.place.Wide.TheVariants.{Whole};
@@ -14,8 +14,8 @@ ghost use Rattle.body_cutter.specs.Utf8.{IsUtf8Of, is_tabled};
 
 /// The reader takes exactly the texts of the grammar.
 pub fn reader_takes_the_grammar()
-    ensures body { (text : List ℕ) → IsUtf8 text → (is_accepted (reading 0 (first_state kinds.Body Start) text) ≡ true) ↔ IsBodyText text }
-    ensures stanza { (text : List ℕ) → IsUtf8 text → (is_accepted (reading 0 (first_state kinds.Stanza StanzaStart) text) ≡ true) ↔ IsElementText text }
+    ensures body { (text : List ℕ) → (is_accepted (reading 0 (first_state kinds.Body Start) text) ≡ true) ↔ IsBodyText text }
+    ensures stanza { (text : List ℕ) → (is_accepted (reading 0 (first_state kinds.Stanza StanzaStart) text) ≡ true) ↔ IsElementText text }
 {}
 
 /// What the reader's table of bytes takes is exactly UTF-8 (RFC 3629 section 3) of the allowed characters (XML 1.0 section 2.2).
