@@ -3,7 +3,7 @@ use Rattle.std.proofs.Common.{◌≡◌, ◌∙◌, ◌+◌, ◌<◌, ◌≤◌,
 use Rattle.std.specs.Prelude.{◌↔◌, Option, None, Some, ◌==◌, if◌then◌else◌}
 use Rattle.std.proofs.lemmas.Bool.{eqb-true}
 use Rattle.body_cutter.specs.declared.place.Place.{Place}
-use Rattle.body_cutter.specs.declared.place.Place.TheVariants.{Start, Declaration, Prolog, BodyWord, Content as InContent, TagSpace, TagSlash}
+use Rattle.body_cutter.specs.declared.place.Place.TheVariants.{Start, StanzaStart, Declaration, Prolog, BodyWord, Content as InContent, TagSpace, TagSlash}
 use Rattle.body_cutter.specs.declared.place.Wide.{Wide}
 use Rattle.body_cutter.specs.declared.place.Kind.{Kind}
 use Rattle.body_cutter.specs.declared.place.Kind.TheVariants as kinds
@@ -12,7 +12,7 @@ use Rattle.body_cutter.specs.Tables.{start_next, first_next, declaration_word_ne
 use Rattle.body_cutter.specs.Reader.{State, step, moved, next_move, place_next, move_of, first_state}
 use Rattle.body_cutter.specs.Refusal.{Reading, Ended, Stopped, reading, is_before_body}
 use Rattle.body_cutter.specs.Grammar.{Spaces, DeclarationRest, ends_declaration}
-use Rattle.body_cutter.specs.Completion.{SpacedName, NamesBody, ends_name}
+use Rattle.body_cutter.specs.Viable.{SpacedName, NamesBody, Anything, ends_name}
 use Rattle.body_cutter.proofs.Control.{Control, control_of, advance, done}
 use Rattle.body_cutter.proofs.Product.{Steps, step_follows}
 use Rattle.body_cutter.proofs.Leads.{ctl}
@@ -130,9 +130,23 @@ module _ (kind : Kind) where
       ended_same h = cc
   runs (b ∷ text) at s t same h = run_by s t at b text (step s at b) same refl (λ next k g. runs text (at + 1) next t k g) h
 
--- the reader has left the places before the body exactly where the name is ended
-pub named_is : (front : List ℕ) (s : State) → reading 0 (first_state kinds.Body Start) front ≡ Ended s → (is_before_body s.place ≡ false) ↔ NamesBody front
+-- a stanza has no places before it
+stanza_later : (front : List ℕ) (e : Control) → lands kinds.Stanza (ctl StanzaStart [] [] []) front ≡ Some e → is_before_body e.place ≡ false
+unfolding is_before_body
+stanza_later front e h = later_passes kinds.Stanza front (ctl StanzaStart [] [] []) refl e h
+
+-- a run has left the places before the body exactly where the name is ended
+pub body_lands : (front : List ℕ) (e : Control) → lands kinds.Body (ctl Start [] [] []) front ≡ Some e → (is_before_body e.place ≡ false) ↔ NamesBody front
+body_lands front e h = (λ l. names_rest kinds.Body e l front (ctl Start [] [] []) h, λ n. (names_pass n).is e h)
+
+pub stanza_lands : (front : List ℕ) (e : Control) → lands kinds.Stanza (ctl StanzaStart [] [] []) front ≡ Some e → (is_before_body e.place ≡ false) ↔ Anything front
+stanza_lands front e h = (λ _. tt, λ _. stanza_later front e h)
+
+-- so does a reading
+pub body_runs : (front : List ℕ) (s : State) → reading 0 (first_state kinds.Body Start) front ≡ Ended s → lands kinds.Body (ctl Start [] [] []) front ≡ Some (control_of s)
 unfolding first_state
-named_is front s h =
-    let r = runs kinds.Body front 0 (first_state kinds.Body Start) s refl h in
-    (λ l. names_rest kinds.Body (control_of s) l front (ctl Start [] [] []) r, λ n. (names_pass n).is (control_of s) r)
+body_runs front s h = runs kinds.Body front 0 (first_state kinds.Body Start) s refl h
+
+pub stanza_runs : (front : List ℕ) (s : State) → reading 0 (first_state kinds.Stanza StanzaStart) front ≡ Ended s → lands kinds.Stanza (ctl StanzaStart [] [] []) front ≡ Some (control_of s)
+unfolding first_state
+stanza_runs front s h = runs kinds.Stanza front 0 (first_state kinds.Stanza StanzaStart) s refl h

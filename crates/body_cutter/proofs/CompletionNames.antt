@@ -14,7 +14,7 @@ use Rattle.body_cutter.specs.Tables.{goes, goes_if, start_next, first_next, decl
 use Rattle.body_cutter.specs.Reader.{place_next, move_of, matched}
 use Rattle.body_cutter.specs.Refusal.{is_before_body}
 use Rattle.body_cutter.specs.Grammar.{Spaces, DeclarationRest}
-use Rattle.body_cutter.specs.Completion.{SpacedName, NamesBody, ends_name}
+use Rattle.body_cutter.specs.Viable.{SpacedName, NamesBody, ends_name}
 use Rattle.body_cutter.proofs.Control.{Control, advance, done, led, goes_on}
 use Rattle.body_cutter.proofs.Leads.{ctl}
 use Rattle.body_cutter.proofs.Completes.{mark}

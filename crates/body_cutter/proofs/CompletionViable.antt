@@ -16,7 +16,8 @@ use Rattle.body_cutter.specs.Chars.{ends_whole}
 use Rattle.body_cutter.specs.Reader.{State, step, first_state}
 use Rattle.body_cutter.specs.Refusal.{Reading, Ended, Stopped, reading, is_accepted, is_complete, is_before_body, is_forbidden, read_answer, refusal_or, ended_refusal, limit_refusal, stopped_refusal, text_answer}
 use Rattle.body_cutter.specs.BodyText.{IsBodyText, IsElementText}
-use Rattle.body_cutter.specs.Completion.{completion, IsViable, IsLongestViable, has_state, place_of}
+use Rattle.body_cutter.specs.Completion.{completion}
+use Rattle.body_cutter.specs.Viable.{IsViable, IsLongestViable, has_state}
 use Rattle.body_cutter.proofs.Stops.{StopsAt, stops, never_on}
 use Rattle.body_cutter.proofs.Leads.{both}
 use Rattle.body_cutter.proofs.Bodies.{body_split, stanza_split, body_read, stanza_read, body_is_read, stanza_is_read}
@@ -104,77 +105,9 @@ module _ (P : List ℕ → Type 0) (start : State) (takes : (text : List ℕ) �
         longest = λ n below within v. absurd (omega (arith, below, within));
       }
 
-  -- what an answer says of its place
-  abbrev pub Placed : List ℕ → Result Cut CutRefusal → Type 0
-  Placed text answer = (refusal : CutRefusal) (place : ℕ) → answer ≡ Err refusal → place_of refusal ≡ Some place → IsLongestViable P place text
-
-  placed_err : (text : List ℕ) (r : CutRefusal) → ((place : ℕ) → place_of r ≡ Some place → IsLongestViable P place text) → Placed text (Err r)
-  placed_err text r f refusal place e p = f place (ap place_of (same (Err r) (Err refusal) e) ∙ p)
-    where
-      same : (x y : Result Cut CutRefusal) → x ≡ y → MatchResult x (λ _. Unit {0}) (λ r. MatchResult y (λ _. Unit {0}) (λ s. r ≡ s))
-      same (Ok a) y h = tt
-      same (Err r) (Ok a) h = tt
-      same (Err r) (Err s) h = cc
-
-  placed_ok : (text : List ℕ) (cut : Cut) → Placed text (Ok cut)
-  placed_ok text cut refusal place e p = absurd (never e)
-    where
-      never : Ok cut ≡ Err refusal → ⊥
-      never h = cc
-
-  nowhere : (text : List ℕ) (place : ℕ) → None ≡ Some place → IsLongestViable P place text
-  nowhere text place e = absurd (never e)
-    where
-      never : None ≡ Some place → ⊥
-      never h = cc
-
-  there : (text : List ℕ) (at place : ℕ) → IsLongestViable P at text → Some at ≡ Some place → IsLongestViable P place text
-  there text at place h e = subst (λ (n : ℕ). IsLongestViable P n text) (same e) h
-    where
-      same : Some at ≡ Some place → at ≡ place
-      same h = cc
-
-  stopped_placed : (text : List ℕ) (at : ℕ) (before forbidden : Bool) → IsLongestViable P at text → Placed text (Err (if before then NotBody else if forbidden then Forbidden at else Malformed at))
-  stopped_placed text at true forbidden h = placed_err text NotBody (nowhere text)
-  stopped_placed text at false true h = placed_err text (Forbidden at) (λ place e. there text at place h e)
-  stopped_placed text at false false h = placed_err text (Malformed at) (λ place e. there text at place h e)
-
-  limits_placed : (text : List ℕ) (attributes children deep : Bool) (cut : Cut) → Placed text (refusal_or (if attributes then Some TooManyAttributes else if children then Some TooManyChildren else if deep then Some TooDeep else None) cut)
-  limits_placed text true children deep cut = placed_err text TooManyAttributes (nowhere text)
-  limits_placed text false true deep cut = placed_err text TooManyChildren (nowhere text)
-  limits_placed text false false true cut = placed_err text TooDeep (nowhere text)
-  limits_placed text false false false cut = placed_ok text cut
-
-  ended_placed : (text : List ℕ) (before complete : Bool) (limits : Option CutRefusal) (cut : Cut) → Placed text (refusal_or limits cut) → IsLongestViable P (length text) text →
-      Placed text (refusal_or (if before then Some NotBody else if complete then limits else Some (Malformed (length text))) cut)
-  ended_placed text true complete limits cut l h = placed_err text NotBody (nowhere text)
-  ended_placed text false true limits cut l h = l
-  ended_placed text false false limits cut l h = placed_err text (Malformed (length text)) (λ place e. there text (length text) place h e)
-
-  read_placed : (text : List ℕ) (r : Reading) → reading 0 start text ≡ r → Placed text (read_answer text r)
-  unfolding read_answer ended_refusal stopped_refusal limit_refusal
-  read_placed text (Stopped at b s) e = stopped_placed text at (is_before_body s.place) _ (stopped_longest text at b s e)
-  read_placed text (Ended s) e = ended_placed text (is_before_body s.place) (is_complete s) _ _ (limits_placed text s.too_many_attributes _ s.too_deep _) (ended_longest text s e)
-
-  within_placed : (text : List ℕ) (long utf8 : Bool) (answer : Result Cut CutRefusal) → Placed text answer → Placed text (if long then Err TooLong else if utf8 then answer else Err NotUtf8)
-  within_placed text true utf8 answer h = placed_err text TooLong (nowhere text)
-  within_placed text false true answer h = h
-  within_placed text false false answer h = placed_err text NotUtf8 (nowhere text)
-
-  pub answer_placed : (text : List ℕ) (long utf8 : Bool) → Placed text (if long then Err TooLong else if utf8 then read_answer text (reading 0 start text) else Err NotUtf8)
-  answer_placed text long utf8 = within_placed text long utf8 _ (read_placed text (reading 0 start text) refl)
-
 -- for a body, and for a stanza
 pub body_viable : (front : List ℕ) → IsViable IsBodyText front ↔ (has_state (reading 0 (first_state kinds.Body Start) front) ≡ true)
 body_viable = viable_is IsBodyText (first_state kinds.Body Start) body_is_read body_completed
 
 pub stanza_viable : (front : List ℕ) → IsViable IsElementText front ↔ (has_state (reading 0 (first_state kinds.Stanza StanzaStart) front) ≡ true)
 stanza_viable = viable_is IsElementText (first_state kinds.Stanza StanzaStart) stanza_is_read stanza_completed
-
-pub body_placed : (text : List ℕ) (refusal : CutRefusal) (place : ℕ) → text_answer kinds.Body Start 1048576 (is_utf8 text) text ≡ Err refusal → place_of refusal ≡ Some place → IsLongestViable IsBodyText place text
-unfolding text_answer
-body_placed text = answer_placed IsBodyText (first_state kinds.Body Start) body_is_read body_completed text (nat_lt 1048576 (length text)) (is_utf8 text)
-
-pub stanza_placed : (text : List ℕ) (refusal : CutRefusal) (place : ℕ) → text_answer kinds.Stanza StanzaStart 1000000 (is_utf8 text) text ≡ Err refusal → place_of refusal ≡ Some place → IsLongestViable IsElementText place text
-unfolding text_answer
-stanza_placed text = answer_placed IsElementText (first_state kinds.Stanza StanzaStart) stanza_is_read stanza_completed text (nat_lt 1000000 (length text)) (is_utf8 text)

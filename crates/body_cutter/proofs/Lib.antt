@@ -34,3 +34,10 @@ pub mod CompletionViable
 pub mod CompletionNames
 pub mod CompletionLater
 pub mod CompletionNamed
+pub mod CompletionRows
+pub mod CompletionTurns
+pub mod CompletionPhases
+pub mod CompletionSections
+pub mod CompletionOpens
+pub mod CompletionForbidden
+pub mod CompletionTable

@@ -1,5 +1,5 @@
--- Bytes that complete a text from where the reader stands, and the prefixes that some bytes complete.
-use Rattle.std.specs.Prelude.{◌≡◌, ℕ, Bool, true, false, ◌+◌, ◌||◌, ◌==◌, ◌<◌, ◌≤◌, nat_lt, List, [], ◌∷◌, ◌++◌, length, take, drop, map, codes, Option, None, Some, if◌then◌else◌}
+-- Bytes that complete a text from where the reader stands.
+use Rattle.std.specs.Prelude.{ℕ, Bool, true, false, nat_lt, List, [], ◌∷◌, ◌++◌, drop, map, codes, Option, None, Some, if◌then◌else◌}
 use Rattle.std.specs.List.{concat}
 use Rattle.body_cutter.specs.declared.place.Place.{Place}
 use Rattle.body_cutter.specs.declared.place.Place.TheVariants.{Start, First, DeclarationWord, Declaration, Prolog, BodyWord, StanzaStart, Content, Opened, SectionWord, Section, EndName, EndSpace, TagName, TagSpace, TagSlash, AttrName, AttrEquals, AttrQuote, Value, AfterValue}
@@ -7,13 +7,9 @@ use Rattle.body_cutter.specs.declared.place.Wide.{Wide}
 use Rattle.body_cutter.specs.declared.place.Wide.TheVariants.{Whole, One, Two, Three, AfterE0, AfterEd, AfterEf, AfterEfBf, AfterF0, AfterF4}
 use Rattle.body_cutter.specs.declared.place.Reference.{Reference}
 use Rattle.body_cutter.specs.declared.place.Reference.TheVariants.{Begun, L, G, A, Am, Ap, Apo, Q, Qu, Quo, Named, Number, Decimal, HexMark, Hex}
-use Rattle.body_cutter.specs.declared.parts.CutRefusal.{CutRefusal}
-use Rattle.body_cutter.specs.declared.parts.CutRefusal.TheVariants.{Forbidden, Malformed}
-use Rattle.body_cutter.specs.Chars.{is_allowed, is_space}
+use Rattle.body_cutter.specs.Chars.{is_allowed}
 use Rattle.body_cutter.specs.Names.{without_first}
 use Rattle.body_cutter.specs.Reader.{State}
-use Rattle.body_cutter.specs.Grammar.{Spaces, DeclarationRest}
-use Rattle.body_cutter.specs.Refusal.{Reading, Ended, Stopped}
 
 -- the rest of a character
 unfoldable pub wide_rest : Wide → List ℕ
@@ -114,38 +110,3 @@ unfoldable pub completion : State → List ℕ
 completion s =
     reference_rest s.reference ++ (character_rest s.place s.wide ++ (place_rest s.place s.elements s.seen
     ++ end_tags (if ends_innermost s.place then without_first s.elements else s.elements)))
-
--- some bytes make a text of these of it
-abbrev pub IsViable : (List ℕ → Type 0) → List ℕ → Type 0
-IsViable P front = (more : List ℕ) × P (front ++ more)
-
--- whether the reader has a state after the bytes
-abbrev pub has_state : Reading → Bool
-has_state (Ended s) = true
-has_state (Stopped at b s) = false
-
--- so many bytes has the longest prefix of the text that some bytes make a text of these
-pub record IsLongestViable (P : List ℕ → Type 0) (place : ℕ) (text : List ℕ) : Type 0 where
-  pub within : place ≤ length text
-  pub viable : IsViable P (take place text)
-  pub longest : (n : ℕ) → place < n → n ≤ length text → IsViable P (take n text) → ⊥
-
--- the place of a refusal, if it has one
-abbrev pub place_of : CutRefusal → Option ℕ
-place_of (Forbidden place) = Some place
-place_of (Malformed place) = Some place
-place_of _ = None
-
--- a byte that ends a name of a start tag: white space, `/` or `>`
-abbrev pub ends_name : ℕ → Bool
-ends_name b = is_space b || (b == 47 || b == 62)
-
--- a text that begins with white space and `<body` whose name is ended
-pub data SpacedName : List ℕ → Type 0 where
-  named : {b : ℕ} {text rest : List ℕ} → Spaces text (60 ∷ 98 ∷ 111 ∷ 100 ∷ 121 ∷ b ∷ rest) → ends_name b ≡ true → SpacedName text
-
--- a text in which, after a declaration or none and white space, the name of the body is ended
-pub data NamesBody : List ℕ → Type 0 where
-  plain : {text : List ℕ} → SpacedName text → NamesBody text
-  declared : {b : ℕ} {text after : List ℕ} → is_space b ≡ true → DeclarationRest text after → SpacedName after →
-      NamesBody (60 ∷ 63 ∷ 120 ∷ 109 ∷ 108 ∷ b ∷ text)

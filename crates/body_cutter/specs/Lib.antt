@@ -9,3 +9,4 @@ pub mod Grammar
 pub mod BodyText
 pub mod Utf8
 pub mod Completion
+pub mod Viable

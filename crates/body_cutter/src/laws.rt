@@ -1,4 +1,4 @@
-ghost use Rattle.std.specs.Prelude.{◌≡◌, ℕ, ◌↔◌, List, ◌++◌, Some, Err, true};
+ghost use Rattle.std.specs.Prelude.{◌≡◌, ℕ, ◌↔◌, List, ◌++◌, Err, true};
 ghost use Rattle.std.specs.Str.{is_utf8};
 ghost use Rattle.std.specs.List.{list_all};
 ghost use Rattle.body_cutter.specs.declared.place.Wide.TheVariants.{Whole};
@@ -9,7 +9,8 @@ ghost use Rattle.body_cutter.specs.Reader.{State, first_state};
 ghost use Rattle.body_cutter.specs.Refusal.{Ended, is_accepted, reading, text_answer};
 ghost use Rattle.body_cutter.specs.BodyText.{IsBodyText, IsElementText};
 ghost use Rattle.body_cutter.specs.Chars.{ends_whole, is_allowed, is_char_byte};
-ghost use Rattle.body_cutter.specs.Completion.{completion, has_state, place_of, IsLongestViable, IsViable};
+ghost use Rattle.body_cutter.specs.Completion.{completion};
+ghost use Rattle.body_cutter.specs.Viable.{has_state, is_for_place, Anything, IsViable, NamesBody, Row};
 ghost use Rattle.body_cutter.specs.Utf8.{IsUtf8Of, is_tabled};
 
 /// The reader takes exactly the texts of the grammar.
@@ -38,8 +39,9 @@ pub fn prefixes_are_viable_where_read()
     ensures stanza { (front : List ℕ) → IsViable IsElementText front ↔ (has_state (reading 0 (first_state kinds.Stanza StanzaStart) front) ≡ true) }
 {}
 
-/// The place of a refusal is the length of the longest prefix that some bytes complete.
-pub fn places_are_of_longest_viable_prefixes()
-    ensures body { (text : List ℕ) (refusal : CutRefusal) (place : ℕ) → text_answer kinds.Body Start 1048576 (is_utf8 text) text ≡ Err refusal → place_of refusal ≡ Some place → IsLongestViable IsBodyText place text }
-    ensures stanza { (text : List ℕ) (refusal : CutRefusal) (place : ℕ) → text_answer kinds.Stanza StanzaStart 1000000 (is_utf8 text) text ≡ Err refusal → place_of refusal ≡ Some place → IsLongestViable IsElementText place text }
+/// A refusal for the place where a text goes wrong stands in its row of the table, which speaks of the longest prefix that some
+/// bytes complete: its length is the place.
+pub fn refusals_stand_in_their_rows()
+    ensures body { (text : List ℕ) (refusal : CutRefusal) → text_answer kinds.Body Start 1048576 (is_utf8 text) text ≡ Err refusal → is_for_place refusal ≡ true → Row IsBodyText NamesBody text refusal }
+    ensures stanza { (text : List ℕ) (refusal : CutRefusal) → text_answer kinds.Stanza StanzaStart 1000000 (is_utf8 text) text ≡ Err refusal → is_for_place refusal ≡ true → Row IsElementText Anything text refusal }
 {}

@@ -16,8 +16,8 @@ mod tags;
 mod whole_text;
 
 pub use laws::{
-    places_are_of_longest_viable_prefixes, prefixes_are_viable_where_read,
-    reader_takes_the_grammar, texts_are_allowed_characters,
+    prefixes_are_viable_where_read, reader_takes_the_grammar, refusals_stand_in_their_rows,
+    texts_are_allowed_characters,
 };
 pub use parts::{Attr, Attrs, Cut, CutError, CutRefusal, Span, Spans};
 pub use whole_text::{cut, read_stanza};
