@@ -13,7 +13,7 @@ fn refusal_of(alloc: Global, text: &[u8]) -> Result<Option<CutRefusal>, AllocErr
 
 #[test]
 fn refuses_at_the_first_wrong_place(rt: HostRuntime) -> Result<(), Fail> {
-    let rows: [(&str, Option<CutRefusal>); 62] = [
+    let rows: [(&str, Option<CutRefusal>); 67] = [
         ("", Some(CutRefusal::NotBody)),
         (
             "<body><a><!--x--></a></body>",
@@ -106,6 +106,16 @@ fn refuses_at_the_first_wrong_place(rt: HostRuntime) -> Result<(), Fail> {
         ("<body><a></a ></body\n>", None),
         ("<body><1/></body>", Some(CutRefusal::Malformed(7))),
         ("<body><é.ü-1 ö='' /></body>", None),
+        // A name that stands twice may grow.
+        ("<body a='' a", Some(CutRefusal::Malformed(12))),
+        ("<body a='' a=", Some(CutRefusal::Malformed(12))),
+        // A number that is no allowed character may grow, up to the last one.
+        ("<body><a>&#x11", Some(CutRefusal::Malformed(14))),
+        (
+            "<body><a>&#xFFFF;</a></body>",
+            Some(CutRefusal::Forbidden(16)),
+        ),
+        ("<body><a>&#xFFFF9;</a></body>", None),
     ];
     for (text, want) in &rows {
         let found = refusal_of(rt.alloc(), text.as_bytes())?;
