@@ -1,5 +1,5 @@
 -- The facts of a forbidden byte, told by the reader's state and by the bytes.
-use Rattle.std.proofs.Common.{◌≡◌, ◌∙◌, ◌+◌, ◌<◌, ◌≤◌, ℕ, Bool, true, false, ◌&&◌, ◌||◌, List, [], ◌∷◌, ◌++◌, refl, sym, ap, subst, arith, inl, inr}
+use Rattle.std.proofs.Common.{◌≡◌, ℕ, Bool, true, false, ◌&&◌, ◌||◌, List, [], refl, subst, inl, inr}
 use Rattle.std.specs.Prelude.{◌⊎◌, ◌↔◌, Option, None, Some, is_some, codes, ◌==◌}
 use Rattle.std.proofs.lemmas.Bool.{and_parts, and_from, or_cases}
 use Rattle.body_cutter.specs.declared.place.Place.{Place}
@@ -8,13 +8,13 @@ use Rattle.body_cutter.specs.declared.place.Reference.{Reference}
 use Rattle.body_cutter.specs.declared.place.Kind.{Kind}
 use Rattle.body_cutter.specs.Reader.{State}
 use Rattle.body_cutter.specs.Refusal.{is_before_body, is_opened, is_forbidden, ends_in_section_start}
-use Rattle.body_cutter.specs.Viable.{Without, InSection, InReference, EndsOpened, IsForbiddenAfter}
+use Rattle.body_cutter.specs.Viable.{InSection, InReference, EndsOpened, IsForbiddenAfter}
 use Rattle.body_cutter.proofs.Control.{Control, control_of}
 use Rattle.body_cutter.proofs.CompletionNames.{lands}
-use Rattle.body_cutter.proofs.CompletionTurns.{Phase, Before, Plain, AfterLess, Word, Section, Referring, Calm, Turn, place_phase, phase_of}
+use Rattle.body_cutter.proofs.CompletionTurns.{Phase, Before, Plain, AfterLess, Word, Section, Referring, Turn, place_phase, phase_of}
 use Rattle.body_cutter.proofs.CompletionPhases.{Run, Tidy, phase, run_of, run_split, lands_of}
 use Rattle.body_cutter.proofs.CompletionSections.{first, ends_inside, less_goes}
-use Rattle.body_cutter.proofs.CompletionOpens.{Opened, OpensSection, OpensReference, EndsLess, opens_section, opens_reference, refers_on, ends_less}
+use Rattle.body_cutter.proofs.CompletionOpens.{EndsLess, opens_section, opens_reference, refers_on, ends_less}
 
 -- the place of each phase
 before_place : (place : Place) (o : Option Reference) → is_before_body place ≡ false → phase_of place o ≡ Before → ⊥

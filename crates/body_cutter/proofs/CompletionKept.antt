@@ -1,5 +1,5 @@
 -- Tools for what holds of each state: a move, taken apart.
-use Rattle.std.proofs.Common.{◌≡◌, ◌∙◌, ◌+◌, ◌<◌, ◌≤◌, ℕ, suc, zero, Bool, true, false, ◌&&◌, List, [], ◌∷◌, ◌++◌, refl, sym, ap, subst, arith, append_assoc, append-nil}
+use Rattle.std.proofs.Common.{◌≡◌, ◌∙◌, ◌<◌, ℕ, Bool, true, false, List, [], ◌∷◌, ◌++◌, refl, sym, ap, subst, arith, append_assoc, append-nil}
 use Rattle.std.specs.Prelude.{Option, None, Some, ◌==◌, if◌then◌else◌}
 use Rattle.std.proofs.lemmas.Bool.{eqb-true, lt-leb, ne_eqb}
 use Rattle.std.proofs.lemmas.Bool.Decides.{nat_tests}
@@ -11,13 +11,13 @@ use Rattle.body_cutter.specs.declared.place.Around.{Around}
 use Rattle.body_cutter.specs.declared.place.Around.TheVariants.{NoBody, NoStanza, Body, Child}
 use Rattle.body_cutter.specs.declared.place.Act.{Act}
 use Rattle.body_cutter.specs.declared.place.Move.{Move}
-use Rattle.body_cutter.specs.Chars.{is_space, wide_begin, wide_next, ends_whole}
-use Rattle.body_cutter.specs.Names.{has_name, without_first}
+use Rattle.body_cutter.specs.Chars.{is_space, wide_next, ends_whole}
+use Rattle.body_cutter.specs.Names.{without_first}
 use Rattle.body_cutter.specs.Tables.{goes, goes_if}
-use Rattle.body_cutter.proofs.Control.{Control, done, led, goes_on}
+use Rattle.body_cutter.proofs.Control.{Control, led, goes_on}
 use Rattle.body_cutter.proofs.Utf8Takes.{begins_one}
 use Rattle.body_cutter.proofs.CompletionTools.{AllWhole}
-use Rattle.body_cutter.proofs.CompletionStates.{Sound, Here, InChild, Lacks}
+use Rattle.body_cutter.proofs.CompletionStates.{Sound, InChild, Lacks}
 
 -- what holds of the next state, if there is one
 abbrev pub Kept : Kind → Wide → Option Control → Type 0

@@ -1,5 +1,5 @@
 -- The reader never comes back to a place before the body.
-use Rattle.std.proofs.Common.{◌≡◌, ◌∙◌, ◌+◌, ℕ, Bool, true, false, ◌&&◌, ◌||◌, List, [], ◌∷◌, refl, sym, ap}
+use Rattle.std.proofs.Common.{◌≡◌, ◌∙◌, ℕ, Bool, true, false, ◌&&◌, ◌||◌, refl, sym, ap}
 use Rattle.std.specs.Prelude.{Option, None, Some, nat_lt, ◌==◌, if◌then◌else◌}
 use Rattle.body_cutter.specs.declared.place.Place.{Place}
 use Rattle.body_cutter.specs.declared.place.Place.TheVariants.{Start, First, DeclarationWord, Declaration, Prolog, BodyWord, StanzaStart, Content as InContent, Opened, SectionWord, Section as InSection, EndName, EndSpace, TagName, TagSpace, TagSlash, AttrName, AttrEquals, AttrQuote, Value as InValue, AfterValue}
@@ -14,7 +14,7 @@ use Rattle.body_cutter.specs.declared.place.Move.{Move}
 use Rattle.body_cutter.specs.Chars.{is_space, is_char_byte, is_name_start, is_name_byte}
 use Rattle.body_cutter.specs.References.{reference_next}
 use Rattle.body_cutter.specs.Names.{around, due}
-use Rattle.body_cutter.specs.Tables.{goes, goes_if, begins_reference, name_ended, stanza_start_next, content_next, body_content_next, child_content_next, more_brackets, opened_next, opened_in_body, opened_in_child, section_word_next, section_letter, section_next, end_name_next, end_space_next, tag_name_next, tag_space_next, tag_slash_next, attr_name_next, attr_equals_next, attr_quote_next, value_next, value_plain, after_value_next}
+use Rattle.body_cutter.specs.Tables.{goes, goes_if, begins_reference, name_ended, stanza_start_next, content_next, body_content_next, child_content_next, opened_next, opened_in_body, opened_in_child, section_word_next, section_letter, section_next, end_name_next, end_space_next, tag_name_next, tag_space_next, tag_slash_next, attr_name_next, attr_equals_next, attr_quote_next, value_next, value_plain, after_value_next}
 use Rattle.body_cutter.specs.Reader.{place_next, move_of, matched, reference_moved}
 use Rattle.body_cutter.specs.Refusal.{is_before_body}
 use Rattle.body_cutter.proofs.Control.{Control, advance, done, led, goes_on}

@@ -1,8 +1,7 @@
 -- Where the name of the body is ended, the reader has left the places before the body; and what a refusal tells of this.
-use Rattle.std.proofs.Common.{◌≡◌, ◌∙◌, ◌+◌, ◌<◌, ◌≤◌, ℕ, Bool, true, false, ◌&&◌, ◌||◌, List, [], ◌∷◌, ◌++◌, length, take, refl, sym, ap, subst, arith}
-use Rattle.std.specs.Prelude.{◌↔◌, Option, None, Some, ◌==◌, if◌then◌else◌}
+use Rattle.std.proofs.Common.{◌≡◌, ◌∙◌, ◌+◌, ℕ, Bool, true, false, ◌||◌, List, [], ◌∷◌, refl, sym, ap, subst}
+use Rattle.std.specs.Prelude.{◌↔◌, Option, None, Some, ◌==◌}
 use Rattle.std.proofs.lemmas.Bool.{eqb-true}
-use Rattle.body_cutter.specs.declared.place.Place.{Place}
 use Rattle.body_cutter.specs.declared.place.Place.TheVariants.{Start, StanzaStart, Declaration, Prolog, BodyWord, Content as InContent, TagSpace, TagSlash}
 use Rattle.body_cutter.specs.declared.place.Wide.{Wide}
 use Rattle.body_cutter.specs.declared.place.Kind.{Kind}
@@ -10,7 +9,7 @@ use Rattle.body_cutter.specs.declared.place.Kind.TheVariants as kinds
 use Rattle.body_cutter.specs.Chars.{is_space, is_char_byte, is_plain, wide_next}
 use Rattle.body_cutter.specs.Tables.{start_next, first_next, declaration_word_next, xml_letter, declaration_next, prolog_next, body_word_next, body_letter, name_ended}
 use Rattle.body_cutter.specs.Reader.{State, step, moved, next_move, place_next, move_of, first_state}
-use Rattle.body_cutter.specs.Refusal.{Reading, Ended, Stopped, reading, is_before_body}
+use Rattle.body_cutter.specs.Refusal.{Ended, Stopped, reading, is_before_body}
 use Rattle.body_cutter.specs.Grammar.{Spaces, DeclarationRest, ends_declaration}
 use Rattle.body_cutter.specs.Viable.{SpacedName, NamesBody, Anything, ends_name}
 use Rattle.body_cutter.proofs.Control.{Control, control_of, advance, done}

@@ -1,5 +1,5 @@
 -- Where the reader has left the places before the body, the name of the body is ended.
-use Rattle.std.proofs.Common.{◌≡◌, ◌∙◌, ◌+◌, ℕ, suc, zero, Bool, true, false, ◌||◌, List, [], ◌∷◌, ◌++◌, refl, sym, ap, subst, arith}
+use Rattle.std.proofs.Common.{◌≡◌, ℕ, suc, zero, Bool, true, false, ◌||◌, List, [], ◌∷◌, refl, sym, subst, arith}
 use Rattle.std.specs.Prelude.{Option, None, Some, nat_lt, ◌==◌, if◌then◌else◌}
 use Rattle.std.proofs.lemmas.Bool.{eqb-true, ltb-true}
 use Rattle.body_cutter.specs.declared.place.Place.{Place}
@@ -14,8 +14,8 @@ use Rattle.body_cutter.specs.Tables.{goes, goes_if, start_next, first_next, decl
 use Rattle.body_cutter.specs.Reader.{place_next, move_of, matched}
 use Rattle.body_cutter.specs.Refusal.{is_before_body}
 use Rattle.body_cutter.specs.Grammar.{Spaces, DeclarationRest}
-use Rattle.body_cutter.specs.Viable.{SpacedName, NamesBody, ends_name}
-use Rattle.body_cutter.proofs.Control.{Control, advance, done, led, goes_on}
+use Rattle.body_cutter.specs.Viable.{SpacedName, NamesBody}
+use Rattle.body_cutter.proofs.Control.{Control, advance, done, goes_on}
 use Rattle.body_cutter.proofs.Leads.{ctl}
 use Rattle.body_cutter.proofs.Completes.{mark}
 

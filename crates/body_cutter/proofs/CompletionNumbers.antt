@@ -1,5 +1,5 @@
 -- What holds of each state holds after a byte in a reference.
-use Rattle.std.proofs.Common.{◌≡◌, ◌∙◌, ◌+◌, ◌*◌, ◌-◌, ◌<◌, ◌≤◌, ℕ, Bool, true, false, ◌&&◌, List, refl, sym, ap, subst, arith}
+use Rattle.std.proofs.Common.{◌≡◌, ◌∙◌, ◌+◌, ◌*◌, ◌-◌, ◌<◌, ℕ, Bool, true, false, ◌&&◌, List, refl, sym, ap, subst, arith}
 use Rattle.std.specs.Prelude.{Option, None, Some, ◌==◌, nat_le, if◌then◌else◌}
 use Rattle.std.proofs.lemmas.Bool.{leb-true, and_parts}
 use Rattle.std.proofs.lemmas.Bool.Decides.{nat_tests}
@@ -13,8 +13,7 @@ use Rattle.body_cutter.specs.declared.place.ReferenceMove.{ReferenceMove}
 use Rattle.body_cutter.specs.declared.place.ReferenceMove.TheVariants.{More, Done}
 use Rattle.body_cutter.specs.Chars.{is_allowed, wide_next}
 use Rattle.body_cutter.specs.References.{letter, begun_next, letter_a_next, done_if, done_number, decimal_more, hex_more, hex_digit, decimal_next, hex_grown, hex_next, number_next, decimal_or_end, hex_or_end, reference_next}
-use Rattle.body_cutter.specs.Names.{around, due}
-use Rattle.body_cutter.specs.Reader.{move_of, matched, reference_moved}
+use Rattle.body_cutter.specs.Reader.{move_of, reference_moved}
 use Rattle.body_cutter.proofs.Control.{Control, advance, done}
 use Rattle.body_cutter.proofs.SoundReferences.{in_reference}
 use Rattle.body_cutter.proofs.CompletionTools.{AllWhole}

@@ -1,15 +1,15 @@
 -- What a run that ends in a CDATA section, in a reference or after a `<` has read.
 use Rattle.std.proofs.Common.{◌≡◌, ◌∙◌, ◌+◌, ◌<◌, ◌≤◌, ℕ, suc, zero, Bool, true, false, ◌&&◌, List, [], ◌∷◌, ◌++◌, length, drop, refl, sym, ap, subst, arith, inl, inr}
-use Rattle.std.specs.Prelude.{◌⊎◌, Option, None, Some, codes, ◌==◌, if◌then◌else◌}
+use Rattle.std.specs.Prelude.{◌⊎◌, Some, codes, ◌==◌, if◌then◌else◌}
 use Rattle.std.proofs.lemmas.List.{length-append}
-use Rattle.std.proofs.lemmas.Bool.{ne_eqb, eq-eqb, eqb-false}
+use Rattle.std.proofs.lemmas.Bool.{ne_eqb, eqb-false}
 use Rattle.body_cutter.specs.declared.place.Kind.{Kind}
 use Rattle.body_cutter.specs.Tables.{more_brackets, section_letter}
 use Rattle.body_cutter.specs.Viable.{Without}
 use Rattle.body_cutter.proofs.Control.{Control, advance}
-use Rattle.body_cutter.proofs.CompletionTurns.{Phase, Before, Plain, AfterLess, Word, Section, Referring, Calm, Turn}
-use Rattle.body_cutter.proofs.CompletionPhases.{Run, stop, go, phase}
-use Rattle.body_cutter.proofs.CompletionSections.{without_more, without_less, after_brackets, end_mark, NoEnd, first, letter_less, letter_and}
+use Rattle.body_cutter.proofs.CompletionTurns.{Phase, Before, Plain, AfterLess, Word, Section, Referring, Turn}
+use Rattle.body_cutter.proofs.CompletionPhases.{Run, phase}
+use Rattle.body_cutter.proofs.CompletionSections.{without_more, without_less, end_mark, NoEnd, first, letter_and}
 
 -- the text opens something after a run from c to a plain phase, and then is like this
 pub record Opened (kind : Kind) (c : Control) (text piece : List ℕ) (P : List ℕ → Type 0) : Type 0 where

@@ -19,7 +19,7 @@ use Rattle.body_cutter.specs.Names.{around, due, with_count, has_name, without_f
 use Rattle.body_cutter.specs.Reader.{move_of, matched, reference_moved}
 use Rattle.body_cutter.proofs.Control.{Control, advance, done, led, goes_on}
 use Rattle.body_cutter.proofs.CompletionNames.{lands, lands_on}
-use Rattle.body_cutter.proofs.CompletionTurns.{Phase, Plain, Referring, place_phase, phase_of, Calm, Turn, Grows, Under, QuoteOf, Tells, Turns, dead, DueByte, place_turns}
+use Rattle.body_cutter.proofs.CompletionTurns.{Phase, Plain, Referring, place_phase, phase_of, Calm, Turn, Grows, Under, QuoteOf, Turns, dead, DueByte, place_turns}
 
 -- what a byte tells of a reference
 abbrev RefTells : ℕ → Option ReferenceMove → Type 0

@@ -1,9 +1,7 @@
 -- What completes a state outside a reference.
-use Rattle.std.proofs.Common.{◌≡◌, ◌∙◌, ◌+◌, ◌<◌, ◌≤◌, ℕ, suc, zero, Bool, true, false, ◌&&◌, ◌||◌, List, [], ◌∷◌, ◌++◌, length, refl, sym, ap, subst, arith, append_assoc, append-nil, drop}
-use Rattle.std.specs.Prelude.{Option, None, Some, ◌==◌, map, nat_lt, codes, if◌then◌else◌}
-use Rattle.std.specs.List.{list_any, concat}
-use Rattle.std.specs.Ordering.{nat_cmp, is_eq}
-use Rattle.std.specs.Cmp.Lexicographic.{slice_cmp}
+use Rattle.std.proofs.Common.{◌≡◌, ◌∙◌, ◌<◌, ◌≤◌, ℕ, suc, zero, Bool, true, false, ◌&&◌, ◌||◌, List, [], ◌∷◌, ◌++◌, length, refl, sym, ap, subst, arith, append_assoc, append-nil, drop}
+use Rattle.std.specs.Prelude.{Some, ◌==◌, map, codes, if◌then◌else◌}
+use Rattle.std.specs.List.{concat}
 use Rattle.std.specs.Str.{bytes_eq}
 use Rattle.std.proofs.lemmas.Map.Text.{is_eq-slice_cmp}
 use Rattle.std.proofs.lemmas.List.{length-append, length-map}
@@ -12,17 +10,16 @@ use Rattle.std.proofs.lemmas.Bool.Decides.{nat_tests}
 use Rattle.body_cutter.specs.declared.place.Place.{Place}
 use Rattle.body_cutter.specs.declared.place.Place.TheVariants.{Start, First, DeclarationWord, Declaration, Prolog, BodyWord, StanzaStart, Content as InContent, Opened, SectionWord, Section as InSection, EndName, EndSpace, TagName, TagSpace, TagSlash, AttrName, AttrEquals, AttrQuote, Value as InValue, AfterValue}
 use Rattle.body_cutter.specs.declared.place.Wide.{Wide}
-use Rattle.body_cutter.specs.declared.place.Wide.TheVariants.{Whole, One, Two, Three, AfterE0, AfterEd, AfterEf, AfterEfBf, AfterF0, AfterF4}
+use Rattle.body_cutter.specs.declared.place.Wide.TheVariants.{Whole}
 use Rattle.body_cutter.specs.declared.place.Kind.{Kind}
-use Rattle.body_cutter.specs.declared.place.Kind.TheVariants as kinds
 use Rattle.body_cutter.specs.declared.place.Around.{Around}
 use Rattle.body_cutter.specs.declared.place.Around.TheVariants.{NoBody, NoStanza, Body, Child}
-use Rattle.body_cutter.specs.Chars.{wide_begin, wide_next, ends_whole, is_space, is_plain, is_char_byte, is_letter, is_digit, begins_name_plainly, grows_name_plainly, is_name_start, is_name_byte}
+use Rattle.body_cutter.specs.Chars.{wide_begin, wide_next, is_space, is_plain, is_char_byte, is_letter, is_digit, begins_name_plainly, grows_name_plainly, is_name_start, is_name_byte}
 use Rattle.body_cutter.specs.Names.{around, due, has_name, with_name, without_first}
-use Rattle.body_cutter.specs.Tables.{start_next, first_next, declaration_word_next, xml_letter, declaration_next, prolog_next, body_word_next, body_letter, name_ended, stanza_start_next, content_next, body_content_next, child_content_next, more_brackets, opened_next, opened_in_body, opened_in_child, section_word_next, section_letter, section_next, end_name_next, end_space_next, tag_name_next, tag_space_next, tag_slash_next, attr_name_next, attr_equals_next, attr_quote_next, value_next, value_plain, after_value_next}
+use Rattle.body_cutter.specs.Tables.{start_next, first_next, declaration_word_next, xml_letter, declaration_next, prolog_next, body_word_next, body_letter, name_ended, stanza_start_next, content_next, child_content_next, more_brackets, opened_next, opened_in_body, opened_in_child, section_word_next, section_letter, section_next, end_name_next, end_space_next, tag_name_next, tag_space_next, tag_slash_next, attr_name_next, attr_equals_next, attr_quote_next, value_next, value_plain, after_value_next}
 use Rattle.body_cutter.specs.Reader.{place_next, move_of, matched}
 use Rattle.body_cutter.specs.Completion.{wide_rest, end_tags, fresh_letters, place_rest, end_name_rest, character_rest, ends_innermost}
-use Rattle.body_cutter.proofs.Control.{Control, advance, accepts, is_final, done}
+use Rattle.body_cutter.proofs.Control.{Control, advance, done}
 use Rattle.body_cutter.proofs.Leads.{ctl}
 use Rattle.body_cutter.proofs.CompletionTools.{Finishes, by_both, wide_finishes, AllWhole, Closes, end_name_finishes, tags_finish}
 use Rattle.body_cutter.proofs.CompletionStates.{Here, InChild, Due}

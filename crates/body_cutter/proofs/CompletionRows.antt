@@ -1,5 +1,5 @@
 -- The row of the table that a refusal for its place stands in.
-use Rattle.std.proofs.Common.{◌≡◌, ◌∙◌, ◌+◌, ◌<◌, ◌≤◌, ℕ, Bool, true, false, List, [], ◌∷◌, ◌++◌, length, take, refl, sym, ap, subst, arith}
+use Rattle.std.proofs.Common.{◌≡◌, ◌∙◌, ℕ, Bool, true, false, List, [], ◌∷◌, ◌++◌, length, take, refl, sym, ap, subst, arith}
 use Rattle.std.specs.Prelude.{◌↔◌, Option, None, Some, Result, Ok, Err, MatchResult, if◌then◌else◌}
 use Rattle.std.proofs.Math.Seq.{take-append_seam}
 use Rattle.std.proofs.lemmas.List.{length-append}
@@ -9,7 +9,7 @@ use Rattle.body_cutter.specs.declared.parts.CutRefusal.TheVariants.{TooLong, Not
 use Rattle.body_cutter.specs.Reader.{State}
 use Rattle.body_cutter.specs.Refusal.{Reading, Ended, Stopped, reading, is_accepted, is_complete, is_before_body, is_forbidden, read_answer, refusal_or, ended_refusal, limit_refusal, stopped_refusal}
 use Rattle.body_cutter.specs.Completion.{completion}
-use Rattle.body_cutter.specs.Viable.{IsViable, IsLongestViable, IsForbiddenAfter, Row, is_for_place}
+use Rattle.body_cutter.specs.Viable.{IsLongestViable, IsForbiddenAfter, Row, is_for_place}
 use Rattle.body_cutter.proofs.Stops.{stops}
 use Rattle.body_cutter.proofs.CompletionViable.{read_before, stopped_longest, ended_longest}
 

@@ -1,14 +1,13 @@
 -- Where a run ends in a CDATA section or in a reference, and where it does not.
-use Rattle.std.proofs.Common.{◌≡◌, ◌∙◌, ◌+◌, ◌<◌, ◌≤◌, ℕ, suc, zero, Bool, true, false, ◌&&◌, List, [], ◌∷◌, ◌++◌, length, drop, refl, sym, ap, subst, arith, inl, inr}
-use Rattle.std.specs.Prelude.{◌⊎◌, Option, None, Some, codes, ◌==◌, if◌then◌else◌}
-use Rattle.std.proofs.lemmas.List.{length-append}
+use Rattle.std.proofs.Common.{◌≡◌, ◌+◌, ◌<◌, ℕ, suc, zero, Bool, true, false, List, [], ◌∷◌, ◌++◌, refl, sym, ap, subst, arith, inl, inr}
+use Rattle.std.specs.Prelude.{◌⊎◌, Some, codes, ◌==◌, if◌then◌else◌}
 use Rattle.std.proofs.lemmas.Bool.{ne_eqb}
 use Rattle.body_cutter.specs.declared.place.Kind.{Kind}
 use Rattle.body_cutter.specs.Tables.{more_brackets, section_letter}
 use Rattle.body_cutter.specs.Viable.{Without}
 use Rattle.body_cutter.proofs.Control.{Control, advance}
-use Rattle.body_cutter.proofs.CompletionTurns.{Phase, Before, Plain, AfterLess, Word, Section, Referring, Calm, Turn}
-use Rattle.body_cutter.proofs.CompletionPhases.{Run, stop, go, phase}
+use Rattle.body_cutter.proofs.CompletionTurns.{Phase, Before, Plain, AfterLess, Word, Section, Referring, Turn}
+use Rattle.body_cutter.proofs.CompletionPhases.{Run, phase}
 
 -- a piece in a text
 pub without_more : (piece : List ℕ) {text : List ℕ} {x : ℕ} → Without piece text → ((back : List ℕ) → x ∷ text ≡ piece ++ back → ⊥) → Without piece (x ∷ text)

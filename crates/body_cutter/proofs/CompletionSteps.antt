@@ -1,5 +1,5 @@
 -- What holds of each state holds after a byte outside a reference.
-use Rattle.std.proofs.Common.{◌≡◌, ◌∙◌, ◌+◌, ◌<◌, ◌≤◌, ℕ, suc, zero, Bool, true, false, ◌&&◌, ◌||◌, List, [], ◌∷◌, ◌++◌, refl, sym, ap, subst, arith, add-one, drop}
+use Rattle.std.proofs.Common.{◌≡◌, ◌∙◌, ◌+◌, ◌<◌, ℕ, suc, zero, Bool, true, false, ◌&&◌, ◌||◌, List, [], ◌∷◌, ◌++◌, refl, sym, ap, subst, arith, add-one, drop}
 use Rattle.std.specs.Prelude.{Option, None, Some, ◌==◌, nat_lt, slice_get, if◌then◌else◌}
 use Rattle.std.proofs.lemmas.Bool.{eqb-true, and_parts}
 use Rattle.body_cutter.specs.declared.place.Place.{Place}
@@ -13,13 +13,13 @@ use Rattle.body_cutter.specs.declared.place.Act.{Act}
 use Rattle.body_cutter.specs.declared.place.Act.TheVariants.{Pass, Mark, BeginName, GrowName, OpenElement, EndAttrName, ValueByte, ValueChar, EndAttr, CloseElement}
 use Rattle.body_cutter.specs.Chars.{is_space, is_char_byte, is_name_start, is_name_byte, wide_next, ends_whole}
 use Rattle.body_cutter.specs.Names.{around, due, with_count, has_name, without_first}
-use Rattle.body_cutter.specs.Tables.{goes, goes_if, begins_reference, start_next, first_next, declaration_word_next, xml_letter, declaration_next, prolog_next, body_word_next, body_letter, name_ended, stanza_start_next, content_next, body_content_next, child_content_next, more_brackets, opened_next, opened_in_body, opened_in_child, section_word_next, section_letter, section_next, end_name_next, end_space_next, tag_name_next, tag_space_next, tag_slash_next, attr_name_next, attr_equals_next, attr_quote_next, value_next, value_plain, after_value_next}
+use Rattle.body_cutter.specs.Tables.{goes, begins_reference, start_next, first_next, declaration_word_next, xml_letter, declaration_next, prolog_next, body_word_next, body_letter, name_ended, stanza_start_next, content_next, body_content_next, child_content_next, more_brackets, opened_next, opened_in_body, opened_in_child, section_word_next, section_letter, section_next, end_name_next, end_space_next, tag_name_next, tag_space_next, tag_slash_next, attr_name_next, attr_equals_next, attr_quote_next, value_next, value_plain, after_value_next}
 use Rattle.body_cutter.specs.Reader.{place_next, matched}
-use Rattle.body_cutter.proofs.Control.{Control, done}
+use Rattle.body_cutter.proofs.Control.{done}
 use Rattle.body_cutter.proofs.Leads.{ctl}
-use Rattle.body_cutter.proofs.CompletionTools.{AllWhole, next_of, dropped_some}
-use Rattle.body_cutter.proofs.CompletionStates.{Sound, Here, InChild, Due, Lacks}
-use Rattle.body_cutter.proofs.CompletionKept.{Kept, Leads, split, only, dead, ascii, byte_below, space_below, in_whole_at, no_bytes, one_byte, grown, whole_name, outer_whole, gated, wide_step}
+use Rattle.body_cutter.proofs.CompletionTools.{AllWhole}
+use Rattle.body_cutter.proofs.CompletionStates.{Here, InChild, Due, Lacks}
+use Rattle.body_cutter.proofs.CompletionKept.{Leads, split, only, dead, ascii, byte_below, space_below, in_whole_at, no_bytes, one_byte, grown, whole_name, outer_whole, gated, wide_step}
 
 xml_below : (count : ℕ) → xml_letter count < 128
 unfolding xml_letter

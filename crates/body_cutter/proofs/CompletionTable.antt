@@ -1,6 +1,6 @@
 -- The rows of the table for bodies and for stanzas.
 use Rattle.std.proofs.Common.{◌≡◌, true, false, List, [], ℕ, length, refl, inl, inr}
-use Rattle.std.specs.Prelude.{◌↔◌, Some, Err, nat_lt}
+use Rattle.std.specs.Prelude.{◌↔◌, Err, nat_lt}
 use Rattle.std.specs.Str.{is_utf8}
 use Rattle.body_cutter.specs.declared.place.Place.TheVariants.{Start, StanzaStart}
 use Rattle.body_cutter.specs.declared.place.Kind.TheVariants as kinds

@@ -1,21 +1,19 @@
 -- The phases of a reading: before the body, after a `<`, in the beginning of a CDATA section, in a section, in a reference, or in
 -- none of these; and which bytes turn one into another.
-use Rattle.std.proofs.Common.{◌≡◌, ◌∙◌, ◌+◌, ◌<◌, ◌≤◌, ℕ, suc, zero, Bool, true, false, ◌&&◌, ◌||◌, List, [], ◌∷◌, ◌++◌, refl, sym, ap, subst, arith, inl, inr}
-use Rattle.std.specs.Prelude.{◌⊎◌, Option, None, Some, nat_lt, slice_get, ◌==◌, if◌then◌else◌}
-use Rattle.std.specs.List.{list_all}
-use Rattle.std.proofs.lemmas.Bool.{eqb-true, ne_eqb, ltb-true, ltb-false, and_parts, and_from}
+use Rattle.std.proofs.Common.{◌≡◌, ◌∙◌, ◌+◌, ◌<◌, ◌≤◌, ℕ, Bool, true, false, ◌&&◌, ◌||◌, refl, ap, arith, inl, inr}
+use Rattle.std.specs.Prelude.{◌⊎◌, Option, None, Some, nat_lt, ◌==◌, if◌then◌else◌}
+use Rattle.std.proofs.lemmas.Bool.{eqb-true, ltb-true, ltb-false, and_parts}
 use Rattle.std.proofs.lemmas.Bool.Decides.{nat_tests}
 use Rattle.body_cutter.specs.declared.place.Place.{Place}
 use Rattle.body_cutter.specs.declared.place.Place.TheVariants.{Start, First, DeclarationWord, Declaration, Prolog, BodyWord, StanzaStart, Content as InContent, Opened, SectionWord, Section as InSection, EndName, EndSpace, TagName, TagSpace, TagSlash, AttrName, AttrEquals, AttrQuote, Value as InValue, AfterValue}
 use Rattle.body_cutter.specs.declared.place.Around.{Around}
 use Rattle.body_cutter.specs.declared.place.Around.TheVariants.{NoBody, NoStanza, Body, Child}
 use Rattle.body_cutter.specs.declared.place.Reference.{Reference}
-use Rattle.body_cutter.specs.declared.place.Reference.TheVariants.{Begun}
 use Rattle.body_cutter.specs.declared.place.Act.{Act}
 use Rattle.body_cutter.specs.declared.place.Act.TheVariants.{Pass, Mark, BeginName, GrowName, OpenElement, EndAttrName, ValueByte, ValueChar, EndAttr, CloseElement}
 use Rattle.body_cutter.specs.declared.place.Move.{Move}
 use Rattle.body_cutter.specs.Chars.{is_space, is_char_byte, is_name_start, is_name_byte, is_letter, is_digit, begins_name_plainly, grows_name_plainly}
-use Rattle.body_cutter.specs.Tables.{goes, goes_if, begins_reference, start_next, first_next, declaration_word_next, xml_letter, declaration_next, prolog_next, body_word_next, body_letter, name_ended, stanza_start_next, content_next, body_content_next, child_content_next, more_brackets, opened_next, opened_in_body, opened_in_child, section_word_next, section_letter, section_next, end_name_next, end_space_next, tag_name_next, tag_space_next, tag_slash_next, attr_name_next, attr_equals_next, attr_quote_next, value_next, value_plain, after_value_next}
+use Rattle.body_cutter.specs.Tables.{goes, goes_if, start_next, first_next, declaration_word_next, xml_letter, declaration_next, prolog_next, body_word_next, body_letter, name_ended, stanza_start_next, content_next, body_content_next, child_content_next, more_brackets, opened_next, opened_in_body, opened_in_child, section_word_next, section_letter, section_next, end_name_next, end_space_next, tag_name_next, tag_space_next, tag_slash_next, attr_name_next, attr_equals_next, attr_quote_next, value_next, value_plain, after_value_next}
 use Rattle.body_cutter.specs.Reader.{place_next}
 
 pub data Phase : Type 0 where

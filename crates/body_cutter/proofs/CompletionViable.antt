@@ -1,24 +1,18 @@
 -- Viable prefixes, and the places of refusals.
-use Rattle.std.proofs.Common.{◌≡◌, ◌∙◌, ◌+◌, ◌<◌, ◌≤◌, ℕ, Bool, true, false, ◌&&◌, List, [], ◌∷◌, ◌++◌, length, take, drop, refl, sym, ap, subst, arith, append_assoc, append-nil}
-use Rattle.std.specs.Prelude.{◌↔◌, Option, None, Some, Result, Ok, Err, MatchResult, nat_lt, if◌then◌else◌}
-use Rattle.std.specs.Str.{is_utf8}
-use Rattle.std.proofs.Math.Seq.{take-append_seam, take-append-add}
+use Rattle.std.proofs.Common.{◌≡◌, ◌∙◌, ◌+◌, ◌<◌, ◌≤◌, ℕ, true, List, [], ◌∷◌, ◌++◌, length, take, drop, refl, sym, ap, subst, arith, append_assoc, append-nil}
+use Rattle.std.specs.Prelude.{◌↔◌, Option, None, Some}
+use Rattle.std.proofs.Math.Seq.{take-append_seam}
 use Rattle.std.proofs.lemmas.List.{take-append-drop, take-take, length-append}
-use Rattle.body_cutter.specs.declared.place.Place.{Place}
 use Rattle.body_cutter.specs.declared.place.Place.TheVariants.{Start, StanzaStart}
 use Rattle.body_cutter.specs.declared.place.Wide.TheVariants.{Whole}
-use Rattle.body_cutter.specs.declared.place.Kind.{Kind}
 use Rattle.body_cutter.specs.declared.place.Kind.TheVariants as kinds
-use Rattle.body_cutter.specs.declared.parts.Cut.{Cut}
-use Rattle.body_cutter.specs.declared.parts.CutRefusal.{CutRefusal}
-use Rattle.body_cutter.specs.declared.parts.CutRefusal.TheVariants.{TooLong, NotUtf8, NotBody, Forbidden, Malformed, TooManyAttributes, TooManyChildren, TooDeep}
 use Rattle.body_cutter.specs.Chars.{ends_whole}
 use Rattle.body_cutter.specs.Reader.{State, step, first_state}
-use Rattle.body_cutter.specs.Refusal.{Reading, Ended, Stopped, reading, is_accepted, is_complete, is_before_body, is_forbidden, read_answer, refusal_or, ended_refusal, limit_refusal, stopped_refusal, text_answer}
+use Rattle.body_cutter.specs.Refusal.{Reading, Ended, Stopped, reading, is_accepted}
 use Rattle.body_cutter.specs.BodyText.{IsBodyText, IsElementText}
 use Rattle.body_cutter.specs.Completion.{completion}
 use Rattle.body_cutter.specs.Viable.{IsViable, IsLongestViable, has_state}
-use Rattle.body_cutter.proofs.Stops.{StopsAt, stops, never_on}
+use Rattle.body_cutter.proofs.Stops.{stops, never_on}
 use Rattle.body_cutter.proofs.Leads.{both}
 use Rattle.body_cutter.proofs.Bodies.{body_split, stanza_split, body_read, stanza_read, body_is_read, stanza_is_read}
 use Rattle.body_cutter.proofs.Utf8Allowed.{whole_is_utf8}

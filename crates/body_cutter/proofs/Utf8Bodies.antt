@@ -1,6 +1,6 @@
 -- Each byte of a text of the grammar is one of an allowed character.
-use Rattle.std.proofs.Common.{◌≡◌, ◌+◌, ◌<◌, ◌≤◌, ℕ, Bool, true, false, ◌&&◌, List, [], ◌∷◌, refl, arith}
-use Rattle.std.specs.Prelude.{◌==◌, not, Some}
+use Rattle.std.proofs.Common.{◌≡◌, ℕ, Bool, true, List, refl, arith}
+use Rattle.std.specs.Prelude.{Some}
 use Rattle.std.proofs.lemmas.Bool.{and_parts}
 use Rattle.std.proofs.lemmas.Bool.Decides.{nat_tests}
 use Rattle.body_cutter.specs.Chars.{is_space, is_plain, is_letter, is_digit, begins_name_plainly, grows_name_plainly, is_name_start, is_name_byte, is_char_byte, is_allowed}

@@ -1,12 +1,12 @@
 -- What the table of bytes takes is the UTF-8 of characters.
-use Rattle.std.proofs.Common.{◌≡◌, ◌∙◌, ◌+◌, ◌<◌, ◌≤◌, ℕ, Bool, true, false, ◌&&◌, List, [], ◌∷◌, refl, sym, ap, subst, arith, inl, inr}
+use Rattle.std.proofs.Common.{◌≡◌, ◌∙◌, ◌<◌, ◌≤◌, ℕ, Bool, true, false, ◌&&◌, List, [], ◌∷◌, refl, sym, ap, subst, arith, inl, inr}
 use Rattle.std.specs.Prelude.{◌⊎◌, ◌==◌, nat_lt, nat_le, Option, None, Some, if◌then◌else◌}
-use Rattle.std.proofs.lemmas.Bool.{lt-ltb, le-ltb, le-leb, ltb-true, ltb-false, leb-true, eqb-true, eqb-false, cases_lt}
+use Rattle.std.proofs.lemmas.Bool.{ltb-true, ltb-false, leb-true, eqb-true, eqb-false, cases_lt}
 use Rattle.body_cutter.specs.declared.place.Wide.{Wide}
 use Rattle.body_cutter.specs.declared.place.Wide.TheVariants.{Whole, One, Two, Three, AfterE0, AfterEd, AfterEf, AfterEfBf, AfterF0, AfterF4}
-use Rattle.body_cutter.specs.Chars.{wide_begin, wide_next, after_tail, ends_whole, is_whole}
-use Rattle.body_cutter.specs.Utf8.{IsUtf8Of, is_tabled}
-use Rattle.body_cutter.proofs.Utf8Codes.{Tabled, with_character, encode_one, tabled_ascii, tabled_low, tabled_middle, tabled_high, two_bytes, three_bytes, four_bytes, code_three, code_four}
+use Rattle.body_cutter.specs.Chars.{wide_begin, wide_next, after_tail, ends_whole}
+use Rattle.body_cutter.specs.Utf8.{is_tabled}
+use Rattle.body_cutter.proofs.Utf8Codes.{Tabled, with_character, encode_one, tabled_ascii, tabled_low, tabled_middle, two_bytes, three_bytes, four_bytes, code_three, code_four}
 
 -- a byte of a range, and what follows it
 pub record Tail (low high : ℕ) (P : List ℕ → Type 0) (text : List ℕ) : Type 0 where

@@ -1,10 +1,9 @@
 -- The bytes of one character, as numbers.
-use Rattle.std.proofs.Common.{◌≡◌, ◌∙◌, ◌+◌, ◌-◌, ◌*◌, ◌<◌, ◌≤◌, ℕ, Bool, true, false, ◌&&◌, ◌||◌, List, [], ◌∷◌, ◌++◌, refl, sym, ap, arith}
+use Rattle.std.proofs.Common.{◌≡◌, ◌∙◌, ◌+◌, ◌-◌, ◌*◌, ◌<◌, ◌≤◌, ℕ, Bool, true, ◌&&◌, List, [], ◌∷◌, ◌++◌, refl, ap, arith}
 use Rattle.std.specs.Char.{encode_utf8}
-use Rattle.std.specs.Prelude.{◌/◌, ◌%◌, ◌⊎◌, nat_lt, nat_le, encode_utf8_all}
-use Rattle.std.proofs.Common.{inl, inr}
+use Rattle.std.specs.Prelude.{◌/◌, ◌%◌, ◌⊎◌, encode_utf8_all}
 use Rattle.std.specs.List.{list_all}
-use Rattle.std.proofs.lemmas.Bool.{lt-ltb, le-ltb, le-leb}
+use Rattle.std.proofs.lemmas.Bool.{lt-ltb, le-ltb}
 use Rattle.std.proofs.lemmas.Bool.Decides.{nat_tests}
 use Rattle.body_cutter.specs.Chars.{is_allowed}
 use Rattle.body_cutter.specs.Utf8.{IsUtf8Of, is_tabled}

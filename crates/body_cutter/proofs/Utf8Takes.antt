@@ -1,9 +1,9 @@
 -- The UTF-8 of characters is what the table of bytes takes.
-use Rattle.std.proofs.Common.{◌≡◌, ◌∙◌, ◌+◌, ◌<◌, ◌≤◌, ℕ, Bool, true, false, ◌&&◌, List, [], ◌∷◌, ◌++◌, refl, sym, ap, subst, arith, inl, inr}
+use Rattle.std.proofs.Common.{◌≡◌, ◌∙◌, ◌+◌, ◌<◌, ◌≤◌, ℕ, true, false, ◌&&◌, List, [], ◌∷◌, ◌++◌, refl, sym, ap, subst, arith, inl, inr}
 use Rattle.std.specs.Char.{encode_utf8}
 use Rattle.std.specs.Prelude.{◌⊎◌, ◌/◌, ◌%◌, nat_lt, nat_le, Option, None, Some, encode_utf8_all}
 use Rattle.std.specs.List.{list_all}
-use Rattle.std.proofs.lemmas.Bool.{lt-ltb, le-ltb, le-leb, ne_eqb, cases_lt, and_parts, and_from}
+use Rattle.std.proofs.lemmas.Bool.{lt-ltb, le-ltb, le-leb, ne_eqb, cases_lt, and_parts}
 use Rattle.body_cutter.specs.declared.place.Wide.{Wide}
 use Rattle.body_cutter.specs.declared.place.Wide.TheVariants.{Whole, One, Two, Three, AfterE0, AfterEd, AfterEf, AfterEfBf, AfterF0, AfterF4}
 use Rattle.body_cutter.specs.Chars.{wide_begin, wide_next, ends_whole}

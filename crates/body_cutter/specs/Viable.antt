@@ -1,5 +1,5 @@
 -- The prefixes of a text that some bytes complete, and the rows of the table of refusals by the longest of these.
-use Rattle.std.specs.Prelude.{◌≡◌, ℕ, Bool, true, false, ◌+◌, ◌<◌, ◌≤◌, ◌||◌, ◌==◌, List, [], ◌∷◌, ◌++◌, length, take, codes, Option, None, Some}
+use Rattle.std.specs.Prelude.{◌≡◌, ℕ, Bool, true, false, ◌<◌, ◌≤◌, ◌||◌, ◌==◌, List, ◌∷◌, ◌++◌, length, take, codes}
 use Rattle.body_cutter.specs.declared.parts.CutRefusal.{CutRefusal}
 use Rattle.body_cutter.specs.declared.parts.CutRefusal.TheVariants.{NotBody, Forbidden, Malformed}
 use Rattle.body_cutter.specs.Chars.{is_space}

@@ -13,7 +13,7 @@ fn refusal_of(alloc: Global, text: &[u8]) -> Result<Option<CutRefusal>, AllocErr
 
 #[test]
 fn refuses_at_the_first_wrong_place(rt: HostRuntime) -> Result<(), Fail> {
-    let rows: [(&str, Option<CutRefusal>); 67] = [
+    let rows: [(&str, Option<CutRefusal>); 62] = [
         ("", Some(CutRefusal::NotBody)),
         (
             "<body><a><!--x--></a></body>",
@@ -106,10 +106,20 @@ fn refuses_at_the_first_wrong_place(rt: HostRuntime) -> Result<(), Fail> {
         ("<body><a></a ></body\n>", None),
         ("<body><1/></body>", Some(CutRefusal::Malformed(7))),
         ("<body><é.ü-1 ö='' /></body>", None),
-        // A name that stands twice may grow.
+    ];
+    for (text, want) in &rows {
+        let found = refusal_of(rt.alloc(), text.as_bytes())?;
+        assert_eq!(rt; found, *want, "at {text}");
+    }
+    Ok(())
+}
+
+/// A name that stands twice may grow, and so may a number that is no allowed character, up to the last one.
+#[test]
+fn refuses_names_and_numbers_where_they_end(rt: HostRuntime) -> Result<(), Fail> {
+    let rows: [(&str, Option<CutRefusal>); 5] = [
         ("<body a='' a", Some(CutRefusal::Malformed(12))),
         ("<body a='' a=", Some(CutRefusal::Malformed(12))),
-        // A number that is no allowed character may grow, up to the last one.
         ("<body><a>&#x11", Some(CutRefusal::Malformed(14))),
         (
             "<body><a>&#xFFFF;</a></body>",
