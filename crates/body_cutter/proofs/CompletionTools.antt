@@ -13,18 +13,25 @@ use Rattle.body_cutter.specs.Tables.{content_next, body_content_next, child_cont
 use Rattle.body_cutter.specs.Reader.{place_next, move_of, matched}
 use Rattle.body_cutter.specs.Completion.{wide_rest, end_tags}
 use Rattle.body_cutter.proofs.Control.{Control, advance, accepts, is_final, done}
-use Rattle.body_cutter.proofs.Leads.{ctl}
-use Rattle.body_cutter.proofs.Taken.{Taken, by_byte}
+use Rattle.body_cutter.proofs.Leads.{ctl, runs}
 use Rattle.body_cutter.proofs.Utf8Takes.{Takes, byte_taken}
+
+-- the text is read to its end from here
+pub record Accepted (kind : Kind) (c : Control) (text : List ℕ) : Type 0 where
+  pub is : accepts kind c text ≡ true
+
+accepted_byte : {kind : Kind} {c next : Control} {b : ℕ} {text : List ℕ} → advance kind c b ≡ Some next → Accepted kind next text → Accepted kind c (b ∷ text)
+unfolding accepts
+accepted_byte {kind} {c} {next} {b} {text} e t = record { is = ap (λ (o : Option Control). runs kind o text) e ∙ t.is }
 
 -- the text completes the state
 pub record Finishes (kind : Kind) (c : Control) (w : Wide) (text : List ℕ) : Type 0 where
-  pub taken : Taken kind c text
+  pub taken : Accepted kind c text
   pub whole : Takes w text
 
 -- a byte that leads on
 pub by_both : {kind : Kind} {c next : Control} {w v : Wide} {b : ℕ} {text : List ℕ} → advance kind c b ≡ Some next → wide_next w b ≡ Some v → Finishes kind next v text → Finishes kind c w (b ∷ text)
-by_both e f t = record { taken = by_byte e t.taken; whole = byte_taken f t.whole }
+by_both e f t = record { taken = accepted_byte e t.taken; whole = byte_taken f t.whole }
 
 -- the rest of a character, where each byte from 128 on leads on
 pub wide_finishes : {I : Type 0} (kind : Kind) (at : I → Control) → ((i : I) (b : ℕ) → 128 ≤ b → (j : I) × (advance kind (at i) b ≡ Some (at j))) → {text : List ℕ} → ((i : I) → Finishes kind (at i) Whole text) → (w : Wide) (i : I) → Finishes kind (at i) w (wide_rest w ++ text)

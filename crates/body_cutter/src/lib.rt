@@ -3,23 +3,24 @@
 // right, and keeps the names of the open elements, so nothing recurs on depth.
 #![tactic(auto)]
 
+mod characters;
 mod chars;
 mod content;
 mod laws;
 mod names;
 mod parts;
 mod place;
+mod prefixes;
 mod prolog;
 mod reader;
 mod references;
 mod tags;
 mod whole_text;
 
-pub use laws::{
-    prefixes_are_viable_where_read, reader_takes_the_grammar, refusals_stand_in_their_rows,
-    texts_are_allowed_characters,
-};
+pub use characters::texts_are_allowed_characters;
+pub use laws::reader_takes_the_grammar;
 pub use parts::{Attr, Attrs, Cut, CutError, CutRefusal, Span, Spans};
+pub use prefixes::{prefixes_are_viable_where_read, refusals_stand_in_their_rows};
 pub use whole_text::{cut, read_stanza};
 
 #[cfg(test)]

@@ -1,6 +1,6 @@
 use Rattle.body_cutter.proofs.Utf8Allowed.{table_is, allowed_of, allowed_is}
 use Rattle.body_cutter.proofs.Utf8Bodies.{body_allowed, element_allowed}
-use Rattle.body_cutter.proofs.laws.texts_are_allowed_characters.Goals as goal
+use Rattle.body_cutter.proofs.characters.texts_are_allowed_characters.Goals as goal
 
 pub returns-clause-table : goal.returns-clause-table
 returns-clause-table c = table_is

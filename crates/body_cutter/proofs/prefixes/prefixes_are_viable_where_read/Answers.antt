@@ -1,5 +1,5 @@
 use Rattle.body_cutter.proofs.CompletionViable.{body_completed, stanza_completed, body_viable, stanza_viable}
-use Rattle.body_cutter.proofs.laws.prefixes_are_viable_where_read.Goals as goal
+use Rattle.body_cutter.proofs.prefixes.prefixes_are_viable_where_read.Goals as goal
 
 pub returns-clause-completed_body : goal.returns-clause-completed_body
 returns-clause-completed_body c = body_completed
