@@ -13,17 +13,25 @@ use Rattle.body_cutter.specs.BodyText.{IsBodyText, IsElementText}
 use Rattle.body_cutter.specs.Completion.{completion}
 use Rattle.body_cutter.specs.Viable.{IsViable, IsLongestViable, has_state}
 use Rattle.body_cutter.proofs.Stops.{stops, never_on}
-use Rattle.body_cutter.proofs.Leads.{both}
-use Rattle.body_cutter.proofs.Bodies.{body_split, stanza_split, body_read, stanza_read, body_is_read, stanza_is_read}
+use Rattle.body_cutter.proofs.Leads.{ctl, both}
+use Rattle.body_cutter.proofs.Bodies.{body_is_read, stanza_is_read}
+use Rattle.body_cutter.proofs.Product.{splits}
+use Rattle.body_cutter.proofs.Sound as sound
 use Rattle.body_cutter.proofs.Utf8Allowed.{whole_is_utf8}
 use Rattle.body_cutter.proofs.CompletionRuns.{completed, body_stands, stanza_stands}
 
 -- what the reader accepts is in the grammar
 pub body_accepted : (text : List ℕ) → is_accepted (reading 0 (first_state kinds.Body Start) text) ≡ true → IsBodyText text
-body_accepted text h = body_read text (whole_is_utf8 text (both (ends_whole Whole text) _ (sym (body_split text) ∙ h)).0) h
+unfolding first_state
+body_accepted text h =
+    let x = both (ends_whole Whole text) _ (sym (splits text 0 (first_state kinds.Body Start)) ∙ h) in
+    ((whole_is_utf8 text x.0, x.0), sound.completes kinds.Body text (ctl Start [] [] []) x.1 refl refl)
 
 pub stanza_accepted : (text : List ℕ) → is_accepted (reading 0 (first_state kinds.Stanza StanzaStart) text) ≡ true → IsElementText text
-stanza_accepted text h = stanza_read text (whole_is_utf8 text (both (ends_whole Whole text) _ (sym (stanza_split text) ∙ h)).0) h
+unfolding first_state
+stanza_accepted text h =
+    let x = both (ends_whole Whole text) _ (sym (splits text 0 (first_state kinds.Stanza StanzaStart)) ∙ h) in
+    ((whole_is_utf8 text x.0, x.0), sound.completes kinds.Stanza text (ctl StanzaStart [] [] []) x.1 refl)
 
 -- what completes the state completes the text
 pub body_completed : (front : List ℕ) (s : State) → reading 0 (first_state kinds.Body Start) front ≡ Ended s → IsBodyText (front ++ completion s)
