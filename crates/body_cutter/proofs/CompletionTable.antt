@@ -1,14 +1,17 @@
 -- The rows of the table for bodies and for stanzas.
 use Rattle.std.proofs.Common.{◌≡◌, true, false, List, [], ℕ, length, refl, inl, inr}
-use Rattle.std.specs.Prelude.{◌↔◌, Err, nat_lt}
+use Rattle.std.specs.Prelude.{◌↔◌, Result, Ok, Err, nat_lt, IfErr}
 use Rattle.std.specs.Str.{is_utf8}
 use Rattle.body_cutter.specs.declared.place.Place.TheVariants.{Start, StanzaStart}
 use Rattle.body_cutter.specs.declared.place.Kind.TheVariants as kinds
+use Rattle.body_cutter.specs.declared.parts.Cut.{Cut}
+use Rattle.body_cutter.specs.declared.parts.CutError.{CutError}
+use Rattle.body_cutter.specs.declared.parts.CutError.TheVariants.{Memory, Refused}
 use Rattle.body_cutter.specs.declared.parts.CutRefusal.{CutRefusal}
 use Rattle.body_cutter.specs.Reader.{State, first_state}
-use Rattle.body_cutter.specs.Refusal.{Ended, reading, text_answer, is_before_body, is_forbidden}
+use Rattle.body_cutter.specs.Refusal.{Ended, reading, text_answer, is_before_body, is_forbidden, unit_result, Answers}
 use Rattle.body_cutter.specs.BodyText.{IsBodyText, IsElementText}
-use Rattle.body_cutter.specs.Viable.{NamesBody, Anything, IsForbiddenAfter, Row, is_for_place}
+use Rattle.body_cutter.specs.Viable.{NamesBody, Anything, IsForbiddenAfter, Row, TellsRow, is_for_place}
 use Rattle.body_cutter.proofs.Leads.{ctl}
 use Rattle.body_cutter.proofs.Bodies.{body_is_read, stanza_is_read}
 use Rattle.body_cutter.proofs.CompletionViable.{body_completed, stanza_completed}
@@ -36,3 +39,14 @@ unfolding text_answer
 stanza_row text =
     answer_rowed IsElementText Anything (first_state kinds.Stanza StanzaStart) stanza_is_read stanza_completed
     (λ front s h. stanza_lands front _ (stanza_runs front s h)) stanza_forbids text (nat_lt 1000000 (length text)) (is_utf8 text)
+
+-- what a call tells that gives this answer
+module _ (P Fits : List ℕ → Type 0) (text : List ℕ) where
+  pub result_row : (r : Result Cut CutError) (answer : Result Cut CutRefusal) → Answers r answer → ((refusal : CutRefusal) → answer ≡ Err refusal → is_for_place refusal ≡ true → Row P Fits text refusal) → IfErr r (λ e. TellsRow P Fits e text)
+  result_row (Ok cut) answer h f = tt
+  result_row (Err Memory) answer h f = tt
+  result_row (Err (Refused refusal)) answer h f = f refusal h
+
+  pub unit_row : (r : Result Cut CutError) → IfErr r (λ e. TellsRow P Fits e text) → IfErr (unit_result r) (λ e. TellsRow P Fits e text)
+  unit_row (Ok cut) h = tt
+  unit_row (Err e) h = h

@@ -1,5 +1,7 @@
 -- The prefixes of a text that some bytes complete, and the rows of the table of refusals by the longest of these.
 use Rattle.std.specs.Prelude.{◌≡◌, ℕ, Bool, true, false, ◌<◌, ◌≤◌, ◌||◌, ◌==◌, List, ◌∷◌, ◌++◌, length, take, codes}
+use Rattle.body_cutter.specs.declared.parts.CutError.{CutError}
+use Rattle.body_cutter.specs.declared.parts.CutError.TheVariants.{Memory, Refused}
 use Rattle.body_cutter.specs.declared.parts.CutRefusal.{CutRefusal}
 use Rattle.body_cutter.specs.declared.parts.CutRefusal.TheVariants.{NotBody, Forbidden, Malformed}
 use Rattle.body_cutter.specs.Chars.{is_space}
@@ -88,3 +90,8 @@ is_for_place _ = false
 -- what every prefix of a stanza fits
 abbrev pub Anything : List ℕ → Type 0
 Anything front = Unit {0}
+
+-- what an error tells by its row, if it is for a place; want of memory tells nothing
+abbrev pub TellsRow : (List ℕ → Type 0) → (List ℕ → Type 0) → CutError → List ℕ → Type 0
+TellsRow P Fits Memory text = Unit {0}
+TellsRow P Fits (Refused refusal) text = is_for_place refusal ≡ true → Row P Fits text refusal

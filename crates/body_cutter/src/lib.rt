@@ -20,7 +20,7 @@ mod whole_text;
 pub use characters::texts_are_allowed_characters;
 pub use laws::reader_takes_the_grammar;
 pub use parts::{Attr, Attrs, Cut, CutError, CutRefusal, Span, Spans};
-pub use prefixes::{prefixes_are_viable_where_read, refusals_stand_in_their_rows};
+pub use prefixes::prefixes_are_viable_where_read;
 pub use whole_text::{cut, read_stanza};
 
 #[cfg(test)]

@@ -7,6 +7,7 @@ ghost use Rattle.body_cutter.specs.Reader.{first_state};
 ghost use Rattle.body_cutter.specs.Reading.{state_of};
 ghost use Rattle.body_cutter.specs.Refusal.{Answers, ended_refusal, ends_in_section_start, is_before_body, is_complete, is_forbidden, is_opened, is_content, limit_refusal, reading, read_answer, stopped_refusal, text_answer, unit_answer, unit_result, ReadsTo};
 ghost use Rattle.body_cutter.specs.BodyText.{IsBodyText, IsElementText, Tells};
+ghost use Rattle.body_cutter.specs.Viable.{Anything, NamesBody, TellsRow};
 
 use crate::parts::{Cut, CutError, CutRefusal};
 use crate::place::{Kind, Place, Wide};
@@ -207,6 +208,8 @@ pub fn cut(alloc: Global, text: &[u8]) -> Result<Cut, CutError>
     ensures body { IfOk result (λ _. IsBodyText text.now) }
     // A refusal by the grammar is right, and one by a limit is of a text in the grammar.
     ensures refused { IfErr result (λ e. Tells IsBodyText 1048576 e text.now) }
+    // A refusal for its place stands in its row of the table, by the longest prefix that some bytes complete.
+    ensures row { IfErr result (λ e. TellsRow IsBodyText NamesBody e text.now) }
 {
     parts_of(alloc, Kind::Body, Place::Start, LONGEST_BODY, text)
 }
@@ -220,6 +223,8 @@ pub fn read_stanza(alloc: Global, text: &[u8]) -> Result<(), CutError>
     ensures stanza { OnOk result (IsElementText text.now) }
     // A refusal by the grammar is right, and one by a limit is of a text in the grammar.
     ensures refused { IfErr result (λ e. Tells IsElementText 1000000 e text.now) }
+    // A refusal for its place stands in its row of the table, by the longest prefix that some bytes complete.
+    ensures row { IfErr result (λ e. TellsRow IsElementText Anything e text.now) }
 {
     let parts = parts_of(
         alloc,
