@@ -11,9 +11,17 @@ pub mod SoundContent
 pub mod SoundMarkup
 pub mod SoundReferences
 pub mod Sound
+pub mod Flow
+pub mod Folds
 pub mod Taken
 pub mod TakenReferences
+pub mod TakenValues
 pub mod TakenTags
 pub mod TakenContent
 pub mod TakenDocument
+pub mod Runs
+pub mod Limits
+pub mod ValuesKept
+pub mod PartsKept
+pub mod Readings
 pub mod Bodies

@@ -6,4 +6,5 @@ pub mod Reader
 pub mod Reading
 pub mod Refusal
 pub mod Grammar
+pub mod Parts
 pub mod BodyText

@@ -3,10 +3,18 @@ ghost use Rattle.body_cutter.specs.declared.place.Place.TheVariants.{Start, Stan
 ghost use Rattle.body_cutter.specs.declared.place.Kind.TheVariants as kinds;
 ghost use Rattle.body_cutter.specs.Reader.{first_state};
 ghost use Rattle.body_cutter.specs.Refusal.{is_accepted, reading};
-ghost use Rattle.body_cutter.specs.BodyText.{IsBodyText, IsElementText};
+ghost use Rattle.body_cutter.specs.Parts.{Parts};
+ghost use Rattle.body_cutter.specs.BodyText.{HasBodyParts, HasElementParts, IsBodyText, IsElementText, limit_passed};
 
 /// The reader takes exactly the texts of the grammar.
 pub fn reader_takes_the_grammar()
     ensures body { (text : List ℕ) → IsUtf8 text → (is_accepted (reading 0 (first_state kinds.Body Start) text) ≡ true) ↔ IsBodyText text }
     ensures stanza { (text : List ℕ) → IsUtf8 text → (is_accepted (reading 0 (first_state kinds.Stanza StanzaStart) text) ≡ true) ↔ IsElementText text }
+{}
+
+/// A text has one reading: its attributes and children, and the first limit that it passes.
+pub fn a_text_has_one_reading()
+    ensures body { (text : List ℕ) (one other : Parts) → HasBodyParts text one → HasBodyParts text other →
+        (one.attributes ≡ other.attributes) × (one.children ≡ other.children) × (limit_passed one ≡ limit_passed other) }
+    ensures stanza { (text : List ℕ) (one other : Parts) → HasElementParts text one → HasElementParts text other → limit_passed one ≡ limit_passed other }
 {}

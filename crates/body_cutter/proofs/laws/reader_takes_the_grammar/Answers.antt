@@ -1,4 +1,5 @@
-use Rattle.body_cutter.proofs.Bodies.{body_read, body_is_read, stanza_read, stanza_is_read}
+use Rattle.body_cutter.proofs.Bodies.{body_read, stanza_read}
+use Rattle.body_cutter.proofs.Readings.{body_is_read, stanza_is_read}
 use Rattle.body_cutter.proofs.laws.reader_takes_the_grammar.Goals as goal
 
 pub returns-clause-body : goal.returns-clause-body
