@@ -24,4 +24,9 @@ pub mod Limits
 pub mod ValuesKept
 pub mod PartsKept
 pub mod Readings
+pub mod Fronts
+pub mod ElementFronts
+pub mod Slices
+pub mod ChildPieces
+pub mod NamePieces
 pub mod Bodies

@@ -8,3 +8,4 @@ pub mod Refusal
 pub mod Grammar
 pub mod Parts
 pub mod BodyText
+pub mod Pieces

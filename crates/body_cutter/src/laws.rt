@@ -1,10 +1,12 @@
 ghost use Rattle.std.specs.Prelude.{◌≡◌, ℕ, ◌↔◌, List, true, IsUtf8};
+ghost use Rattle.std.specs.List.{All};
 ghost use Rattle.body_cutter.specs.declared.place.Place.TheVariants.{Start, StanzaStart};
 ghost use Rattle.body_cutter.specs.declared.place.Kind.TheVariants as kinds;
 ghost use Rattle.body_cutter.specs.Reader.{first_state};
 ghost use Rattle.body_cutter.specs.Refusal.{is_accepted, reading};
 ghost use Rattle.body_cutter.specs.Parts.{Parts};
 ghost use Rattle.body_cutter.specs.BodyText.{HasBodyParts, HasElementParts, IsBodyText, IsElementText, limit_passed};
+ghost use Rattle.body_cutter.specs.Pieces.{IsNamed, IsPiece};
 
 /// The reader takes exactly the texts of the grammar.
 pub fn reader_takes_the_grammar()
@@ -17,4 +19,10 @@ pub fn a_text_has_one_reading()
     ensures body { (text : List ℕ) (one other : Parts) → HasBodyParts text one → HasBodyParts text other →
         (one.attributes ≡ other.attributes) × (one.children ≡ other.children) × (limit_passed one ≡ limit_passed other) }
     ensures stanza { (text : List ℕ) (one other : Parts) → HasElementParts text one → HasElementParts text other → limit_passed one ≡ limit_passed other }
+{}
+
+/// The parts of a body are pieces of its text: names, and elements by themselves within the body's limits.
+pub fn parts_are_pieces()
+    ensures attributes { (text : List ℕ) (parts : Parts) → HasBodyParts text parts → All (IsNamed text) parts.attributes }
+    ensures children { (text : List ℕ) (parts : Parts) → HasBodyParts text parts → All (IsPiece text parts) parts.children }
 {}
