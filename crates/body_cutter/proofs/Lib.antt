@@ -29,4 +29,7 @@ pub mod ElementFronts
 pub mod Slices
 pub mod ChildPieces
 pub mod NamePieces
+pub mod BuiltChildren
+pub mod BuiltBodies
+pub mod Spelling
 pub mod Bodies

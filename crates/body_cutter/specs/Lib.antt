@@ -9,3 +9,4 @@ pub mod Grammar
 pub mod Parts
 pub mod BodyText
 pub mod Pieces
+pub mod Built

@@ -1,12 +1,13 @@
-ghost use Rattle.std.specs.Prelude.{◌≡◌, ℕ, ◌↔◌, List, true, IsUtf8};
+ghost use Rattle.std.specs.Prelude.{◌≡◌, ◌≤◌, ℕ, ◌↔◌, List, [], length, true, IsUtf8};
 ghost use Rattle.std.specs.List.{All};
 ghost use Rattle.body_cutter.specs.declared.place.Place.TheVariants.{Start, StanzaStart};
 ghost use Rattle.body_cutter.specs.declared.place.Kind.TheVariants as kinds;
 ghost use Rattle.body_cutter.specs.Reader.{first_state};
 ghost use Rattle.body_cutter.specs.Refusal.{is_accepted, reading};
 ghost use Rattle.body_cutter.specs.Parts.{Parts};
-ghost use Rattle.body_cutter.specs.BodyText.{HasBodyParts, HasElementParts, IsBodyText, IsElementText, limit_passed};
+ghost use Rattle.body_cutter.specs.BodyText.{HasBodyParts, HasElementParts, IsBodyText, IsElementText, IsText, limit_passed};
 ghost use Rattle.body_cutter.specs.Pieces.{IsNamed, IsPiece};
+ghost use Rattle.body_cutter.specs.Built.{AreFresh, IsElementWithin, IsWritten, ReadsBack, Written, built_text};
 
 /// The reader takes exactly the texts of the grammar.
 pub fn reader_takes_the_grammar()
@@ -25,4 +26,11 @@ pub fn a_text_has_one_reading()
 pub fn parts_are_pieces()
     ensures attributes { (text : List ℕ) (parts : Parts) → HasBodyParts text parts → All (IsNamed text) parts.attributes }
     ensures children { (text : List ℕ) (parts : Parts) → HasBodyParts text parts → All (IsPiece text parts) parts.children }
+{}
+
+/// A body that is built of attributes and elements has these attributes and these children.
+pub fn built_bodies_read_back()
+    ensures { (attributes : List Written) (elements : List (List ℕ)) (most depth : ℕ) → IsText (built_text attributes elements) →
+        All IsWritten attributes → AreFresh [] attributes → length attributes ≤ most → All (IsElementWithin most depth) elements →
+        ReadsBack (built_text attributes elements) attributes elements most depth }
 {}

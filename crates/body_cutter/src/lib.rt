@@ -15,7 +15,9 @@ mod references;
 mod tags;
 mod whole_text;
 
-pub use laws::{a_text_has_one_reading, parts_are_pieces, reader_takes_the_grammar};
+pub use laws::{
+    a_text_has_one_reading, built_bodies_read_back, parts_are_pieces, reader_takes_the_grammar,
+};
 pub use parts::{Attr, Attrs, Cut, CutError, CutRefusal, Span, Spans};
 pub use whole_text::{cut, read_stanza};
 
