@@ -1,5 +1,5 @@
 -- What a text gives, in the words of the grammar.
-use Rattle.std.proofs.Common.{◌≡◌, ◌∙◌, ◌≤◌, ℕ, Bool, true, false, List, [], length, refl, sym, ap, subst, arith}
+use Rattle.std.proofs.Common.{◌≡◌, ◌∙◌, ◌≤◌, ℕ, Bool, true, false, ◌&&◌, List, [], length, refl, sym, ap, subst, arith}
 use Rattle.std.specs.Prelude.{Option, None, Some, Result, Ok, Err, nat_lt, MatchResult, IfOk, IfErr, OnOk, if◌then◌else◌}
 use Rattle.std.specs.Str.{is_utf8, IsUtf8}
 use Rattle.std.proofs.lemmas.Bool.{ltb-true}
@@ -19,22 +19,30 @@ use Rattle.body_cutter.specs.Refusal.{Reading, Ended, Stopped, reading, is_accep
 use Rattle.body_cutter.specs.Parts.{Parts, document_parts, single_parts}
 use Rattle.body_cutter.specs.BodyText.{IsBodyText, IsElementText, HasBodyParts, HasElementParts, IsWithinLimits, IsBody, IsStanza, IsReadable, IsWrongAt, RefusalTells, Tells, limit_passed, cut_with, answer_of}
 use Rattle.body_cutter.proofs.Stops.{never_on}
+use Rattle.body_cutter.proofs.Control.{accepts}
 use Rattle.body_cutter.proofs.Leads.{ctl, both}
 use Rattle.body_cutter.proofs.Product.{splits}
 use Rattle.body_cutter.proofs.Sound.{completes}
 use Rattle.body_cutter.proofs.Readings.{body_is_read, stanza_is_read, body_reading, stanza_reading}
 
--- a reading from the start that takes the text takes one of the grammar
-pub body_read : (text : List ℕ) → IsUtf8 text → is_accepted (reading 0 (first_state kinds.Body Start) text) ≡ true → IsBodyText text
+-- a reading from the start takes the text exactly where its bytes end whole characters and its control takes it
+pub body_split : (text : List ℕ) → is_accepted (reading 0 (first_state kinds.Body Start) text) ≡ (ends_whole Whole text && accepts kinds.Body (ctl Start [] [] []) text)
 unfolding first_state
+body_split text = splits text 0 (first_state kinds.Body Start)
+
+pub stanza_split : (text : List ℕ) → is_accepted (reading 0 (first_state kinds.Stanza StanzaStart) text) ≡ (ends_whole Whole text && accepts kinds.Stanza (ctl StanzaStart [] [] []) text)
+unfolding first_state
+stanza_split text = splits text 0 (first_state kinds.Stanza StanzaStart)
+
+-- what it takes is in the grammar
+pub body_read : (text : List ℕ) → IsUtf8 text → is_accepted (reading 0 (first_state kinds.Body Start) text) ≡ true → IsBodyText text
 body_read text u h =
-    let x = both (ends_whole Whole text) _ (sym (splits text 0 (first_state kinds.Body Start)) ∙ h) in
+    let x = both (ends_whole Whole text) _ (sym (body_split text) ∙ h) in
     ((u, x.0), completes kinds.Body text (ctl Start [] [] []) x.1 refl refl)
 
 pub stanza_read : (text : List ℕ) → IsUtf8 text → is_accepted (reading 0 (first_state kinds.Stanza StanzaStart) text) ≡ true → IsElementText text
-unfolding first_state
 stanza_read text u h =
-    let x = both (ends_whole Whole text) _ (sym (splits text 0 (first_state kinds.Stanza StanzaStart)) ∙ h) in
+    let x = both (ends_whole Whole text) _ (sym (stanza_split text) ∙ h) in
     ((u, x.0), completes kinds.Stanza text (ctl StanzaStart [] [] []) x.1 refl)
 
 not_over : (limit n : ℕ) → nat_lt limit n ≡ false → n ≤ limit
