@@ -13,7 +13,7 @@ use Rattle.body_cutter.specs.Refusal.{Ended, reading, text_answer, is_before_bod
 use Rattle.body_cutter.specs.BodyText.{IsBodyText, IsElementText}
 use Rattle.body_cutter.specs.Viable.{NamesBody, Anything, IsForbiddenAfter, Row, TellsRow, is_for_place}
 use Rattle.body_cutter.proofs.Leads.{ctl}
-use Rattle.body_cutter.proofs.Bodies.{body_is_read, stanza_is_read}
+use Rattle.body_cutter.proofs.Readings.{body_is_read, stanza_is_read}
 use Rattle.body_cutter.proofs.CompletionViable.{body_completed, stanza_completed}
 use Rattle.body_cutter.proofs.CompletionNamed.{body_lands, stanza_lands, body_runs, stanza_runs}
 use Rattle.body_cutter.proofs.CompletionForbidden.{forbidden_is}

@@ -14,7 +14,7 @@ use Rattle.body_cutter.specs.Completion.{completion}
 use Rattle.body_cutter.specs.Viable.{IsViable, IsLongestViable, has_state}
 use Rattle.body_cutter.proofs.Stops.{stops, never_on}
 use Rattle.body_cutter.proofs.Leads.{ctl, both}
-use Rattle.body_cutter.proofs.Bodies.{body_is_read, stanza_is_read}
+use Rattle.body_cutter.proofs.Readings.{body_is_read, stanza_is_read}
 use Rattle.body_cutter.proofs.Product.{splits}
 use Rattle.body_cutter.proofs.Sound as sound
 use Rattle.body_cutter.proofs.Utf8Allowed.{whole_is_utf8}

@@ -9,4 +9,7 @@ pub mod Viable
 pub mod Reading
 pub mod Refusal
 pub mod Grammar
+pub mod Parts
 pub mod BodyText
+pub mod Pieces
+pub mod Built

@@ -18,7 +18,9 @@ mod tags;
 mod whole_text;
 
 pub use characters::texts_are_allowed_characters;
-pub use laws::reader_takes_the_grammar;
+pub use laws::{
+    a_text_has_one_reading, built_bodies_read_back, parts_are_pieces, reader_takes_the_grammar,
+};
 pub use parts::{Attr, Attrs, Cut, CutError, CutRefusal, Span, Spans};
 pub use prefixes::prefixes_are_viable_where_read;
 pub use whole_text::{cut, read_stanza};

@@ -1,4 +1,4 @@
-use Rattle.body_cutter.proofs.Bodies.{body_is_read, stanza_is_read}
+use Rattle.body_cutter.proofs.Readings.{body_is_read, stanza_is_read}
 use Rattle.body_cutter.proofs.CompletionViable.{body_accepted, stanza_accepted}
 use Rattle.body_cutter.proofs.laws.reader_takes_the_grammar.Goals as goal
 
