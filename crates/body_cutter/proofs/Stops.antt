@@ -1,9 +1,9 @@
 -- Where a reading stops, it stops whatever follows.
-use Rattle.std.proofs.Common.{◌≡◌, ◌∙◌, ◌+◌, ◌<◌, ℕ, suc, zero, Bool, true, false, List, [], ◌∷◌, ◌++◌, length, take, refl, sym, ap, subst, arith, append_assoc}
+use Rattle.std.proofs.Common.{◌≡◌, ◌∙◌, ◌+◌, ℕ, true, false, List, [], ◌∷◌, ◌++◌, length, take, refl, sym, ap, arith, append_assoc}
 use Rattle.std.proofs.Math.Seq.{take-append-add}
 use Rattle.std.specs.Prelude.{Option, None, Some}
 use Rattle.body_cutter.specs.Reader.{State, step}
-use Rattle.body_cutter.specs.Refusal.{Reading, Ended, Stopped, reading, is_accepted}
+use Rattle.body_cutter.specs.Refusal.{Reading, Stopped, reading, is_accepted}
 
 -- the text has b at this place, and no text that goes so far goes on
 abbrev pub StopsAt : List ℕ → ℕ → State → ℕ → ℕ → State → Type 0

@@ -1,22 +1,16 @@
 -- Tools for the other way: what is in the grammar is taken.
-use Rattle.std.proofs.Common.{◌≡◌, ◌∙◌, ℕ, Bool, true, false, List, ◌∷◌, refl, sym, ap, subst}
+use Rattle.std.proofs.Common.{◌≡◌, ◌∙◌, ◌+◌, ℕ, Bool, true, false, List, refl, sym, ap, subst}
 use Rattle.std.specs.Prelude.{Option, Some, ◌==◌, not}
 use Rattle.std.proofs.lemmas.Bool.{eqb-true}
 use Rattle.body_cutter.specs.declared.place.Place.{Place}
 use Rattle.body_cutter.specs.declared.place.Kind.{Kind}
+use Rattle.body_cutter.specs.declared.place.Reference.{Reference}
 use Rattle.body_cutter.specs.Chars.{is_space, is_letter, is_digit, begins_name_plainly, grows_name_plainly, is_name_start, is_name_byte}
 use Rattle.body_cutter.specs.Grammar.{Spaces}
-use Rattle.body_cutter.proofs.Control.{Control, advance, accepts}
-use Rattle.body_cutter.proofs.Leads.{ctl, runs}
-
--- the text is taken from here
-pub record Taken (kind : Kind) (c : Control) (text : List ℕ) : Type 0 where
-  pub is : accepts kind c text ≡ true
-
--- a byte that leads on
-pub by_byte : {kind : Kind} {c next : Control} {b : ℕ} {text : List ℕ} → advance kind c b ≡ Some next → Taken kind next text → Taken kind c (b ∷ text)
-unfolding accepts
-by_byte {kind} {c} {next} {b} {text} e t = record { is = ap (λ (o : Option Control). runs kind o text) e ∙ t.is }
+use Rattle.body_cutter.specs.Reader.{State, with_value, with_attr, without_element, is_body_tag}
+use Rattle.body_cutter.specs.Names.{around, without_first}
+use Rattle.body_cutter.proofs.Flow.{Words, Kept, Taken, by_byte, proceed, state, st, words}
+use Rattle.body_cutter.proofs.Folds.{grown, attributed, closed}
 
 -- where one byte passes a test and another doesn't
 differs_at : (test : ℕ → Bool) (b n : ℕ) (t : Bool) → (b == n) ≡ t → test b ≡ true → test n ≡ false → (b == n) ≡ false
@@ -59,9 +53,9 @@ pub space_differs : (b n : ℕ) → is_space b ≡ true → is_space n ≡ false
 space_differs b n h f = differs is_space b n h f
 
 -- white space where it leaves the state as it is
-pub spaces_taken : {kind : Kind} {c : Control} {text rest : List ℕ} → ((b : ℕ) → is_space b ≡ true → advance kind c b ≡ Some c) → Spaces text rest → Taken kind c rest → Taken kind c text
+pub spaces_taken : {len : ℕ} {s : State} {k : Kept} {text rest : List ℕ} → ((at b : ℕ) → is_space b ≡ true → proceed s at b ≡ Some s) → Spaces text rest → Taken len s rest k → Taken len s text k
 spaces_taken stays Spaces.none t = t
-spaces_taken stays (Spaces.more e s) t = by_byte (stays _ e) (spaces_taken stays s t)
+spaces_taken stays (Spaces.more e s) t = by_byte (stays _ _ e) (spaces_taken stays s t)
 
 pub not_of : (b : Bool) → not b ≡ true → b ≡ false
 not_of true h = absurd_of h
@@ -70,6 +64,24 @@ not_of true h = absurd_of h
     absurd_of h = absurd (cc)
 not_of false h = refl
 
--- the same name written otherwise
-pub renamed : {kind : Kind} {place : Place} {elements : List (List ℕ)} {name other : List ℕ} {seen : List (List ℕ)} {text : List ℕ} → name ≡ other → Taken kind (ctl place elements name seen) text → Taken kind (ctl place elements other seen) text
-renamed {kind} {place} {elements} {name} {other} {seen} {text} e t = subst (λ (n : List ℕ). Taken kind (ctl place elements n seen) text) e t
+-- the same name otherwise written
+pub renamed : {len : ℕ} {kind : Kind} {place : Place} {elements : List (List ℕ)} {start stop : ℕ} {seen : List (List ℕ)} {name other : List ℕ} {k end : Kept} {text : List ℕ} → name ≡ other →
+    Taken len (st kind place elements (words name start stop seen) k) text end → Taken len (st kind place elements (words other start stop seen) k) text end
+renamed {len} {kind} {place} {elements} {start} {stop} {seen} {k = k} {end} {text} e t = subst (λ (n : List ℕ). Taken len (st kind place elements (words n start stop seen) k) text end) e t
+
+-- what a move adds goes by whether the tag is the body's
+module _ (kind : Kind) (place : Place) (reference : Option Reference) (elements : List (List ℕ)) (w : Words) (k : Kept) where
+  pub value_grown : (body : Bool) → is_body_tag (around kind elements) ≡ body → (bytes : List ℕ) → with_value (state kind place reference elements w k) bytes ≡ state kind place reference elements w (grown body bytes k)
+  unfolding with_value
+  value_grown true e bytes = rw e refl
+  value_grown false e bytes = rw e refl
+
+  pub attr_added : (body : Bool) → is_body_tag (around kind elements) ≡ body → with_attr (state kind place reference elements w k) ≡ state kind place reference elements w (attributed body (record { start = w.start; end = w.end }) k)
+  unfolding with_attr
+  attr_added true e = rw e refl
+  attr_added false e = rw e refl
+
+  pub child_added : (child : Bool) → is_body_tag (around kind (without_first elements)) ≡ child → (at : ℕ) → without_element (state kind place reference elements w k) at ≡ state kind place reference (without_first elements) w (closed child (at + 1) k)
+  unfolding without_element
+  child_added true e at = rw e refl
+  child_added false e at = rw e refl

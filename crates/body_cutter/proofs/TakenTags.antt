@@ -1,154 +1,79 @@
 -- Tags of the grammar are taken.
-use Rattle.std.proofs.Common.{◌≡◌, ℕ, Bool, true, false, ◌&&◌, ◌||◌, List, [], ◌∷◌, ◌++◌, refl, sym, subst, append_assoc, append-nil, inl, inr}
-use Rattle.std.specs.Prelude.{◌⊎◌, Option, Some, ◌==◌, not, if◌then◌else◌}
-use Rattle.std.proofs.lemmas.Bool.{eqb-true, eq-eqb}
+use Rattle.std.proofs.Common.{◌≡◌, ◌+◌, ◌-◌, ◌≤◌, ℕ, Bool, true, false, List, [], ◌∷◌, ◌++◌, length, refl, sym, append_assoc, append-nil, arith}
 use Rattle.body_cutter.specs.declared.place.Place.{Place}
-use Rattle.body_cutter.specs.declared.place.Place.TheVariants.{TagName, TagSpace, AttrName, AttrEquals, AttrQuote, Value as InValue, AfterValue, Content as InContent}
-use Rattle.body_cutter.specs.declared.place.Act.{Act}
-use Rattle.body_cutter.specs.declared.place.Act.TheVariants.{Pass, ValueByte, ValueChar}
-use Rattle.body_cutter.specs.declared.place.Move.{Move}
+use Rattle.body_cutter.specs.declared.place.Place.TheVariants.{TagName, TagSpace, TagSlash, AttrName, AfterValue, Content as InContent}
 use Rattle.body_cutter.specs.declared.place.Kind.{Kind}
-use Rattle.body_cutter.specs.Chars.{is_space, is_name_start, is_name_byte, is_char_byte, grows_name_plainly, begins_name_plainly, is_letter, is_digit}
-use Rattle.body_cutter.specs.Names.{has_name, with_name}
-use Rattle.body_cutter.specs.Tables.{goes, goes_if, name_ended, tag_name_next, tag_space_next, tag_slash_next, attr_name_next, attr_equals_next, attr_quote_next, value_next, value_plain, after_value_next}
-use Rattle.body_cutter.specs.Reader.{place_next, move_of}
-use Rattle.body_cutter.specs.Grammar.{Spaces, NameRest, Name, Value, TagRest, is_quote, is_value_byte}
-use Rattle.body_cutter.proofs.Control.{Control, advance, done}
-use Rattle.body_cutter.proofs.Leads.{ctl, both}
-use Rattle.body_cutter.proofs.Taken.{Taken, by_byte, differs, start_no_space, start_differs, byte_no_space, space_no_name, space_differs, spaces_taken, not_of, renamed}
-use Rattle.body_cutter.proofs.TakenReferences.{reference_taken}
+use Rattle.body_cutter.specs.Chars.{is_space, is_name_start, is_name_byte, grows_name_plainly, begins_name_plainly, is_letter, is_digit}
+use Rattle.body_cutter.specs.Names.{around}
+use Rattle.body_cutter.specs.Tables.{name_ended, tag_name_next, tag_space_next, tag_slash_next, after_value_next}
+use Rattle.body_cutter.specs.Reader.{place_next, move_of, next_move, acted, is_body_tag, with_name_begun, with_name_grown, with_element}
+use Rattle.body_cutter.specs.Grammar.{NameRest, Name, TagRest}
+use Rattle.body_cutter.proofs.Flow.{Words, Kept, Taken, by_byte, by_last_byte, proceed, st, words}
+use Rattle.body_cutter.proofs.Folds.{closed, deepened, tag_kept}
+use Rattle.body_cutter.proofs.Taken.{start_differs, start_no_space, space_no_name, space_differs, renamed, child_added}
+use Rattle.body_cutter.proofs.TakenValues.{attribute_taken}
 
-module _ (kind : Kind) (outer : List (List ℕ)) where
+module _ (len : ℕ) (kind : Kind) (outer : List (List ℕ)) (start stop : ℕ) (seen : List (List ℕ)) (k end : Kept) where
   -- a name's bytes
-  pub tag_name_taken : {more text rest : List ℕ} (name : List ℕ) (seen : List (List ℕ)) → NameRest more text rest → Taken kind (ctl TagName outer (name ++ more) seen) rest → Taken kind (ctl TagName outer name seen) text
-  unfolding advance move_of place_next tag_name_next done
-  tag_name_taken name seen NameRest.none t = renamed (append-nil name) t
-  tag_name_taken name seen (NameRest.more {b = b} {name = more} e n) t =
-      by_byte {next = ctl TagName outer (name ++ b ∷ []) seen} (rw e refl)
-      (tag_name_taken (name ++ b ∷ []) seen n (renamed (sym (append_assoc name (b ∷ []) more)) t))
-
-  pub attr_name_taken : {more text rest : List ℕ} (name : List ℕ) (seen : List (List ℕ)) → NameRest more text rest → Taken kind (ctl AttrName outer (name ++ more) seen) rest → Taken kind (ctl AttrName outer name seen) text
-  unfolding advance move_of place_next attr_name_next done is_name_byte grows_name_plainly begins_name_plainly is_letter is_digit
-  attr_name_taken name seen NameRest.none t = renamed (append-nil name) t
-  attr_name_taken name seen (NameRest.more {b = b} {name = more} e n) t =
-      by_byte {next = ctl AttrName outer (name ++ b ∷ []) seen} (rw (differs is_name_byte b 61 e refl, byte_no_space b e, e) refl)
-      (attr_name_taken (name ++ b ∷ []) seen n (renamed (sym (append_assoc name (b ∷ []) more)) t))
-
--- where a byte of a value leads
-abbrev Leads : ℕ → Option Move → Type 0
-Leads quote o = (after_cr : Bool) × (act : Act) × (o ≡ goes (InValue quote after_cr) act) × ((c : Control) (b : ℕ) → done act c b ≡ Some c)
-
-plain_of : (quote : ℕ) (t u v w : Bool) → w ≡ true →
-    Leads quote (if t then goes (InValue quote false) Pass else if u then goes (InValue quote true) (ValueChar 32) else if v then goes (InValue quote false) (ValueChar 32) else goes_if w (InValue quote false) ValueByte)
-unfolding done
-plain_of quote true u v w e = (false, Pass, refl, λ c b. refl)
-plain_of quote false true v w e = (true, ValueChar 32, refl, λ c b. refl)
-plain_of quote false false true w e = (false, ValueChar 32, refl, λ c b. refl)
-plain_of quote false false false true e = (false, ValueByte, refl, λ c b. refl)
-plain_of quote false false false false e = absurd_of e
-  where
-    absurd_of : {P : Type 0} → false ≡ true → P
-    absurd_of h = absurd (cc)
-
-plain_leads : (quote : ℕ) (after_cr : Bool) (b : ℕ) → is_char_byte b ≡ true → Leads quote (value_plain quote after_cr b)
-unfolding value_plain
-plain_leads quote after_cr b e = plain_of quote (b == 10 && after_cr) (b == 13) (b == 10 || b == 9) (is_char_byte b) e
-
-module _ (kind : Kind) (elements : List (List ℕ)) (name : List ℕ) (seen : List (List ℕ)) (quote : ℕ) (no_amp : (38 == quote) ≡ false) where
-  value_step : (after_cr x : Bool) (act : Act) (b : ℕ) {text : List ℕ} → (b == quote) ≡ false → (b == 60) ≡ false → (b == 38) ≡ false → value_plain quote after_cr b ≡ goes (InValue quote x) act →
-      done act (ctl (InValue quote after_cr) elements name seen) b ≡ Some (ctl (InValue quote after_cr) elements name seen) →
-      Taken kind (ctl (InValue quote x) elements name seen) text → Taken kind (ctl (InValue quote after_cr) elements name seen) (b ∷ text)
-  unfolding advance move_of place_next value_next
-  value_step after_cr x act b q l a p d t = by_byte {next = ctl (InValue quote x) elements name seen} (rw (q, l, a, p, d) refl) t
-
-  value_char : (after_cr : Bool) (b : ℕ) {text : List ℕ} → is_value_byte quote b ≡ true → ((after_cr : Bool) → Taken kind (ctl (InValue quote after_cr) elements name seen) text) → Taken kind (ctl (InValue quote after_cr) elements name seen) (b ∷ text)
-  value_char after_cr b e t =
-      let x = both (is_char_byte b) _ e in
-      let y = both (not (b == quote)) _ x.1 in
-      let z = both (not (b == 60)) _ y.1 in
-      let k = plain_leads quote after_cr b x.0 in
-      value_step after_cr k.0 k.1 b (not_of (b == quote) y.0) (not_of (b == 60) z.0) (not_of (b == 38) z.1) k.2 (k.3 (ctl (InValue quote after_cr) elements name seen) b) (t k.0)
-
-  value_taken : {text rest : List ℕ} → Value quote text rest → Taken kind (ctl AfterValue elements name seen) rest → (after_cr : Bool) → Taken kind (ctl (InValue quote after_cr) elements name seen) text
-  unfolding advance move_of place_next value_next done
-  value_taken Value.ends t after_cr = by_byte {next = ctl AfterValue elements name seen} (rw (same quote) refl) t
-    where
-      same : (n : ℕ) → (n == n) ≡ true
-      same n = eq-eqb n n refl
-  value_taken (Value.char {b = b} e v) t after_cr = value_char after_cr b e (λ x. value_taken v t x)
-  value_taken (Value.reference r v) t after_cr = by_byte (rw no_amp refl) (reference_taken kind (InValue quote false) elements name seen r (value_taken v t false))
-
--- a value after the `=`, with its quotes
-quote_of : (quote : ℕ) (t u : Bool) → (quote == 39) ≡ t → (quote == 34) ≡ u → (t || u) ≡ true → (quote ≡ 39) ⊎ (quote ≡ 34)
-quote_of quote true u e f h = inl (eqb-true quote 39 e)
-quote_of quote false true e f h = inr (eqb-true quote 34 f)
-quote_of quote false false e f h = absurd_of h
-  where
-    absurd_of : {P : Type 0} → false ≡ true → P
-    absurd_of h = absurd (cc)
-
-module _ (kind : Kind) (elements : List (List ℕ)) (name : List ℕ) (seen : List (List ℕ)) where
-  quoted_here : (quote : ℕ) {value rest : List ℕ} → (quote ≡ 39) ⊎ (quote ≡ 34) → Value quote value rest → Taken kind (ctl AfterValue elements name seen) rest → Taken kind (ctl AttrQuote elements name seen) (quote ∷ value)
-  unfolding advance move_of place_next attr_quote_next done
-  quoted_here quote {value} {rest} (inl e) v t =
-      subst (λ (q : ℕ). Value q value rest → Taken kind (ctl AttrQuote elements name seen) (q ∷ value)) (sym e) (λ v. by_byte refl (value_taken kind elements name seen 39 refl v t false)) v
-  quoted_here quote {value} {rest} (inr e) v t =
-      subst (λ (q : ℕ). Value q value rest → Taken kind (ctl AttrQuote elements name seen) (q ∷ value)) (sym e) (λ v. by_byte refl (value_taken kind elements name seen 34 refl v t false)) v
-
-  quote_taken : {quote : ℕ} {text value rest : List ℕ} → Spaces text (quote ∷ value) → is_quote quote ≡ true → Value quote value rest → Taken kind (ctl AfterValue elements name seen) rest → Taken kind (ctl AttrQuote elements name seen) text
-  unfolding advance move_of place_next attr_quote_next done is_space
-  quote_taken {quote} s q v t =
-      spaces_taken (λ b e. rw (space_differs b 39 e refl, space_differs b 34 e refl, e) refl) s
-      (quoted_here quote (quote_of quote (quote == 39) (quote == 34) refl refl q) v t)
-
-  -- after the name of an attribute
-  equals_taken : {text after : List ℕ} → Spaces text (61 ∷ after) → Taken kind (ctl AttrQuote elements name seen) after → Taken kind (ctl AttrEquals elements name seen) text
-  unfolding advance move_of place_next attr_equals_next done is_space
-  equals_taken s t = spaces_taken (λ b e. rw (space_differs b 61 e refl, e) refl) s (by_byte refl t)
-
-module _ (kind : Kind) (elements : List (List ℕ)) where
-  -- the end of an attribute's name, which the tag doesn't have yet
-  name_taken : (name : List ℕ) (seen : List (List ℕ)) {text after : List ℕ} → has_name seen name ≡ false → Spaces text (61 ∷ after) → Taken kind (ctl AttrQuote elements [] (with_name seen name)) after → Taken kind (ctl AttrName elements name seen) text
-  unfolding advance move_of place_next attr_name_next done is_space
-  name_taken name seen fresh Spaces.none t = by_byte {next = ctl AttrQuote elements [] (with_name seen name)} (rw fresh refl) t
-  name_taken name seen fresh (Spaces.more {b = b} e s) t = by_byte {next = ctl AttrEquals elements [] (with_name seen name)} (rw (space_differs b 61 e refl, e, fresh) refl) (equals_taken kind elements [] (with_name seen name) s t)
+  pub tag_name_taken : {more text rest : List ℕ} (name : List ℕ) → NameRest more text rest → Taken len (st kind TagName outer (words (name ++ more) start stop seen) k) rest end → Taken len (st kind TagName outer (words name start stop seen) k) text end
+  unfolding proceed next_move acted move_of place_next tag_name_next with_name_grown
+  tag_name_taken name NameRest.none t = renamed (append-nil name) t
+  tag_name_taken name (NameRest.more {b = b} {name = more} e n) t =
+      by_byte {next = st kind TagName outer (words (name ++ b ∷ []) start stop seen) k} (rw e refl)
+      (tag_name_taken (name ++ b ∷ []) n (renamed (sym (append_assoc name (b ∷ []) more)) t))
 
 -- where a tag's rest begins
 abbrev pub tag_place : Bool → Place
 tag_place true = TagSpace
 tag_place false = AfterValue
 
--- what follows a tag goes on whatever names were read
-abbrev pub Onward : Kind → List (List ℕ) → List ℕ → Type 0
-Onward kind elements text = (name : List ℕ) (seen : List (List ℕ)) → Taken kind (ctl (InContent 0) elements name seen) text
+-- what follows goes on, whatever names were read
+abbrev pub Onward : ℕ → Kind → List (List ℕ) → Kept → List ℕ → Kept → Type 0
+Onward len kind elements k text end = (w : Words) → Taken len (st kind (InContent 0) elements w k) text end
+
+-- what follows the end of an element, which may be a child
+abbrev pub Closed : ℕ → Kind → List (List ℕ) → Bool → Kept → List ℕ → Kept → Type 0
+Closed len kind outer child k text end = Onward len kind outer (closed child (len - length text) k) text end
 
 -- what follows the start tag of an element, which may be empty
-abbrev pub OnwardFrom : Kind → List ℕ → List (List ℕ) → Bool → List ℕ → Type 0
-OnwardFrom kind element outer true text = Onward kind outer text
-OnwardFrom kind element outer false text = Onward kind (element ∷ outer) text
+abbrev pub OnwardFrom : ℕ → Kind → List ℕ → List (List ℕ) → Bool → Bool → Kept → List ℕ → Kept → Type 0
+OnwardFrom len kind element outer child true k text end = Closed len kind outer child k text end
+OnwardFrom len kind element outer child false k text end = Onward len kind (element ∷ outer) k text end
 
-module _ (kind : Kind) (element : List ℕ) (outer : List (List ℕ)) where
-  -- the rest of a tag
-  pub tag_rest_taken : {seen : List (List ℕ)} {spaced is_empty : Bool} {text rest : List ℕ} → TagRest seen spaced is_empty text rest → OnwardFrom kind element outer is_empty rest → (name : List ℕ) → Taken kind (ctl (tag_place spaced) (element ∷ outer) name seen) text
-  unfolding advance move_of place_next tag_space_next after_value_next tag_slash_next done is_space is_name_start begins_name_plainly is_letter
-  tag_rest_taken {seen} {spaced = true} TagRest.empty t name = by_byte refl (by_byte refl (t name seen))
-  tag_rest_taken {seen} {spaced = false} TagRest.empty t name = by_byte refl (by_byte refl (t name seen))
-  tag_rest_taken {seen} {spaced = true} TagRest.opens t name = by_byte refl (t name seen)
-  tag_rest_taken {seen} {spaced = false} TagRest.opens t name = by_byte refl (t name seen)
-  tag_rest_taken {seen} {spaced = true} (TagRest.space {b = b} e r) t name =
-      by_byte {next = ctl TagSpace (element ∷ outer) name seen} (rw (space_differs b 47 e refl, space_differs b 62 e refl, e) refl) (tag_rest_taken r t name)
-  tag_rest_taken {seen} {spaced = false} (TagRest.space {b = b} e r) t name =
-      by_byte {next = ctl TagSpace (element ∷ outer) name seen} (rw (space_differs b 47 e refl, space_differs b 62 e refl, e) refl) (tag_rest_taken r t name)
-  tag_rest_taken {seen} (TagRest.attribute (Name.begins {b = b} {name = more} e n) fresh before after q v r) t name =
-      by_byte {next = ctl AttrName (element ∷ outer) (b ∷ []) seen} (rw (start_differs b 47 e refl, start_differs b 62 e refl, start_no_space b e, e) refl)
-      (attr_name_taken kind (element ∷ outer) (b ∷ []) seen n
-      (name_taken kind (element ∷ outer) (b ∷ more) seen fresh before
-      (quote_taken kind (element ∷ outer) [] (with_name seen (b ∷ more)) after q v (tag_rest_taken r t []))))
+-- the place after a byte
+pub after_byte : (len b : ℕ) (text : List ℕ) → length (b ∷ text) ≤ len → len - length (b ∷ text) + 1 ≡ len - length text
+after_byte len b text within = omega (arith, within)
 
-  -- the rest of a start tag after its name
-  pub named_taken : {is_empty : Bool} {text rest : List ℕ} → TagRest [] false is_empty text rest → OnwardFrom kind element outer is_empty rest → (seen : List (List ℕ)) → Taken kind (ctl TagName outer element seen) text
-  unfolding advance move_of place_next tag_name_next name_ended tag_slash_next done is_name_byte grows_name_plainly begins_name_plainly is_letter is_digit is_space
-  named_taken TagRest.empty t seen = by_byte refl (by_byte refl (t [] []))
-  named_taken TagRest.opens t seen = by_byte refl (t [] [])
-  named_taken (TagRest.space {b = b} e r) t seen =
-      by_byte {next = ctl TagSpace (element ∷ outer) [] []} (rw (space_no_name b e, space_differs b 47 e refl, space_differs b 62 e refl, e) refl) (tag_rest_taken r t [])
+module _ (len : ℕ) (kind : Kind) (element : List ℕ) (outer : List (List ℕ)) (child : Bool) (parent : is_body_tag (around kind outer) ≡ child) (end : Kept) where
+  -- the `>` of an empty element
+  pub slash_taken : (w : Words) (k : Kept) {rest : List ℕ} → Closed len kind outer child k rest end → Taken len (st kind TagSlash (element ∷ outer) w k) (62 ∷ rest) end
+  unfolding proceed next_move acted move_of place_next tag_slash_next
+  slash_taken w k {rest} t =
+      by_last_byte {next = st kind (InContent 0) outer w (closed child (len - length rest) k)}
+      (λ within. rw (child_added kind TagSlash _ (element ∷ outer) w k child parent (len - length (62 ∷ rest)), after_byte len 62 rest within) refl) (t w)
+
+  module _ (body : Bool) (tag : is_body_tag (around kind (element ∷ outer)) ≡ body) where
+    -- the rest of a tag
+    pub tag_rest_taken : {seen : List (List ℕ)} {spaced is_empty : Bool} {text rest : List ℕ} (r : TagRest seen spaced is_empty text rest) (k : Kept) → OnwardFrom len kind element outer child is_empty (tag_kept body len r k) rest end →
+        (name : List ℕ) (start stop : ℕ) → Taken len (st kind (tag_place spaced) (element ∷ outer) (words name start stop seen) k) text end
+    unfolding proceed next_move acted move_of place_next tag_space_next after_value_next with_name_begun is_space is_name_start begins_name_plainly is_letter tag_kept
+    tag_rest_taken {seen} {spaced = true} TagRest.empty k t name start stop = by_byte refl (slash_taken (words name start stop seen) k t)
+    tag_rest_taken {seen} {spaced = false} TagRest.empty k t name start stop = by_byte refl (slash_taken (words name start stop seen) k t)
+    tag_rest_taken {seen} {spaced = true} TagRest.opens k t name start stop = by_byte refl (t (words name start stop seen))
+    tag_rest_taken {seen} {spaced = false} TagRest.opens k t name start stop = by_byte refl (t (words name start stop seen))
+    tag_rest_taken {seen} {spaced = true} (TagRest.space {b = b} e r) k t name start stop =
+        by_byte {next = st kind TagSpace (element ∷ outer) (words name start stop seen) k} (rw (space_differs b 47 e refl, space_differs b 62 e refl, e) refl) (tag_rest_taken r k t name start stop)
+    tag_rest_taken {seen} {spaced = false} (TagRest.space {b = b} e r) k t name start stop =
+        by_byte {next = st kind TagSpace (element ∷ outer) (words name start stop seen) k} (rw (space_differs b 47 e refl, space_differs b 62 e refl, e) refl) (tag_rest_taken r k t name start stop)
+    tag_rest_taken {seen} {text = text} (TagRest.attribute (Name.begins {b = b} {name = more} e n) fresh before after q v r) k t name start stop =
+        by_byte {next = st kind AttrName (element ∷ outer) (words (b ∷ []) (len - length text) stop seen) k} (rw (start_differs b 47 e refl, start_differs b 62 e refl, start_no_space b e, e) refl)
+        (attribute_taken len kind (element ∷ outer) (len - length text) seen k body tag end stop n fresh before after q v (tag_rest_taken r _ t [] _ _))
+
+    -- the rest of a start tag after its name
+    pub named_taken : {is_empty : Bool} {text rest : List ℕ} (r : TagRest [] false is_empty text rest) (k : Kept) → OnwardFrom len kind element outer child is_empty (tag_kept body len r (deepened kind (element ∷ outer) k)) rest end →
+        (start stop : ℕ) (seen : List (List ℕ)) → Taken len (st kind TagName outer (words element start stop seen) k) text end
+    unfolding proceed next_move acted move_of place_next tag_name_next name_ended with_element is_name_byte grows_name_plainly begins_name_plainly is_letter is_digit is_space tag_kept
+    named_taken TagRest.empty k t start stop seen = by_byte refl (slash_taken (words [] start stop []) (deepened kind (element ∷ outer) k) t)
+    named_taken TagRest.opens k t start stop seen = by_byte refl (t (words [] start stop []))
+    named_taken (TagRest.space {b = b} e r) k t start stop seen =
+        by_byte {next = st kind TagSpace (element ∷ outer) (words [] start stop []) (deepened kind (element ∷ outer) k)} (rw (space_no_name b e, space_differs b 47 e refl, space_differs b 62 e refl, e) refl) (tag_rest_taken r _ t [] start stop)

@@ -1,9 +1,15 @@
 pub mod Chars
+pub mod Utf8
 pub mod References
 pub mod Tables
 pub mod Names
 pub mod Reader
+pub mod Completion
+pub mod Viable
 pub mod Reading
 pub mod Refusal
 pub mod Grammar
+pub mod Parts
 pub mod BodyText
+pub mod Pieces
+pub mod Built

@@ -6,7 +6,9 @@ ghost use Rattle.body_cutter.specs.Chars.{is_whole};
 ghost use Rattle.body_cutter.specs.Reader.{first_state};
 ghost use Rattle.body_cutter.specs.Reading.{state_of};
 ghost use Rattle.body_cutter.specs.Refusal.{Answers, ended_refusal, ends_in_section_start, is_before_body, is_complete, is_forbidden, is_opened, is_content, limit_refusal, reading, read_answer, stopped_refusal, text_answer, unit_answer, unit_result, ReadsTo};
-ghost use Rattle.body_cutter.specs.BodyText.{IsBodyText, IsElementText, Tells};
+ghost use Rattle.body_cutter.specs.Parts.{Parts};
+ghost use Rattle.body_cutter.specs.BodyText.{HasBodyParts, HasElementParts, IsBody, IsBodyText, IsElementText, IsStanza, Tells, answer_of};
+ghost use Rattle.body_cutter.specs.Viable.{Anything, NamesBody, TellsRow};
 
 use crate::parts::{Cut, CutError, CutRefusal};
 use crate::place::{Kind, Place, Wide};
@@ -203,10 +205,14 @@ fn without_parts(parts: Result<Cut, CutError>) -> Result<(), CutError>
 pub fn cut(alloc: Global, text: &[u8]) -> Result<Cut, CutError>
     // The answer is what reading the text from left to right gives.
     ensures answer { Answers result (text_answer kinds.Body Start 1048576 (is_utf8 text.now) text.now) }
-    // What is cut is in the grammar.
-    ensures body { IfOk result (λ _. IsBodyText text.now) }
-    // A refusal by the grammar is right, and one by a limit is of a text in the grammar.
-    ensures refused { IfErr result (λ e. Tells IsBodyText 1048576 e text.now) }
+    // What is cut is a body's text within the limits, with exactly these attributes and children.
+    ensures body { IfOk result (λ cut. IsBody text.now cut) }
+    // A refusal by the grammar is right, and one by a limit is of a body's text that passes it and none before it.
+    ensures refused { IfErr result (λ e. Tells IsBodyText HasBodyParts 1048576 e text.now) }
+    // Each body's text gives its parts, or the first limit that they pass.
+    ensures parts { (parts : Parts) → HasBodyParts text.now parts → length text.now ≤ 1048576 → Answers result (answer_of parts) }
+    // A refusal for its place stands in its row of the table, by the longest prefix that some bytes complete.
+    ensures row { IfErr result (λ e. TellsRow IsBodyText NamesBody e text.now) }
 {
     parts_of(alloc, Kind::Body, Place::Start, LONGEST_BODY, text)
 }
@@ -216,10 +222,14 @@ pub fn cut(alloc: Global, text: &[u8]) -> Result<Cut, CutError>
 pub fn read_stanza(alloc: Global, text: &[u8]) -> Result<(), CutError>
     // The answer is what reading the text from left to right gives.
     ensures answer { Answers result (unit_answer (text_answer kinds.Stanza StanzaStart 1000000 (is_utf8 text.now) text.now)) }
-    // What is read is in the grammar.
-    ensures stanza { OnOk result (IsElementText text.now) }
-    // A refusal by the grammar is right, and one by a limit is of a text in the grammar.
-    ensures refused { IfErr result (λ e. Tells IsElementText 1000000 e text.now) }
+    // What is read is a stanza.
+    ensures stanza { OnOk result (IsStanza text.now) }
+    // A refusal by the grammar is right, and one by a limit is of an element that passes it and none before it.
+    ensures refused { IfErr result (λ e. Tells IsElementText HasElementParts 1000000 e text.now) }
+    // Each element by itself is read, or gives the first limit that it passes.
+    ensures parts { (parts : Parts) → HasElementParts text.now parts → length text.now ≤ 1000000 → Answers result (unit_answer (answer_of parts)) }
+    // A refusal for its place stands in its row of the table, by the longest prefix that some bytes complete.
+    ensures row { IfErr result (λ e. TellsRow IsElementText Anything e text.now) }
 {
     let parts = parts_of(
         alloc,
