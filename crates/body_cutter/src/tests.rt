@@ -298,3 +298,56 @@ fn reads_a_stanza_by_itself(rt: HostRuntime) -> Result<(), Fail> {
     }
     Ok(())
 }
+
+// Bodies in the form in which Strophe.js and Converse send them: how many attributes and children they have.
+#[test]
+fn cuts_what_browser_clients_send(rt: HostRuntime) -> Result<(), Fail> {
+    let rows: [(&str, usize, usize); 8] = [
+        (
+            "<body rid='4064321' xmlns='http://jabber.org/protocol/httpbind' to='example.org' xml:lang='en' wait='60' hold='1' content='text/xml; charset=utf-8' ver='1.6' xmpp:version='1.0' xmlns:xmpp='urn:xmpp:xbosh'/>",
+            10,
+            0,
+        ),
+        (
+            "<body rid='4064322' xmlns='http://jabber.org/protocol/httpbind' sid='s1'><auth xmlns='urn:ietf:params:xml:ns:xmpp-sasl' mechanism='SCRAM-SHA-1'>biwsbj1qdWxpZXQscj1kMzZk</auth></body>",
+            3,
+            1,
+        ),
+        (
+            "<body rid='4064323' xmlns='http://jabber.org/protocol/httpbind' sid='s1' to='example.org' xml:lang='en' xmpp:restart='true' xmlns:xmpp='urn:xmpp:xbosh'/>",
+            7,
+            0,
+        ),
+        (
+            "<body rid='4064324' xmlns='http://jabber.org/protocol/httpbind' sid='s1'><iq type='set' id='_bind_auth_2' xmlns='jabber:client'><bind xmlns='urn:ietf:params:xml:ns:xmpp-bind'><resource>converse.js-1</resource></bind></iq></body>",
+            3,
+            1,
+        ),
+        (
+            "<body rid='4064325' xmlns='http://jabber.org/protocol/httpbind' sid='s1'><presence xmlns='jabber:client'><priority>0</priority><c xmlns='http://jabber.org/protocol/caps' hash='sha-1' node='https://conversejs.org' ver='qgxN8hmrdSa2/4/7PUoM9bPFN2s='/></presence><iq type='get' id='a:roster' xmlns='jabber:client'><query xmlns='jabber:iq:roster'/></iq></body>",
+            3,
+            2,
+        ),
+        (
+            "<body rid='4064326' xmlns='http://jabber.org/protocol/httpbind' sid='s1'><message from='juliet@example.org/a' to='romeo@example.org' type='chat' id='m1' xmlns='jabber:client'><body>Where's &lt;he&gt; &amp; she? \u{1f600}\n\u{e9}</body><active xmlns='http://jabber.org/protocol/chatstates'/><request xmlns='urn:xmpp:receipts'/><origin-id xmlns='urn:xmpp:sid:0' id='m1'/></message></body>",
+            3,
+            1,
+        ),
+        (
+            "<body rid='4064327' xmlns='http://jabber.org/protocol/httpbind' sid='s1'/>",
+            3,
+            0,
+        ),
+        (
+            "<body rid='4064328' xmlns='http://jabber.org/protocol/httpbind' sid='s1' type='terminate'><presence xmlns='jabber:client' type='unavailable'/></body>",
+            4,
+            1,
+        ),
+    ];
+    for (text, attributes, children) in &rows {
+        let parts = cut(rt.alloc(), text.as_bytes())?;
+        assert_eq!(rt; parts.attrs.len(), *attributes, "attributes of {text}");
+        assert_eq!(rt; parts.children.len(), *children, "children of {text}");
+    }
+    Ok(())
+}
