@@ -147,14 +147,14 @@ field_size f is =
     let inner = length-append f.name (58 ∷ f.raw) in
     omega (arith, is.name.0, outer, inner, end_size f.end, add-one (length f.raw))
 
-fields_size : (fields : List Field) → All IsField fields → 3 * length fields ≤ length (flat_map print_field fields)
+pub fields_size : (fields : List Field) → All IsField fields → 3 * length fields ≤ length (flat_map print_field fields)
 fields_size [] all = omega arith
 fields_size (f ∷ fields) all =
     let first = field_size f (All-head IsField f fields all) in
     let others = fields_size fields (All-tail IsField f fields all) in
     omega (arith, first, others, length-append (print_field f) (flat_map print_field fields), add-one (length fields))
 
-longer : (front rest : List ℕ) → length rest ≤ length (front ++ rest)
+pub longer : (front rest : List ℕ) → length rest ≤ length (front ++ rest)
 longer front rest = omega (arith, length-append front rest)
 
 head_size : (h : RequestHead) → All IsField h.fields → 3 * length h.fields ≤ length (print_request h)

@@ -1,6 +1,8 @@
+pub mod HeadingLemmas
 pub mod JudgingLemmas
 pub mod MessageLemmas
 pub mod ReadingLemmas
+pub mod RespondingLemmas
 pub mod Rows
 pub mod TakenLemmas
 pub mod TargetLemmas

@@ -14,13 +14,9 @@ use Rattle.bosh_http.specs.Taking.{TakesMore}
 use Rattle.bosh_http.specs.declared.reading.HttpIn.{HttpIn}
 use Rattle.bosh_http.specs.declared.reading.HttpIn.TheVariants.{Request, Refused, End, ReadFault}
 use Rattle.bosh_http.specs.declared.refusal.HttpRefusal.TheVariants.{Cut}
-use Rattle.bosh_http.proofs.JudgingLemmas.{IsServed-append, IsRefusedBy-append, BeginsWith-append, end_size}
+use Rattle.bosh_http.proofs.JudgingLemmas.{IsRefusedBy-append, BeginsWith-append, end_size}
 
 -- ---- a head that is served, and its content
-
-pub still_served : (left left' : Option (List ℕ)) (kept kept' : List ℕ) (start content : ℕ) (closing : Bool) → TakesMore left left' kept kept' → IsServed kept start content closing → IsServed kept' start content closing
-still_served left left' kept kept' start content closing takes served =
-    subst (λ bytes. IsServed bytes start content closing) (sym takes.2) (IsServed-append kept start content closing takes.0 served)
 
 -- the rest of the bytes after the head
 rest_of : (bytes : List ℕ) (start content : ℕ) (closing : Bool) → (served : IsServed bytes start content closing) → (drop start bytes ≡ served.rest) × (length bytes ≡ start + length served.rest)
@@ -77,6 +73,18 @@ answers_at_end left mid left' kept now kept' answer takes end keeps by = (
   subst (λ seen. AnswersBy seen kept' (IsAllOf left takes.0) answer) takes.2 (by (IsAllOf left takes.0) (Consumes-whole left mid takes.0 (λ bytes. takes.0 ≡ bytes) takes.1 end refl)),
 )
 
+pub all_taken : (left mid : Option (List ℕ)) (x y : List ℕ) → Consumes left mid x → IsAllOf mid y → IsAllOf left (x ++ y)
+all_taken None mid x y first all = tt
+all_taken (Some xs) None x y first all = absurd first
+all_taken (Some xs) (Some ys) x y first all = ap (λ r. x ++ r) all ∙ sym first
+
+all_before : (answer : HttpIn) (seen kept' : List ℕ) (P Q : Type 0) → (P → Q) → AnswersBy seen kept' P answer → AnswersBy seen kept' Q answer
+all_before (Request body closing) seen kept' P Q f by = by
+all_before (Refused refusal) seen kept' P Q f (refused, inl settled, kept) = (refused, inl settled, kept)
+all_before (Refused refusal) seen kept' P Q f (refused, inr all, kept) = (refused, inr (f all), kept)
+all_before End seen kept' P Q f (none, all, kept) = (none, f all, kept)
+all_before ReadFault seen kept' P Q f by = by
+
 -- more was taken before
 pub answers_later : (left mid left' : Option (List ℕ)) (kept now kept' : List ℕ) (answer : HttpIn) → TakesMore left mid kept now → Answers mid left' now kept' answer → Answers left left' kept kept' answer
 answers_later left mid left' kept now kept' answer (x, first, is) (y, then', by) = (
@@ -85,18 +93,6 @@ answers_later left mid left' kept now kept' answer (x, first, is) (y, then', by)
   all_before answer (kept ++ (x ++ y)) kept' (IsAllOf mid y) (IsAllOf left (x ++ y)) (all_taken left mid x y first)
       (subst (λ seen. AnswersBy seen kept' (IsAllOf mid y) answer) (ap (λ k. k ++ y) is ∙ append_assoc kept x y) by),
 )
-  where
-    all_taken : (left mid : Option (List ℕ)) (x y : List ℕ) → Consumes left mid x → IsAllOf mid y → IsAllOf left (x ++ y)
-    all_taken None mid x y first all = tt
-    all_taken (Some xs) None x y first all = absurd first
-    all_taken (Some xs) (Some ys) x y first all = ap (λ r. x ++ r) all ∙ sym first
-
-    all_before : (answer : HttpIn) (seen kept' : List ℕ) (P Q : Type 0) → (P → Q) → AnswersBy seen kept' P answer → AnswersBy seen kept' Q answer
-    all_before (Request body closing) seen kept' P Q f by = by
-    all_before (Refused refusal) seen kept' P Q f (refused, inl settled, kept) = (refused, inl settled, kept)
-    all_before (Refused refusal) seen kept' P Q f (refused, inr all, kept) = (refused, inr (f all), kept)
-    all_before End seen kept' P Q f (none, all, kept) = (none, f all, kept)
-    all_before ReadFault seen kept' P Q f by = by
 
 -- what is answered where no head is whole at the end of the stream
 pub ended_answer : (now : List ℕ) (all : Type 0) (none : Bool) → (length now == 0) ≡ none → IsHeadBegun now → length now < longest_head → all → AnswersBy now now all (if none then End else Refused (Cut (length now)))
@@ -140,17 +136,10 @@ reads_by None left' kept kept' answer by = tt
 reads_by (Some xs) None kept kept' answer by = absurd by.1
 reads_by (Some xs) (Some ys) kept kept' answer (taken, is, by) =
     subst (λ stream. Reads (Some stream) (Some (kept' ++ ys)) answer) (append_assoc kept taken ys ∙ ap (λ l. kept ++ l) (sym is))
-    (reads_told (kept ++ taken) kept' ys answer (all_none answer by))
+    (reads_told (kept ++ taken) kept' ys answer (all_before answer (kept ++ taken) kept' (taken ≡ xs) (ys ≡ []) none_left by))
   where
     none_left : taken ≡ xs → ys ≡ []
     none_left all = nil_from_length ys (omega (arith, ap length (all ∙ is), length-append taken ys))
-
-    all_none : (answer : HttpIn) → AnswersBy (kept ++ taken) kept' (taken ≡ xs) answer → AnswersBy (kept ++ taken) kept' (ys ≡ []) answer
-    all_none (Request body closing) b = b
-    all_none (Refused refusal) (refused, inl settled, same) = (refused, inl settled, same)
-    all_none (Refused refusal) (refused, inr all, same) = (refused, inr (none_left all), same)
-    all_none End (none, all, same) = (none, none_left all, same)
-    all_none ReadFault b = b
 
 -- what a failed call kept
 pub keeps_by : (left left' : Option (List ℕ)) (kept kept' : List ℕ) → TakesMore left left' kept kept' → Keeps (prepend_known kept left) (prepend_known kept' left')

@@ -3,6 +3,8 @@ pub mod Judging
 pub mod Message
 pub mod Reading
 pub mod Refusal
+pub mod Responding
+pub mod Response
 pub mod Taking
 pub mod Target
 pub mod Texts

@@ -15,12 +15,12 @@ use std::alloc::{AllocError, Global};
 
 pub(crate) const LONGEST_HEAD: usize = 8192;
 
-const LONGEST_CONTENT: u64 = 1048576;
+pub(crate) const LONGEST_CONTENT: u64 = 1048576;
 
-const MOST_FIELDS: usize = 64;
+pub(crate) const MOST_FIELDS: usize = 64;
 
 // More fields than 8192 bytes can hold.
-const ROOM: usize = 2731;
+pub(crate) const ROOM: usize = 2731;
 
 // What some bytes at the front of a stream tell.
 #[derive(Clone, Copy, Debug, PartialEq, Eq)]

@@ -10,9 +10,9 @@ use std::alloc::{AllocError, Global};
 use std::marker::Model;
 
 // How many bytes are taken at a time while the head comes, and how many at most while the content comes.
-const HEAD_PIECE: usize = 4096;
+pub(crate) const HEAD_PIECE: usize = 4096;
 
-const LARGEST_PIECE: usize = 65536;
+pub(crate) const LARGEST_PIECE: usize = 65536;
 
 /// What reading the next request gives.
 #[derive(Debug, Drop)]
@@ -49,7 +49,7 @@ impl RequestReader {
     ghost use Rattle.bosh_http.specs.Reading.{Answers, Reads};
     ghost use Rattle.bosh_http.specs.Taking.{TakesMore};
 
-    /// TakesMore no memory.
+    /// Takes no memory.
     pub fn new(alloc: Global) -> Self
         ensures { result ≡ [] }
     {

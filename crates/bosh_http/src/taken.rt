@@ -73,7 +73,7 @@ impl Taken {
         self.bytes.is_empty()
     }
 
-    // TakesMore more off the link, so many bytes at most.
+    // Takes more off the link, so many bytes at most.
     pub(crate) fn fill<L: Link>(&mut self, link: &mut L, most: usize) -> Result<Filled, AllocError>
         requires some { 0 < most }
         requires few { most ≤ 2 ^ 32 }

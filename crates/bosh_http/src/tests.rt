@@ -4,6 +4,7 @@ use std::test::Fail;
 
 mod refusals;
 mod requests;
+mod responses;
 mod writing;
 
 // A link over these bytes, in pieces of these sizes, which fails at the listed takes and gives.

@@ -93,7 +93,7 @@ fn ends(reader: &mut RequestReader, alloc: Global, link: &mut MemoryLink) -> Res
 }
 
 // Pieces of one size that are enough for so many bytes.
-fn pieces(alloc: Global, size: usize, bytes: usize) -> Result<Vec<usize>, Fail> {
+pub(super) fn pieces(alloc: Global, size: usize, bytes: usize) -> Result<Vec<usize>, Fail> {
     let mut sizes = Vec::new(alloc);
     for _ in 0..bytes {
         sizes.push(size)?;
@@ -102,7 +102,7 @@ fn pieces(alloc: Global, size: usize, bytes: usize) -> Result<Vec<usize>, Fail> 
 }
 
 // The text twice.
-fn twice(alloc: Global, text: &[u8]) -> Result<Vec<u8>, Fail> {
+pub(super) fn twice(alloc: Global, text: &[u8]) -> Result<Vec<u8>, Fail> {
     let mut bytes = Vec::from_slice(alloc, text)?;
     bytes.extend_from_slice(text)?;
     Ok(bytes)
