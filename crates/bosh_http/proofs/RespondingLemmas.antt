@@ -1,9 +1,9 @@
 -- Reading the next response.
-use Rattle.std.proofs.Common.{◌≡◌, ℕ, ◌+◌, ◌-◌, ◌≤◌, List, [], ◌++◌, Option, None, Some, length, take, drop, sym, ◌∙◌, ap, ap₂, subst, arith, append_assoc, append-nil, length-append}
+use Rattle.std.proofs.Common.{◌≡◌, ℕ, ◌+◌, ◌-◌, ◌≤◌, List, [], ◌++◌, Option, None, Some, length, take, drop, sym, ◌∙◌, ap, ap₂, subst, arith, append_assoc, append-nil, length-append, refl}
 use Rattle.std.proofs.Math.Seq.{drop-append_seam, drop-append-le}
 use Rattle.std.proofs.lemmas.List.{take-append-le, nil_from_length}
-use Rattle.std.proofs.KnownBytes.{Consumes-trans}
-use Rattle.std.specs.Io.KnownBytes.{prepend_known}
+use Rattle.std.proofs.KnownBytes.{Consumes-kept, Consumes-whole, Consumes-trans}
+use Rattle.std.specs.Io.KnownBytes.{Keeps, IsAtEnd, prepend_known}
 use Rattle.httparse.specs.Grammar.{print_response}
 use Rattle.bosh_http.specs.Reading.{IsAllOf}
 use Rattle.bosh_http.specs.Response.{response_length, IsResponseMessage, EndsEarly}
@@ -44,6 +44,14 @@ response_is bytes body start content status headed whole body_is =
 
 pub responds_from : (left left' : Option (List ℕ)) (kept now kept' : List ℕ) (answer : ResponseIn) → (takes : TakesMore left left' kept now) → RespondsBy now kept' (IsAllOf left takes.0) answer → Responds left left' kept kept' answer
 responds_from left left' kept now kept' answer takes by = (takes.0, takes.1, subst (λ seen. RespondsBy seen kept' (IsAllOf left takes.0) answer) takes.2 by)
+
+-- the link came to its end
+pub responds_at_end : (left mid left' : Option (List ℕ)) (kept now kept' : List ℕ) (answer : ResponseIn) → TakesMore left mid kept now → IsAtEnd mid → Keeps mid left' → ((all : Type 0) → all → RespondsBy now kept' all answer) → Responds left left' kept kept' answer
+responds_at_end left mid left' kept now kept' answer takes end keeps by = (
+  takes.0,
+  Consumes-kept left mid left' takes.0 takes.1 keeps,
+  subst (λ seen. RespondsBy seen kept' (IsAllOf left takes.0) answer) takes.2 (by (IsAllOf left takes.0) (Consumes-whole left mid takes.0 (λ bytes. takes.0 ≡ bytes) takes.1 end refl)),
+)
 
 all_before : (answer : ResponseIn) (seen kept' : List ℕ) (P Q : Type 0) → (P → Q) → RespondsBy seen kept' P answer → RespondsBy seen kept' Q answer
 all_before (Body body) seen kept' P Q f by = by

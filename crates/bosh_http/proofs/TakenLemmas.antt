@@ -1,5 +1,5 @@
 -- Taking more of a stream.
-use Rattle.std.proofs.Common.{◌≡◌, ℕ, ◌+◌, List, [], ◌++◌, Option, length, take, drop, sym, ◌∙◌, ap, ap₂, arith, append_assoc, append-nil}
+use Rattle.std.proofs.Common.{◌≡◌, ℕ, ◌+◌, List, [], ◌++◌, Option, length, take, drop, sym, ◌∙◌, ap, ap₂, subst, arith, append_assoc, append-nil}
 use Rattle.std.proofs.lemmas.List.{take-append-drop, take-take, drop-take}
 use Rattle.std.proofs.lemmas.Grind.{common_steps}
 use Rattle.std.proofs.KnownBytes.{Consumes-nil, Consumes-trans, Consumes-kept}
@@ -30,3 +30,8 @@ filled_more left left' kept zeros grown room whole new first most n first_is gro
 
     kept_front : take first (take (first + most) kept ++ zeros) ≡ kept
     kept_front = grind (arith, common_steps, first_is)
+
+-- a call that changed nothing came after
+pub takes_through : {L : Type 0} → (left : L → Option (List ℕ)) (first mid last : L) (kept now kept' : List ℕ) → TakesMore (left first) (left mid) kept now → kept' ≡ now → last ≡ mid → TakesMore (left first) (left last) kept kept'
+takes_through left first mid last kept now kept' takes same link =
+    subst (λ l. TakesMore (left first) (left l) kept kept') (sym link) (subst (TakesMore (left first) (left mid) kept) (sym same) takes)

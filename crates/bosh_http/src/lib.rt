@@ -9,6 +9,7 @@ mod laws;
 mod reading;
 mod refusal;
 mod responding;
+mod scan;
 mod taken;
 mod target;
 #[cfg(test)]

@@ -1,8 +1,9 @@
 // Reading requests off a link.
-ghost use Rattle.std.specs.Prelude.{◌≡◌, ◌≤◌, ℕ, List, [], length, IfOk, OnErr, Ok, if◌then◌else◌, ◌==◌};
+ghost use Rattle.std.specs.Prelude.{◌≡◌, ◌==◌, ◌<◌, ◌≤◌, [], length, IfOk, IfSome, OnErr, Ok, Some, None, if◌then◌else◌};
 
 use crate::judging::{Judged, judge};
 use crate::refusal::HttpRefusal;
+use crate::scan::Scan;
 use crate::taken::{Filled, Taken};
 use bosh_ports::Link;
 use bosh_types::Text;
@@ -46,6 +47,7 @@ impl RequestReader {
     ghost use Rattle.std.specs.Io.KnownBytes.{Keeps, prepend_known};
     ghost use Rattle.bosh_ports.specs.Faults.{HasRisen};
     ghost use Rattle.bosh_http.specs.Judging.{IsServed};
+    ghost use Rattle.bosh_http.specs.Message.{IsHeadBegun, longest_head};
     ghost use Rattle.bosh_http.specs.Reading.{Answers, Reads};
     ghost use Rattle.bosh_http.specs.Taking.{TakesMore};
 
@@ -116,6 +118,48 @@ impl RequestReader {
         HttpIn::Refused(HttpRefusal::Cut(self.taken.len()))
     }
 
+    // What is answered by the bytes that have come, if they tell it.
+    fn told<L: Link>(&mut self, alloc: Global, link: &mut L) -> Result<Option<HttpIn>, AllocError>
+        ensures some { IfOk result (λ told. IfSome told (Answers (L.left link.old) (L.left link.new) self.old self.new)) }
+        ensures begun { result ≡ Ok None → IsHeadBegun self.old × (length self.old < longest_head) }
+        ensures same { result ≡ Ok None → (self.new ≡ self.old) × (link.new ≡ link.old) }
+        ensures kept { OnErr result (TakesMore (L.left link.old) (L.left link.new) self.old self.new) }
+        ensures given { Keeps (L.given link.old) (L.given link.new) }
+        ensures fault { result ≡ Ok (Some HttpIn.ReadFault) → HasRisen (L.faults link.old) (L.faults link.new) }
+        ensures faults { L.faults link.old ≤ L.faults link.new }
+    {
+        match judge(alloc, self.taken.as_slice())? {
+            Judged::Served {
+                start,
+                content,
+                closing,
+            } => Ok(Some(self.read_content(alloc, link, start, content, closing)?)),
+            Judged::Refused(refusal) => Ok(Some(HttpIn::Refused(refusal))),
+            Judged::Begun => Ok(None),
+        }
+    }
+
+    // The same where the scan finds that they may tell something new.
+    fn told_if_due<L: Link>(
+        &mut self,
+        alloc: Global,
+        link: &mut L,
+        scan: &mut Scan,
+    ) -> Result<Option<HttpIn>, AllocError>
+        ensures some { IfOk result (λ told. IfSome told (Answers (L.left link.old) (L.left link.new) self.old self.new)) }
+        ensures short { result ≡ Ok None → length self.old < longest_head }
+        ensures same { result ≡ Ok None → (self.new ≡ self.old) × (link.new ≡ link.old) }
+        ensures kept { OnErr result (TakesMore (L.left link.old) (L.left link.new) self.old self.new) }
+        ensures given { Keeps (L.given link.old) (L.given link.new) }
+        ensures fault { result ≡ Ok (Some HttpIn.ReadFault) → HasRisen (L.faults link.old) (L.faults link.new) }
+        ensures faults { L.faults link.old ≤ L.faults link.new }
+    {
+        if !scan.is_due(self.taken.as_slice()) {
+            return Ok(None);
+        }
+        self.told(alloc, link)
+    }
+
     // Reads the next request.
     fn read<L: Link>(&mut self, alloc: Global, link: &mut L) -> Result<HttpIn, AllocError>
         ensures answers { IfOk result (Answers (L.left link.old) (L.left link.new) self.old self.new) }
@@ -124,19 +168,19 @@ impl RequestReader {
         ensures fault { result ≡ Ok HttpIn.ReadFault → HasRisen (L.faults link.old) (L.faults link.new) }
         ensures faults { L.faults link.old ≤ L.faults link.new }
     {
+        let mut scan = Scan::request();
         loop {
-            match judge(alloc, self.taken.as_slice())? {
-                Judged::Served {
-                    start,
-                    content,
-                    closing,
-                } => return self.read_content(alloc, link, start, content, closing),
-                Judged::Refused(refusal) => return Ok(HttpIn::Refused(refusal)),
-                Judged::Begun => {}
+            if let Some(answer) = self.told_if_due(alloc, link, &mut scan)? {
+                return Ok(answer);
             }
             match self.taken.fill(link, HEAD_PIECE)? {
                 Filled::More => {}
-                Filled::End => return Ok(self.ended()),
+                Filled::End => {
+                    return match self.told(alloc, link)? {
+                        Some(answer) => Ok(answer),
+                        None => Ok(self.ended()),
+                    };
+                }
                 Filled::Failed => return Ok(HttpIn::ReadFault),
             }
         }

@@ -1,8 +1,9 @@
 // Reading responses off a link.
-ghost use Rattle.std.specs.Prelude.{◌≡◌, ◌≤◌, [], IfOk, OnErr, Ok};
+ghost use Rattle.std.specs.Prelude.{◌≡◌, ◌<◌, ◌≤◌, [], length, IfOk, IfSome, OnErr, Ok, Some, None};
 
 use crate::heading::{Headed, head_of};
 use crate::reading::{HEAD_PIECE, LARGEST_PIECE};
+use crate::scan::Scan;
 use crate::taken::{Filled, Taken};
 use bosh_ports::Link;
 use bosh_types::Text;
@@ -44,6 +45,8 @@ impl Model for ResponseReader {
 impl ResponseReader {
     ghost use Rattle.std.specs.Io.KnownBytes.{Keeps, prepend_known};
     ghost use Rattle.bosh_ports.specs.Faults.{HasRisen};
+    ghost use Rattle.bosh_http.specs.Message.{longest_head};
+    ghost use Rattle.bosh_http.specs.Response.{IsResponseBegun};
     ghost use Rattle.bosh_http.specs.Responding.{IsHeaded, Responds, ReadsBack};
     ghost use Rattle.bosh_http.specs.Taking.{TakesMore};
 
@@ -107,6 +110,52 @@ impl ResponseReader {
         Ok(ResponseIn::Status(status))
     }
 
+    // What is answered by the bytes that have come, if they tell it.
+    fn told<L: Link>(
+        &mut self,
+        alloc: Global,
+        link: &mut L,
+    ) -> Result<Option<ResponseIn>, AllocError>
+        ensures some { IfOk result (λ told. IfSome told (Responds (L.left link.old) (L.left link.new) self.old self.new)) }
+        ensures begun { result ≡ Ok None → IsResponseBegun self.old × (length self.old < longest_head) }
+        ensures same { result ≡ Ok None → (self.new ≡ self.old) × (link.new ≡ link.old) }
+        ensures kept { OnErr result (TakesMore (L.left link.old) (L.left link.new) self.old self.new) }
+        ensures given { Keeps (L.given link.old) (L.given link.new) }
+        ensures fault { result ≡ Ok (Some ResponseIn.ReadFault) → HasRisen (L.faults link.old) (L.faults link.new) }
+        ensures faults { L.faults link.old ≤ L.faults link.new }
+    {
+        match head_of(alloc, self.taken.as_slice())? {
+            Headed::Whole {
+                start,
+                content,
+                status,
+            } => Ok(Some(self.read_content(alloc, link, start, content, status)?)),
+            Headed::Wrong => Ok(Some(ResponseIn::Bad)),
+            Headed::Unfinished => Ok(None),
+        }
+    }
+
+    // The same where the scan finds that they may tell something new.
+    fn told_if_due<L: Link>(
+        &mut self,
+        alloc: Global,
+        link: &mut L,
+        scan: &mut Scan,
+    ) -> Result<Option<ResponseIn>, AllocError>
+        ensures some { IfOk result (λ told. IfSome told (Responds (L.left link.old) (L.left link.new) self.old self.new)) }
+        ensures short { result ≡ Ok None → length self.old < longest_head }
+        ensures same { result ≡ Ok None → (self.new ≡ self.old) × (link.new ≡ link.old) }
+        ensures kept { OnErr result (TakesMore (L.left link.old) (L.left link.new) self.old self.new) }
+        ensures given { Keeps (L.given link.old) (L.given link.new) }
+        ensures fault { result ≡ Ok (Some ResponseIn.ReadFault) → HasRisen (L.faults link.old) (L.faults link.new) }
+        ensures faults { L.faults link.old ≤ L.faults link.new }
+    {
+        if !scan.is_due(self.taken.as_slice()) {
+            return Ok(None);
+        }
+        self.told(alloc, link)
+    }
+
     // Reads the next response.
     fn read<L: Link>(&mut self, alloc: Global, link: &mut L) -> Result<ResponseIn, AllocError>
         ensures answers { IfOk result (Responds (L.left link.old) (L.left link.new) self.old self.new) }
@@ -115,19 +164,19 @@ impl ResponseReader {
         ensures fault { result ≡ Ok ResponseIn.ReadFault → HasRisen (L.faults link.old) (L.faults link.new) }
         ensures faults { L.faults link.old ≤ L.faults link.new }
     {
+        let mut scan = Scan::response();
         loop {
-            match head_of(alloc, self.taken.as_slice())? {
-                Headed::Whole {
-                    start,
-                    content,
-                    status,
-                } => return self.read_content(alloc, link, start, content, status),
-                Headed::Wrong => return Ok(ResponseIn::Bad),
-                Headed::Unfinished => {}
+            if let Some(answer) = self.told_if_due(alloc, link, &mut scan)? {
+                return Ok(answer);
             }
             match self.taken.fill(link, HEAD_PIECE)? {
                 Filled::More => {}
-                Filled::End => return Ok(ResponseIn::End),
+                Filled::End => {
+                    return match self.told(alloc, link)? {
+                        Some(answer) => Ok(answer),
+                        None => Ok(ResponseIn::End),
+                    };
+                }
                 Filled::Failed => return Ok(ResponseIn::ReadFault),
             }
         }

@@ -148,3 +148,16 @@ fn texts_are_bad_as_soon_as_their_bytes_are_there(rt: HostRuntime) -> Result<(),
     }
     Ok(())
 }
+
+#[test]
+fn a_byte_that_may_not_stand_there_is_bad_at_once(rt: HostRuntime) -> Result<(), Fail> {
+    let alloc = rt.alloc();
+    let head = b"\r\nHTTP/1.1 200 OK\r\nServer: a\r\nContent-Length:5\r\n\r\n".as_slice();
+    for place in 0..head.len() {
+        let mut text = Vec::from_slice(alloc, head)?;
+        text.truncate(place);
+        text.push(0)?;
+        assert!(rt; matches!(answer(alloc, text.as_slice())?, ResponseIn::Bad));
+    }
+    Ok(())
+}
