@@ -7,4 +7,5 @@ pub mod Rows
 pub mod TakenLemmas
 pub mod TargetLemmas
 pub mod TextLemmas
+pub mod UniqueLemmas
 pub mod WordLemmas
