@@ -28,7 +28,8 @@ pub enum HttpIn {
     ReadFault,
 }
 
-/// Reads the requests of a connection one after the other (RFC 9112, section 3). It is seen as the bytes that it took and
+/// Reads the requests of a connection one after the other (RFC 9112, sections 3 and 6): a head of at most 8192 bytes and 64
+/// fields, and then as many bytes as its Content-Length says, at most 1,048,576. It is seen as the bytes that it took and
 /// that no request has given yet.
 #[derive(Debug, Drop)]
 pub struct RequestReader {
@@ -60,13 +61,13 @@ impl RequestReader {
         }
     }
 
-    /// Reads the next request off a link, in whatever pieces its bytes come. After an error the reader has all the bytes that
-    /// it took, and may be called again.
+    /// Reads the next request off a link, in whatever pieces its bytes come. An error is want of memory: the reader then has
+    /// all the bytes that it took, and may be called again.
     pub fn next<L: Link>(&mut self, alloc: Global, link: &mut L) -> Result<HttpIn, AllocError>
         // Where the link tells its bytes, the answer is by the whole rest of the stream, and what no request gave stays.
         ensures reads { IfOk result (Reads (prepend_known self.old (L.left link.old)) (prepend_known self.new (L.left link.new))) }
 
-        // By any link, the answer is by the bytes that had come, and no more were waited for.
+        // By any link, the answer is by the bytes that had come: a refusal needs no more of them, or the stream has ended.
         ensures answers { IfOk result (Answers (L.left link.old) (L.left link.new) self.old self.new) }
 
         // Want of memory loses nothing.

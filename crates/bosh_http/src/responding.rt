@@ -59,8 +59,8 @@ impl ResponseReader {
         }
     }
 
-    /// Reads the next response off a link, in whatever pieces its bytes come. After an error the reader has all the bytes
-    /// that it took, and may be called again.
+    /// Reads the next response off a link, in whatever pieces its bytes come. An error is want of memory: the reader then
+    /// has all the bytes that it took, and may be called again.
     pub fn next<L: Link>(&mut self, alloc: Global, link: &mut L) -> Result<ResponseIn, AllocError>
         // Where the link tells its bytes, the answer is by the whole rest of the stream, and what no response gave stays.
         ensures reads { IfOk result (ReadsBack (prepend_known self.old (L.left link.old)) (prepend_known self.new (L.left link.new))) }

@@ -57,8 +57,8 @@ impl Scan {
         }
     }
 
-    // Whether the bytes that came since the last call may tell something: false only where the same bytes and some more
-    // are a head if these began one.
+    // Whether one of the bytes that weren't scanned yet may tell something. The scan goes no further than that byte, since the
+    // parser then sees all of them.
     pub(crate) fn is_due(&mut self, bytes: &[u8]) -> bool
         ensures { result ≡ false → length bytes.now < longest_head }
     {
