@@ -1,3 +1,11 @@
+pub mod HeadingLemmas
+pub mod JudgingLemmas
 pub mod MessageLemmas
+pub mod ReadingLemmas
+pub mod RespondingLemmas
 pub mod Rows
+pub mod TakenLemmas
+pub mod TargetLemmas
 pub mod TextLemmas
+pub mod UniqueLemmas
+pub mod WordLemmas

@@ -4,7 +4,7 @@ use Rattle.std.specs.Prelude.{codes, List, [], ◌∷◌, ℕ, true, false, Some
 use Rattle.std.specs.Fmt.{digits}
 use Rattle.httparse.specs.Grammar.{RequestHead, Field, crlf, trim_ows}
 use Rattle.bosh_http.specs.Fields.{is_closing}
-use Rattle.bosh_http.specs.Message.{head_refusal, content_length, fields_of}
+use Rattle.bosh_http.specs.Message.{refusal_of, head_refusal, content_length, fields_of}
 use Rattle.bosh_http.specs.Texts.{response_text, response_with}
 use Rattle.bosh_http.specs.declared.refusal.HttpRefusal.TheVariants.{BadHost, Method, Path, Transfer, Encoding, NoLength, BadLength, TooLong}
 
@@ -27,7 +27,7 @@ abbrev post : List Field → RequestHead
 post fields = head (codes "POST") (codes "/http-bind") (host ∷ fields)
 
 served : head_refusal (post (length_68 ∷ [])) ≡ None
-unfolding head_refusal trim_ows
+unfolding refusal_of trim_ows
 served = refl
 
 has_68_bytes : content_length (post (length_68 ∷ [])) ≡ 68
@@ -36,70 +36,70 @@ has_68_bytes = refl
 
 -- the same length twice, once with a leading zero
 same_twice : head_refusal (post (length_68 ∷ field (codes "Content-Length") (codes "068") ∷ [])) ≡ None
-unfolding head_refusal trim_ows
+unfolding refusal_of trim_ows
 same_twice = refl
 
 differ : head_refusal (post (length_68 ∷ field (codes "Content-Length") (codes "67") ∷ [])) ≡ Some BadLength
-unfolding head_refusal trim_ows
+unfolding refusal_of trim_ows
 differ = refl
 
 signed : head_refusal (post (field (codes "Content-Length") (codes "+5") ∷ [])) ≡ Some BadLength
-unfolding head_refusal trim_ows
+unfolding refusal_of trim_ows
 signed = refl
 
 nineteen_digits : head_refusal (post (field (codes "Content-Length") (codes "0000000000000000005") ∷ [])) ≡ Some BadLength
-unfolding head_refusal trim_ows
+unfolding refusal_of trim_ows
 nineteen_digits = refl
 
 no_length : head_refusal (post []) ≡ Some NoLength
-unfolding head_refusal trim_ows
+unfolding refusal_of trim_ows
 no_length = refl
 
 too_long : head_refusal (post (field (codes "Content-Length") (codes "1048577") ∷ [])) ≡ Some TooLong
-unfolding head_refusal trim_ows
+unfolding refusal_of trim_ows
 too_long = refl
 
 just_fits : head_refusal (post (field (codes "Content-Length") (codes "1048576") ∷ [])) ≡ None
-unfolding head_refusal trim_ows
+unfolding refusal_of trim_ows
 just_fits = refl
 
 -- a length with another framing, and no length with it
 transfer : head_refusal (post (length_68 ∷ field (codes "Transfer-Encoding") (codes "chunked") ∷ [])) ≡ Some Transfer
-unfolding head_refusal trim_ows
+unfolding refusal_of trim_ows
 transfer = refl
 
 transfer_alone : head_refusal (post (field (codes "Transfer-Encoding") (codes "chunked") ∷ [])) ≡ Some Transfer
-unfolding head_refusal trim_ows
+unfolding refusal_of trim_ows
 transfer_alone = refl
 
 encoded : head_refusal (post (length_68 ∷ field (codes "Content-Encoding") (codes "gzip") ∷ [])) ≡ Some Encoding
-unfolding head_refusal trim_ows
+unfolding refusal_of trim_ows
 encoded = refl
 
 identity : head_refusal (post (length_68 ∷ field (codes "Content-Encoding") (codes "Identity") ∷ [])) ≡ None
-unfolding head_refusal trim_ows
+unfolding refusal_of trim_ows
 identity = refl
 
 -- another method on another path
 method_first : head_refusal (head (codes "GET") (codes "/x") (host ∷ [])) ≡ Some Method
-unfolding head_refusal trim_ows
+unfolding refusal_of trim_ows
 method_first = refl
 
 path : head_refusal (head (codes "POST") (codes "/x") (host ∷ [])) ≡ Some Path
-unfolding head_refusal trim_ows
+unfolding refusal_of trim_ows
 path = refl
 
 no_host : head_refusal (head (codes "POST") (codes "/x") []) ≡ Some BadHost
-unfolding head_refusal trim_ows
+unfolding refusal_of trim_ows
 no_host = refl
 
 two_hosts : head_refusal (head (codes "POST") (codes "/x") (host ∷ host ∷ [])) ≡ Some BadHost
-unfolding head_refusal trim_ows
+unfolding refusal_of trim_ows
 two_hosts = refl
 
 -- HTTP/1.0 needs no Host
 old_version : head_refusal (record (head (codes "POST") (codes "/http-bind") (length_68 ∷ [])) { minor = 0 }) ≡ None
-unfolding head_refusal trim_ows
+unfolding refusal_of trim_ows
 old_version = refl
 
 close_in_a_list : is_closing 1 (fields_of (post (field (codes "Connection") (codes "keep-alive, Close") ∷ []))) ≡ true

@@ -6,10 +6,16 @@ use Rattle.std.specs.Str.{str_eq_ignore_ascii_case}
 use Rattle.std.specs.Str.Parse.{digits_value}
 use Rattle.httparse.specs.Ascii.{comma}
 use Rattle.httparse.specs.Grammar.{trim_ows}
+use Rattle.httparse.specs.Spans.{header_bytes}
+use Rattle.httparse.specs.declared.spans.HeaderSpan.{HeaderSpan}
 
 -- the values of the fields of a name, which is compared without ASCII case (RFC 9110, section 5.1)
 abbrev pub values_of : List ℕ → List (List ℕ × List ℕ) → List (List ℕ)
 values_of name fields = map (λ field. field.1) (filter (λ field. str_eq_ignore_ascii_case name field.0) fields)
+
+-- the same of fields that lie in these bytes
+abbrev pub values_at : List ℕ → List ℕ → List HeaderSpan → List (List ℕ)
+values_at bytes name headers = values_of name (map (header_bytes bytes) headers)
 
 -- there are more fields than are read
 abbrev pub has_too_many : List (List ℕ × List ℕ) → Bool
@@ -46,15 +52,23 @@ abbrev pub first_length : List (List ℕ) → ℕ
 first_length [] = 0
 first_length (value ∷ values) = digits_value 10 value
 
+-- one isn't a number, or states another number than this
+abbrev pub has_other_length : ℕ → List (List ℕ) → Bool
+has_other_length number values = list_any (λ value. not (is_length value && digits_value 10 value == number)) values
+
 -- one isn't a number, or two are not the same number (RFC 9112, section 6.3)
 abbrev pub has_bad_length : List (List ℕ × List ℕ) → Bool
 has_bad_length fields =
     let values = lengths_of fields in
-    list_any (λ value. not (is_length value && digits_value 10 value == first_length values)) values
+    has_other_length (first_length values) values
+
+-- the parts of a list (RFC 9110, section 5.6.1)
+abbrev pub parts_of : List ℕ → List (List ℕ)
+parts_of value = slice_split (λ byte. byte == comma) value
 
 -- a list of words has this word, compared without ASCII case (RFC 9110, section 5.6.1)
 abbrev pub has_word : List ℕ → List ℕ → Bool
-has_word word value = list_any (λ part. str_eq_ignore_ascii_case word (trim_ows part)) (slice_split (λ byte. byte == comma) value)
+has_word word value = list_any (λ part. str_eq_ignore_ascii_case word (trim_ows part)) (parts_of value)
 
 -- the connection ends after the response (RFC 9112, section 9.3)
 abbrev pub is_closing : ℕ → List (List ℕ × List ℕ) → Bool

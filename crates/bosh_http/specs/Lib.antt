@@ -1,4 +1,10 @@
 pub mod Fields
+pub mod Judging
 pub mod Message
+pub mod Reading
 pub mod Refusal
+pub mod Responding
+pub mod Response
+pub mod Taking
+pub mod Target
 pub mod Texts

@@ -28,20 +28,27 @@ abbrev pub first_reason : List (Bool × HttpRefusal) → Option HttpRefusal
 first_reason [] = None
 first_reason (reason ∷ others) = if reason.0 then Some reason.1 else first_reason others
 
--- what refuses a whole head, in this order
-unfoldable pub head_refusal : RequestHead → Option HttpRefusal
-head_refusal head = first_reason (
-    (has_too_many (fields_of head), HeadTooLarge)
-    ∷ (has_bad_host head.minor (fields_of head), BadHost)
-    ∷ (not (bytes_eq head.method (codes "POST")), Method)
-    ∷ (not (bytes_eq head.target (codes "/http-bind")), Path)
-    ∷ (has_transfer (fields_of head), Transfer)
-    ∷ (has_encoding (fields_of head), Encoding)
-    ∷ (has_no_length (fields_of head), NoLength)
-    ∷ (has_bad_length (fields_of head), BadLength)
-    ∷ (nat_lt longest_content (content_length head), TooLong)
+-- why a head with this version, method, target and fields may be refused, in this order
+abbrev pub reasons_of : ℕ → List ℕ → List ℕ → List (List ℕ × List ℕ) → List (Bool × HttpRefusal)
+reasons_of minor method target fields =
+    (has_too_many fields, HeadTooLarge)
+    ∷ (has_bad_host minor fields, BadHost)
+    ∷ (not (bytes_eq method (codes "POST")), Method)
+    ∷ (not (bytes_eq target (codes "/http-bind")), Path)
+    ∷ (has_transfer fields, Transfer)
+    ∷ (has_encoding fields, Encoding)
+    ∷ (has_no_length fields, NoLength)
+    ∷ (has_bad_length fields, BadLength)
+    ∷ (nat_lt longest_content (first_length (lengths_of fields)), TooLong)
     ∷ []
-    )
+
+-- what refuses it
+unfoldable pub refusal_of : ℕ → List ℕ → List ℕ → List (List ℕ × List ℕ) → Option HttpRefusal
+refusal_of minor method target fields = first_reason (reasons_of minor method target fields)
+
+-- what refuses a whole head
+abbrev pub head_refusal : RequestHead → Option HttpRefusal
+head_refusal head = refusal_of head.minor head.method head.target (fields_of head)
 
 -- the stream begins with this head, which fits the limit, and goes on with these bytes
 abbrev pub BeginsWith : List ℕ → RequestHead → List ℕ → Type 0

@@ -2,13 +2,24 @@
 // text, and a response with one.
 #![tactic(auto)]
 
+mod fields;
+mod heading;
+mod judging;
 mod laws;
+mod reading;
 mod refusal;
+mod responding;
+mod scan;
+mod taken;
+mod target;
 #[cfg(test)]
 mod tests;
+mod words;
 mod writing;
 
 pub use bosh_ports::WriteFault;
 pub use laws::streams_are_cut_in_one_way;
+pub use reading::{HttpIn, RequestReader};
 pub use refusal::HttpRefusal;
+pub use responding::{ResponseIn, ResponseReader};
 pub use writing::{write_post, write_response};

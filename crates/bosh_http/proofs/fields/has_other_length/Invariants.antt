@@ -1,0 +1,13 @@
+use Rattle.std.proofs.Common.{◌≡◌, length, All, map}
+use Rattle.httparse.specs.Spans.{IsHeaderWithin, header_bytes}
+use Rattle.bosh_http.specs.Fields.{has_other_length, lengths_of}
+use Rattle.bosh_http.proofs.fields.has_other_length.Given as goal
+
+abbrev pub invariant-loop-value : goal.invariant-loop-value
+invariant-loop-value l = record {
+  same : has_other_length l.number (lengths_of (map (header_bytes l.bytes) l.headers)) ≡ has_other_length l.number (lengths_of (map (header_bytes l.bytes) l.left));
+  within : All (IsHeaderWithin (length l.bytes)) l.left;
+}
+
+abbrev pub decreases-loop-value : goal.decreases-loop-value
+decreases-loop-value l = length l.left

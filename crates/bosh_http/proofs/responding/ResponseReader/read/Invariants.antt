@@ -1,0 +1,15 @@
+use Rattle.std.proofs.Common.{◌≤◌, ◌-◌, length}
+use Rattle.std.specs.Io.KnownBytes.{Keeps}
+use Rattle.bosh_http.specs.Message.{longest_head}
+use Rattle.bosh_http.specs.Taking.{TakesMore}
+use Rattle.bosh_http.proofs.responding.ResponseReader.read.Given as goal
+
+abbrev pub invariant-loop-answer : goal.invariant-loop-answer
+invariant-loop-answer g l = record {
+  takes : TakesMore (g.L.Link.left l.fn.link) (g.L.Link.left l.link) l.fn.self l.self;
+  given : Keeps (g.L.Link.given l.fn.link) (g.L.Link.given l.link);
+  faults : g.L.Link.faults l.fn.link ≤ g.L.Link.faults l.link;
+}
+
+abbrev pub decreases-loop-answer : goal.decreases-loop-answer
+decreases-loop-answer g l = longest_head - length l.self

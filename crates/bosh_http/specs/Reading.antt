@@ -1,0 +1,31 @@
+-- What reading the next request answers.
+use Rattle.std.specs.Prelude.{◌≡◌, ℕ, ◌⊎◌, List, [], ◌++◌, drop, Option, None, Some, IfSome}
+use Rattle.std.specs.Io.KnownBytes.{Consumes}
+use Rattle.bosh_http.specs.Judging.{IsSettled}
+use Rattle.bosh_http.specs.Message.{IsRequestMessage, IsRefused}
+use Rattle.bosh_http.specs.declared.reading.HttpIn.{HttpIn}
+use Rattle.bosh_http.specs.declared.reading.HttpIn.TheVariants.{Request, Refused, End, ReadFault}
+
+-- these are all of the bytes that were left, where the link tells them
+abbrev pub IsAllOf : Option (List ℕ) → List ℕ → Type 0
+IsAllOf left taken = IfSome left (λ bytes. taken ≡ bytes)
+
+-- the answer by the bytes that have been seen, and what is kept of them: a refusal needs no more bytes, or these were all
+abbrev pub AnswersBy : List ℕ → List ℕ → Type 0 → HttpIn → Type 0
+AnswersBy seen kept all (Request body closing) = (count : ℕ) × IsRequestMessage seen count body closing × (kept ≡ drop count seen)
+AnswersBy seen kept all (Refused refusal) = IsRefused seen refusal × (IsSettled refusal ⊎ all) × (kept ≡ seen)
+AnswersBy seen kept all End = (seen ≡ []) × all × (kept ≡ [])
+AnswersBy seen kept all ReadFault = kept ≡ seen
+
+-- some bytes were taken off the link, and the answer is by those that had been kept and these
+abbrev pub Answers : Option (List ℕ) → Option (List ℕ) → List ℕ → List ℕ → HttpIn → Type 0
+Answers left left' kept kept' answer = (taken : List ℕ) × Consumes left left' taken × AnswersBy (kept ++ taken) kept' (IsAllOf left taken) answer
+
+-- the answer by the whole rest of the stream, and by what is left of it then
+abbrev pub Reads : Option (List ℕ) → Option (List ℕ) → HttpIn → Type 0
+Reads None rest answer = Unit {0}
+Reads (Some stream) None answer = ⊥
+Reads (Some stream) (Some rest) (Request body closing) = (count : ℕ) × IsRequestMessage stream count body closing × (rest ≡ drop count stream)
+Reads (Some stream) (Some rest) (Refused refusal) = IsRefused stream refusal × (rest ≡ stream)
+Reads (Some stream) (Some rest) End = (stream ≡ []) × (rest ≡ [])
+Reads (Some stream) (Some rest) ReadFault = rest ≡ stream
