@@ -1,4 +1,5 @@
-ghost use Rattle.std.specs.Prelude.{◌≡◌, List, [], ◌∷◌, length, slice_get, OnOk};
+ghost use Rattle.std.specs.Prelude.{◌≡◌, List, [], ◌∷◌, length, not, slice_get, OnOk, IfOk};
+ghost use Rattle.std.specs.Bool.{OnTrue, OnFalse};
 ghost use Rattle.body_cutter.specs.Names.{around, due, has_name, is_empty, with_count, with_name, without_first};
 
 use crate::place::{Around, Kind};
@@ -123,18 +124,12 @@ impl NameSet {
         self.names.len()
     }
 
-    #[tactic(auto, unfolding(crate::specs::Names::has_name))]
-    pub(crate) fn has(&self, name: &[u8]) -> bool
-        ensures { result ≡ has_name self.now name.now }
+    /// Adds a name, and answers whether it is new. If it isn't, nothing changes.
+    pub(crate) fn add(&mut self, name: Vec<u8>) -> Result<bool, AllocError>
+        ensures added { IfOk result (λ added. added ≡ not (has_name self.old name.items)) }
+        ensures new_name { IfOk result (λ added. OnTrue added (self.new ≡ with_name self.old name.items)) }
+        ensures known_name { IfOk result (λ added. OnFalse added (self.new ≡ self.old)) }
     {
-        self.names.contains(name)
-    }
-
-    #[tactic(auto, unfolding(crate::specs::Names::with_name))]
-    pub(crate) fn insert(&mut self, name: Vec<u8>) -> Result<(), AllocError>
-        ensures { OnOk result (self.new ≡ with_name self.old name.items) }
-    {
-        self.names.insert(name)?;
-        Ok(())
+        Ok(self.names.insert(name)?)
     }
 }

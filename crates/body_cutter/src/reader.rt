@@ -221,11 +221,11 @@ impl Reader {
     fn end_attr_name(&mut self, at: usize) -> Result<bool, AllocError>
         ensures { IfOk result (λ added. Takes (attr_named (state_of self.old) at) (state_of self.old) added (state_of self.new)) }
     {
-        if self.seen.has(self.name.as_slice()) {
+        let name = Vec::from_slice(self.alloc, self.name.as_slice())?;
+        if !self.seen.add(name)? {
             return Ok(false);
         }
-        let name = mem::replace(&mut self.name, Vec::new(self.alloc));
-        self.seen.insert(name)?;
+        self.name.clear();
         self.name_end = at;
         self.too_many_attributes = either(
             self.too_many_attributes,
