@@ -1,0 +1,66 @@
+-- Texts one after the other are a text.
+use Rattle.std.proofs.Common.{◌≡◌, ℕ, ◌<◌, Bool, true, false, ◌&&◌, List, [], ◌∷◌, ◌++◌, refl, ap, arith}
+use Rattle.std.specs.Prelude.{Option, None, Some, IsUtf8, nat_lt}
+use Rattle.std.proofs.lemmas.Str.{IsUtf8-append, IsUtf8-nil, encode_ascii}
+use Rattle.std.proofs.lemmas.Bool.{ltb-true}
+use Rattle.std.proofs.lemmas.Bool.Decides.{nat_tests}
+use Rattle.body_cutter.specs.declared.place.Wide.{Wide}
+use Rattle.body_cutter.specs.declared.place.Wide.TheVariants.{Whole, One, Two, Three, AfterE0, AfterEd, AfterEf, AfterEfBf, AfterF0, AfterF4}
+use Rattle.body_cutter.specs.Chars.{wide_begin, wide_next, ends_whole, is_whole}
+use Rattle.body_cutter.specs.BodyText.{IsText}
+
+at_end : (wide : Wide) (text : List ℕ) → is_whole wide ≡ true → ends_whole Whole text ≡ true → ends_whole wide text ≡ true
+at_end Whole text w t = t
+at_end One text w t = cc
+at_end Two text w t = cc
+at_end Three text w t = cc
+at_end AfterE0 text w t = cc
+at_end AfterEd text w t = cc
+at_end AfterEf text w t = cc
+at_end AfterEfBf text w t = cc
+at_end AfterF0 text w t = cc
+at_end AfterF4 text w t = cc
+
+-- what is left of a test goes on with the next character's state
+pub goes_on : (o : Option Wide) (text other : List ℕ) → (elim o [ None ↦ false | Some next ↦ ends_whole next text ]) ≡ true → ((next : Wide) → ends_whole next text ≡ true → ends_whole next other ≡ true) →
+    (elim o [ None ↦ false | Some next ↦ ends_whole next other ]) ≡ true
+goes_on None text other e f = e
+goes_on (Some next) text other e f = f next e
+
+pub ends_append : (text other : List ℕ) (wide : Wide) → ends_whole wide text ≡ true → ends_whole Whole other ≡ true → ends_whole wide (text ++ other) ≡ true
+unfolding ends_whole
+ends_append [] other wide e o = at_end wide other e o
+ends_append (b ∷ text) other wide e o = goes_on (wide_next wide b) text (text ++ other) e (λ next k. ends_append text other next k o)
+
+pub text_append : (text other : List ℕ) → IsText text → IsText other → IsText (text ++ other)
+text_append text other t o = (IsUtf8-append text other t.0 o.0, ends_append text other Whole t.1 o.1)
+
+pub text_nothing : IsText []
+unfolding ends_whole
+text_nothing = (IsUtf8-nil, refl)
+
+pub ascii_utf8 : (b : ℕ) → b < 128 → IsUtf8 (b ∷ [])
+ascii_utf8 b h = (b ∷ [], (grind (arith, nat_tests, h), ap (λ (bytes : List ℕ). bytes ++ []) (encode_ascii b h)))
+
+-- an ASCII byte is a text
+ascii_begins : (b : ℕ) → nat_lt b 128 ≡ true → wide_next Whole b ≡ Some Whole
+unfolding wide_next wide_begin
+ascii_begins b h = rw h refl
+
+pub ascii_text : (b : ℕ) → nat_lt b 128 ≡ true → IsText (b ∷ [])
+unfolding ends_whole
+ascii_text b h = (ascii_utf8 b (ltb-true b 128 h), ap (λ (o : Option Wide). elim o [ None ↦ false | Some next ↦ ends_whole next [] ]) (ascii_begins b h))
+
+abbrev pub all_ascii : List ℕ → Bool
+all_ascii [] = true
+all_ascii (b ∷ bytes) = nat_lt b 128 && all_ascii bytes
+
+pub both : (a b : Bool) → a && b ≡ true → (a ≡ true) × (b ≡ true)
+both true b h = (refl, h)
+both false b h = cc
+
+pub texts_ascii : (bytes : List ℕ) → all_ascii bytes ≡ true → IsText bytes
+texts_ascii [] h = text_nothing
+texts_ascii (b ∷ bytes) h =
+    let k = both (nat_lt b 128) (all_ascii bytes) h in
+    text_append (b ∷ []) bytes (ascii_text b k.0) (texts_ascii bytes k.1)
