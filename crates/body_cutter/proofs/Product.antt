@@ -100,3 +100,7 @@ pub splits : (text : List ℕ) → Splits text
 unfolding reading accepts ends_whole is_complete is_final
 splits [] at s = and_turned (is_content s.place) (is_whole s.wide) (is_none s.reference && is_empty s.elements)
 splits (b ∷ text) at s = after_byte b text at s (wide_next s.wide b) refl (splits text)
+
+-- a step of the reader is one of its control
+pub step_follows : (wide : Wide) (s : State) (at b : ℕ) → wide_next s.wide b ≡ Some wide → Steps (step s at b) (advance s.kind (control_of s) b) wide s.kind
+step_follows wide s at b e = step_steps wide s at b e

@@ -1,8 +1,11 @@
 pub mod Chars
+pub mod Utf8
 pub mod References
 pub mod Tables
 pub mod Names
 pub mod Reader
+pub mod Completion
+pub mod Viable
 pub mod Reading
 pub mod Refusal
 pub mod Grammar

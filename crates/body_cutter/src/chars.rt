@@ -57,7 +57,7 @@ fn grows_name_plainly(b: u8) -> bool
 
 /// An allowed character (XML 1.0 section 2.2).
 #[tactic(auto, unfolding(crate::specs::Chars::is_allowed))]
-pub(crate) fn is_allowed(n: u32) -> bool
+pub fn is_allowed(n: u32) -> bool
     ensures { result ≡ is_allowed n }
 {
     n == 9

@@ -1,4 +1,4 @@
-ghost use Rattle.std.specs.Prelude.{◌≡◌, ◌≤◌, ℕ, ◌↔◌, List, [], length, true, IsUtf8};
+ghost use Rattle.std.specs.Prelude.{◌≡◌, ◌≤◌, ℕ, ◌↔◌, List, [], length, true};
 ghost use Rattle.std.specs.List.{All};
 ghost use Rattle.body_cutter.specs.declared.place.Place.TheVariants.{Start, StanzaStart};
 ghost use Rattle.body_cutter.specs.declared.place.Kind.TheVariants as kinds;
@@ -11,8 +11,8 @@ ghost use Rattle.body_cutter.specs.Built.{AreFresh, IsElementWithin, IsWritten, 
 
 /// The reader takes exactly the texts of the grammar.
 pub fn reader_takes_the_grammar()
-    ensures body { (text : List ℕ) → IsUtf8 text → (is_accepted (reading 0 (first_state kinds.Body Start) text) ≡ true) ↔ IsBodyText text }
-    ensures stanza { (text : List ℕ) → IsUtf8 text → (is_accepted (reading 0 (first_state kinds.Stanza StanzaStart) text) ≡ true) ↔ IsElementText text }
+    ensures body { (text : List ℕ) → (is_accepted (reading 0 (first_state kinds.Body Start) text) ≡ true) ↔ IsBodyText text }
+    ensures stanza { (text : List ℕ) → (is_accepted (reading 0 (first_state kinds.Stanza StanzaStart) text) ≡ true) ↔ IsElementText text }
 {}
 
 /// A text has one reading: its attributes and children, and the first limit that it passes.

@@ -3,22 +3,27 @@
 // right, and keeps the names of the open elements, so nothing recurs on depth.
 #![tactic(auto)]
 
+mod characters;
 mod chars;
 mod content;
 mod laws;
 mod names;
 mod parts;
 mod place;
+mod prefixes;
 mod prolog;
 mod reader;
 mod references;
 mod tags;
 mod whole_text;
 
+pub use characters::texts_are_allowed_characters;
+pub use chars::is_allowed;
 pub use laws::{
     a_text_has_one_reading, built_bodies_read_back, parts_are_pieces, reader_takes_the_grammar,
 };
 pub use parts::{Attr, Attrs, Cut, CutError, CutRefusal, Span, Spans};
+pub use prefixes::prefixes_are_viable_where_read;
 pub use whole_text::{cut, read_stanza};
 
 #[cfg(test)]

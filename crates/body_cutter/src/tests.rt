@@ -114,6 +114,26 @@ fn refuses_at_the_first_wrong_place(rt: HostRuntime) -> Result<(), Fail> {
     Ok(())
 }
 
+/// A name that stands twice may grow, and so may a number that is no allowed character, up to the last one.
+#[test]
+fn refuses_names_and_numbers_where_they_end(rt: HostRuntime) -> Result<(), Fail> {
+    let rows: [(&str, Option<CutRefusal>); 5] = [
+        ("<body a='' a", Some(CutRefusal::Malformed(12))),
+        ("<body a='' a=", Some(CutRefusal::Malformed(12))),
+        ("<body><a>&#x11", Some(CutRefusal::Malformed(14))),
+        (
+            "<body><a>&#xFFFF;</a></body>",
+            Some(CutRefusal::Forbidden(16)),
+        ),
+        ("<body><a>&#xFFFF9;</a></body>", None),
+    ];
+    for (text, want) in &rows {
+        let found = refusal_of(rt.alloc(), text.as_bytes())?;
+        assert_eq!(rt; found, *want, "at {text}");
+    }
+    Ok(())
+}
+
 /// A text with so many of one piece in it.
 fn repeated(
     alloc: Global,

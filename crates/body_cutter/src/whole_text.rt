@@ -8,6 +8,7 @@ ghost use Rattle.body_cutter.specs.Reading.{state_of};
 ghost use Rattle.body_cutter.specs.Refusal.{Answers, ended_refusal, ends_in_section_start, is_before_body, is_complete, is_forbidden, is_opened, is_content, limit_refusal, reading, read_answer, stopped_refusal, text_answer, unit_answer, unit_result, ReadsTo};
 ghost use Rattle.body_cutter.specs.Parts.{Parts};
 ghost use Rattle.body_cutter.specs.BodyText.{HasBodyParts, HasElementParts, IsBody, IsBodyText, IsElementText, IsStanza, Tells, answer_of};
+ghost use Rattle.body_cutter.specs.Viable.{Anything, NamesBody, TellsRow};
 
 use crate::parts::{Cut, CutError, CutRefusal};
 use crate::place::{Kind, Place, Wide};
@@ -210,6 +211,8 @@ pub fn cut(alloc: Global, text: &[u8]) -> Result<Cut, CutError>
     ensures refused { IfErr result (λ e. Tells IsBodyText HasBodyParts 1048576 e text.now) }
     // Each body's text gives its parts, or the first limit that they pass.
     ensures parts { (parts : Parts) → HasBodyParts text.now parts → length text.now ≤ 1048576 → Answers result (answer_of parts) }
+    // A refusal for its place stands in its row of the table, by the longest prefix that some bytes complete.
+    ensures row { IfErr result (λ e. TellsRow IsBodyText NamesBody e text.now) }
 {
     parts_of(alloc, Kind::Body, Place::Start, LONGEST_BODY, text)
 }
@@ -225,6 +228,8 @@ pub fn read_stanza(alloc: Global, text: &[u8]) -> Result<(), CutError>
     ensures refused { IfErr result (λ e. Tells IsElementText HasElementParts 1000000 e text.now) }
     // Each element by itself is read, or gives the first limit that it passes.
     ensures parts { (parts : Parts) → HasElementParts text.now parts → length text.now ≤ 1000000 → Answers result (unit_answer (answer_of parts)) }
+    // A refusal for its place stands in its row of the table, by the longest prefix that some bytes complete.
+    ensures row { IfErr result (λ e. TellsRow IsElementText Anything e text.now) }
 {
     let parts = parts_of(
         alloc,

@@ -2,7 +2,6 @@
 #![tactic(auto)]
 
 mod run;
-
 #[cfg(test)]
 mod tests;
 

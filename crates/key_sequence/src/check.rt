@@ -1,5 +1,5 @@
-ghost use Rattle.std.specs.Prelude.{◌≡◌, ◌↔◌};
-ghost use Rattle.key_sequence.specs.Current.{Fits, current_after};
+ghost use Rattle.std.specs.Prelude.{◌≡◌, ◌↔◌, IsTrue};
+ghost use Rattle.key_sequence.specs.Current.{fits, current_after};
 
 use crate::digest::digest_of;
 use bosh_types::Text;
@@ -39,7 +39,7 @@ impl KeyCheck {
 
     /// Checks the `key` of a request, and goes on from its `newkey`, or else from its `key`. It takes no memory.
     pub fn accept(&mut self, key: Option<Text>, newkey: Option<Text>) -> Verdict
-        ensures verdict { (result ≡ Verdict.Good) ↔ Fits self.old key }
+        ensures verdict { (result ≡ Verdict.Good) ↔ IsTrue (fits self.old key) }
         ensures good { result ≡ Verdict.Good → self.new ≡ current_after self.old key newkey }
         ensures wrong { result ≡ Verdict.Wrong → self.new ≡ self.old }
     {

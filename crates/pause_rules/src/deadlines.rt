@@ -1,7 +1,7 @@
-ghost use Rattle.std.specs.Prelude.{◌≡◌, ◌<◌, ◌↔◌, IsTrue, IsSome, IfSome};
-ghost use Rattle.std.specs.Int.{abs_diff};
-ghost use Rattle.pause_rules.specs.Due.{IsWaitDue, IsSilentDue};
-ghost use Rattle.pause_rules.specs.Overactive.{IsOveractive, ServesNothing};
+ghost use Rattle.std.specs.Prelude.{◌≡◌, ◌<◌, ◌↔◌, IsTrue};
+ghost use Rattle.std.specs.Option.{SomeIff};
+ghost use Rattle.pause_rules.specs.Due.{is_wait_due, is_silent_due};
+ghost use Rattle.pause_rules.specs.Overactive.{apart, is_overactive, serves_nothing};
 
 use crate::mark::Mark;
 use bosh_types::{Moment, Terms};
@@ -50,7 +50,7 @@ impl Deadlines {
 
     /// Whether a request that arrived then has been held for the session's `wait` (XEP-0124, section 7.1).
     pub fn wait_due(&self, arrived: Moment, now: Moment) -> bool
-        ensures { IsTrue result ↔ IsWaitDue self.now.terms arrived now }
+        ensures { result ≡ is_wait_due self.now.terms arrived now }
     {
         let wait = u64::from(self.terms.wait) * SECOND;
         match now.millis().checked_sub(arrived.millis()) {
@@ -61,7 +61,7 @@ impl Deadlines {
 
     /// Whether a client that was last heard or answered then has been silent for too long (XEP-0124, section 10).
     pub fn silent_due(&self, quiet: Moment, now: Moment) -> bool
-        ensures { IsTrue result ↔ IsSilentDue self.now.period quiet now }
+        ensures { result ≡ is_silent_due self.now.period quiet now }
     {
         let period = u64::from(self.period) * SECOND;
         match now.millis().checked_sub(quiet.millis()) {
@@ -93,8 +93,7 @@ impl Deadlines {
     /// By how many milliseconds a request lies apart from the one with the id before it, where that is too close: `held`
     /// requests are held before it (XEP-0124, sections 11 and 12).
     pub fn overactive(&self, held: u32, this: Mark, prior: Mark) -> Option<u64>
-        ensures found { IsSome result ↔ IsOveractive self.now.terms held this prior }
-        ensures apart { IfSome result (λ millis. millis ≡ abs_diff this.arrived prior.arrived) }
+        ensures { SomeIff result (IsTrue (is_overactive self.now.terms held this prior)) (apart this prior) }
     {
         if !this.empty {
             return None;
@@ -112,7 +111,7 @@ impl Deadlines {
 
     // Whether an empty request only makes the manager answer.
     fn serves_nothing(&self, held: u32, prior: &Mark) -> bool
-        ensures { IsTrue result ↔ ServesNothing self.now.terms held prior.now }
+        ensures { result ≡ serves_nothing self.now.terms held prior.now }
     {
         if self.terms.polled {
             return !prior.creation && prior.empty && prior.bare;

@@ -1,5 +1,5 @@
 ghost use Rattle.std.specs.Prelude.{◌≡◌};
-ghost use Rattle.std.specs.Int.{abs_diff};
+ghost use Rattle.pause_rules.specs.Overactive.{apart};
 
 use bosh_types::Moment;
 
@@ -19,7 +19,7 @@ pub struct Mark {
 impl Mark {
     /// How many milliseconds lie between two arrivals, whichever came first.
     pub(crate) fn apart(&self, other: &Mark) -> u64
-        ensures { result ≡ abs_diff self.now.arrived other.now.arrived }
+        ensures { result ≡ apart self.now other.now }
     {
         self.arrived.millis().abs_diff(other.arrived.millis())
     }

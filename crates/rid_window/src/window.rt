@@ -48,14 +48,10 @@ impl<T: Drop> Window<T> {
 
     /// Puts an item into the place of its id. With `extra` the window is one id wider.
     pub fn place(&mut self, rid: Rid, extra: bool, item: T) -> Placed<T>
-        ensures answer {
-            (plain : PlainWindow T) → StandsFor self.old plain
-                → PlaceSays plain rid extra item result
-        }
-        ensures after {
-            (plain : PlainWindow T) → StandsFor self.old plain
-                → StandsFor self.new (after_place plain rid item result)
-        }
+        ensures answer { (plain : PlainWindow T) → StandsFor self.old plain
+            → PlaceSays plain rid extra item result }
+        ensures after { (plain : PlainWindow T) → StandsFor self.old plain
+            → StandsFor self.new (after_place plain rid item result) }
     {
         let Some(next) = self.next else {
             return Placed::Below(item);
@@ -76,13 +72,9 @@ impl<T: Drop> Window<T> {
 
     /// Takes the item of the lowest id not taken: `None` exactly where its place is empty, or no id is left.
     pub fn take_ready(&mut self) -> Option<(Rid, T)>
-        ensures answer {
-            (plain : PlainWindow T) → StandsFor self.old plain → result ≡ ready plain
-        }
-        ensures after {
-            (plain : PlainWindow T) → StandsFor self.old plain
-                → StandsFor self.new (after_ready plain)
-        }
+        ensures answer { (plain : PlainWindow T) → StandsFor self.old plain → result ≡ ready plain }
+        ensures after { (plain : PlainWindow T) → StandsFor self.old plain
+            → StandsFor self.new (after_ready plain) }
     {
         let next = self.next?;
         let item = self.places[0].take()?;

@@ -1,10 +1,10 @@
 -- What was given to a sink, over several calls.
-use Rattle.std.proofs.Common.{ℕ, ◌≡◌, List, [], ◌∷◌, ◌++◌, Option, Some, None, Result, Ok, Err, MatchResult, IfOk, OnErr, IsErr, refl, sym, ◌∙◌, map, ap, subst, append_assoc, append-nil}
+use Rattle.std.proofs.Common.{ℕ, suc, ◌≡◌, ◌+◌, ◌<◌, add-one, length, drop, get_or, List, [], ◌∷◌, ◌++◌, Option, Result, Ok, Err, MatchResult, IfOk, OnErr, IsErr, refl, sym, ◌∙◌, ap, subst, append_assoc, append-nil}
+use Rattle.std.proofs.Math.Seq.{drop-cons}
 use Rattle.std.proofs.KnownBytes.{Appends-trans, Appends-nil}
 use Rattle.std.specs.Io.KnownBytes.{Appends}
 use Rattle.bosh_ports.specs.Sink.{AppendsFront}
 use Rattle.script_text.specs.declared.report.ReportLine.{ReportLine}
-use Rattle.script_text.specs.declared.report.ReportLine.TheVariants.{In}
 use Rattle.script_text.specs.Report.{line_text, report_text}
 
 -- a fact for each error, where the call failed
@@ -63,15 +63,12 @@ so_far_reported old new whole rest has = (has.written, report_text rest, has.par
 pub all_reported : (old new : Option (List ℕ)) (whole : List ReportLine) → HasReported old new whole [] → Appends old new (report_text whole)
 all_reported old new whole has = subst (Appends old new) (sym (has.parts ∙ append-nil has.written)) has.gave
 
--- one more stanza
-pub one_in : (old mid new : Option (List ℕ)) (whole : List ReportLine) (items rest : List (List ℕ)) (stanza : List ℕ) → HasReported old mid whole (map (In 1 0) items) → items ≡ stanza ∷ rest → Appends mid new (report_text (In 1 0 stanza ∷ [])) → HasReported old new whole (map (In 1 0) rest)
-one_in old mid new whole items rest stanza has is more =
-    more_reported old mid new whole (In 1 0 stanza ∷ []) (map (In 1 0) rest) (subst (λ i. HasReported old mid whole (map (In 1 0) i)) is has) more
-
--- a front of one more stanza
-pub front_in : (old mid new : Option (List ℕ)) (whole : List ReportLine) (items rest : List (List ℕ)) (stanza : List ℕ) → HasReported old mid whole (map (In 1 0) items) → items ≡ stanza ∷ rest → AppendsFront mid new (report_text (In 1 0 stanza ∷ [])) → AppendsFront old new (report_text whole)
-front_in old mid new whole items rest stanza has is gave =
-    front_reported old mid new whole (In 1 0 stanza ∷ []) (map (In 1 0) rest) (subst (λ i. HasReported old mid whole (map (In 1 0) i)) is has) gave
+-- the line at a place, and those after it
+pub from_place : (lines : List ReportLine) (i : ℕ) (line : ReportLine) → i < length lines → line ≡ get_or lines i line → drop i lines ≡ (line ∷ []) ++ drop (i + 1) lines
+from_place lines i line within is =
+    drop-cons lines i line within
+    ∙ ap (λ first. first ∷ drop (suc i) lines) (sym is)
+    ∙ ap (λ next. line ∷ drop next lines) (sym (add-one i))
 
 -- a report in two parts, both given
 pub two_parts : (old mid new : Option (List ℕ)) (lines others : List ReportLine) → Appends old mid (report_text lines) → Appends mid new (report_text others) → Appends old new (report_text (lines ++ others))

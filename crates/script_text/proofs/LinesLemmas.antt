@@ -1,12 +1,12 @@
 -- Lines: where the first LF is, and what stands before and after it.
-use Rattle.std.proofs.Common.{ℕ, zero, suc, ◌≡◌, ◌+◌, ◌-◌, ◌<◌, ◌≤◌, ◌==◌, List, [], ◌∷◌, ◌++◌, Option, Some, None, Bool, true, false, nat_lt, not, add-one, length, take, drop, get_or, position, refl, sym, ◌∙◌, ap, subst, append_assoc, append-nil, length-append, arith, if◌then◌else◌}
+use Rattle.std.proofs.Common.{ℕ, zero, suc, ◌≡◌, ◌+◌, ◌-◌, ◌<◌, ◌≤◌, ◌==◌, List, [], ◌∷◌, ◌++◌, Some, None, Bool, true, false, nat_lt, not, add-one, length, take, drop, get_or, position, refl, sym, ◌∙◌, ap, subst, arith, if◌then◌else◌}
 use Rattle.std.proofs.lemmas.Grind.{common_steps}
 use Rattle.std.proofs.lemmas.Bool.{eqb-true, ltb-true}
 use Rattle.std.proofs.lemmas.Bool.Decides.{nat_tests}
 use Rattle.std.proofs.lemmas.List.{drop-take, drop-drop, length-take}
 use Rattle.std.proofs.lemmas.List.Sums.{split_at_first, passes_at_first}
 use Rattle.std.specs.List.{position_or_len}
-use Rattle.script_text.specs.Lines.{line_feed, onto_lines, lines_of, longest_line, IsFirstLonger, IsUnbroken, MovesPiece}
+use Rattle.script_text.specs.Lines.{line_feed, onto_lines, lines_of, IsFirstLonger, IsUnbroken, MovesPiece}
 
 abbrev pub is_feed : ℕ → Bool
 is_feed byte = byte == 10

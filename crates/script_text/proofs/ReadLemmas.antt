@@ -4,7 +4,6 @@ use Rattle.std.proofs.lemmas.Bool.{ltb-true}
 use Rattle.std.proofs.lemmas.Bool.Decides.{nat_tests}
 use Rattle.std.proofs.Math.Dec.{eqb-suc-zero}
 use Rattle.std.specs.Io.KnownBytes.{Keeps, IsAtEnd, prepend_known}
-use Rattle.script_text.specs.declared.lines.NextLine.{NextLine}
 use Rattle.script_text.specs.declared.lines.NextLine.TheVariants.{Line, TooLong, NoLine}
 use Rattle.script_text.specs.Lines.{line_feed, lines_of, longest_line, Reads, IsFirstLonger, IsUnbroken, MovesPiece, ended_line_of, last_line_of}
 use Rattle.script_text.proofs.LinesLemmas.{IsUnbroken-append, lines_of-ended, lines_of-last, lines_of-long}

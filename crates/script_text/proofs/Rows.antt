@@ -1,43 +1,88 @@
 -- The definitions compute: scripts and the reports that they must give.
 use Rattle.std.proofs.Common.{◌≡◌, refl}
-use Rattle.std.specs.Prelude.{codes, ◌++◌, List, ℕ}
+use Rattle.std.specs.Prelude.{codes, List, ℕ, ⊤}
 use Rattle.std.specs.Fmt.{digits}
-use Rattle.script_text.specs.Line.{line_of, first_line_of, is_simple_stanza}
+use Rattle.std.specs.Char.{encode_utf8}
+use Rattle.std.specs.Str.{chars, is_utf8}
+use Rattle.body_cutter.specs.Chars.{is_space, is_plain, is_letter, is_digit, begins_name_plainly, grows_name_plainly, is_allowed, wide_begin, wide_next, is_char_byte, is_name_start, is_name_byte, ends_whole}
+use Rattle.body_cutter.specs.Names.{around, due, has_name, with_name}
+use Rattle.body_cutter.specs.Reader.{place_next, matched, move_of, is_body_tag, with_value, with_element, with_attr_name, with_attr, without_element, with_name_begun, with_name_grown, attr_named, acted, next_move, step, first_state}
+use Rattle.body_cutter.specs.References.{letter, begun_next, letter_a_next, done_if, done_number, decimal_more, hex_more, hex_digit, decimal_next, hex_next, number_next, decimal_or_end, hex_or_end, reference_next}
+use Rattle.body_cutter.specs.Refusal.{reading, is_before_body, is_complete, ends_in_section_start, is_forbidden, stopped_refusal, limit_refusal, ended_refusal, read_answer, text_answer}
+use Rattle.body_cutter.specs.Tables.{start_next, first_next, xml_letter, declaration_word_next, declaration_next, prolog_next, body_letter, name_ended, body_word_next, tag_name_next, tag_space_next, attr_name_next, attr_equals_next, attr_quote_next, value_plain, value_next, after_value_next, tag_slash_next, stanza_start_next, more_brackets, child_content_next, body_content_next, content_next, opened_in_body, opened_in_child, opened_next, section_letter, section_word_next, section_next, end_space_next, end_name_next}
+use Rattle.body_writer.specs.Answer.{answer_text, xmpp_namespace, stream_namespace, kind_text, version_text, terms_text, created_text, ack_text, report_text as report_attribute, restart_text}
+use Rattle.body_writer.specs.Attribute.{attribute, number_attribute, text_attribute, escaped_byte, closed_with, xmpp_version_text}
+use Rattle.session_attrs.specs.Attributes.{is_named, value_of}
+use Rattle.session_attrs.specs.Forms.{is_httpbind, number_of, pause_of, version_of, wish_of, ack_of, terminate_of, flag_of}
+use Rattle.session_attrs.specs.Reading.{rid_in, creation_in, asked_in, request_with, request_of}
+use Rattle.session_attrs.specs.Terms.{terms_of}
+use Rattle.script_text.specs.Creation.{sid_of}
+use Rattle.script_text.specs.Line.{is_host_name, is_later, other_line, line_of}
 use Rattle.script_text.specs.Report.{line_text, ending_text, report_text}
 use Rattle.script_text.specs.Script.{drive_of}
+use Rattle.script_text.specs.Stanza.{is_stanza, parts_of, row_of}
+
+-- what a row unfolds: the reader of bodies, the meaning of attributes, the texts of answers, lines and reports
+unfoldable texts_compute : ⊤
+unfolding chars encode_utf8 is_utf8 is_space is_plain is_letter is_digit begins_name_plainly grows_name_plainly is_allowed wide_begin wide_next is_char_byte is_name_start is_name_byte ends_whole around due has_name with_name place_next matched move_of is_body_tag with_value with_element with_attr_name with_attr without_element with_name_begun with_name_grown attr_named acted next_move step first_state letter begun_next letter_a_next done_if done_number decimal_more hex_more hex_digit decimal_next hex_next number_next decimal_or_end hex_or_end reference_next reading is_before_body is_complete ends_in_section_start is_forbidden stopped_refusal limit_refusal ended_refusal read_answer text_answer start_next first_next xml_letter declaration_word_next declaration_next prolog_next body_letter name_ended body_word_next tag_name_next tag_space_next attr_name_next attr_equals_next attr_quote_next value_plain value_next after_value_next tag_slash_next stanza_start_next more_brackets child_content_next body_content_next content_next opened_in_body opened_in_child opened_next section_letter section_word_next section_next end_space_next end_name_next
+texts_compute = tt
+
+unfoldable scripts_compute : ⊤
+unfolding texts_compute digits answer_text xmpp_namespace stream_namespace kind_text version_text terms_text created_text ack_text report_attribute restart_text attribute number_attribute text_attribute escaped_byte closed_with xmpp_version_text is_named value_of is_httpbind number_of pause_of version_of wish_of ack_of terminate_of flag_of rid_in creation_in asked_in request_with request_of terms_of sid_of is_host_name is_later other_line line_of line_text ending_text is_stanza parts_of row_of
+scripts_compute = tt
 
 -- the bytes of a script's report
 abbrev report_of : List ℕ → List ℕ
 report_of script = report_text (drive_of script).report
 
 out_of_order : report_of (codes "open 1000\nshort 1001 <message/>\nshort 1003 <presence/>\nshort 1002 <iq/>\nshort 1002 <message/>\nend\n") ≡ codes "in s1 0 <message/>\nin s1 0 <iq/>\nin s1 0 <presence/>\ndone 6\n"
-unfolding digits line_text ending_text line_of first_line_of is_simple_stanza
+unfolding scripts_compute
 out_of_order = refl
 
 above : report_of (codes "open 1000\nshort 1003 <a/>\nshort 1001 <b/>\nend\n") ≡ codes "over s1 item-not-found above 1003 1000 2\ndone 4\n"
-unfolding digits line_text ending_text line_of first_line_of is_simple_stanza
+unfolding scripts_compute
 above = refl
 
 stale : report_of (codes "open 5\nshort 6 <a/>\nshort 6 <b/>\nshort 7 <c/>\nshort 8 <d/>\nshort 9 <e/>\nshort 10 <f/>\nshort 6 <a/>\nend") ≡ codes "in s1 0 <a/>\nin s1 0 <c/>\nin s1 0 <d/>\nin s1 0 <e/>\nin s1 0 <f/>\nover s1 item-not-found stale 6 7\ndone 9\n"
-unfolding digits line_text ending_text line_of first_line_of is_simple_stanza
+unfolding scripts_compute
 stale = refl
 
 empty : report_of (codes "") ≡ codes "bad 1 end\n"
-unfolding digits line_text ending_text line_of first_line_of is_simple_stanza
+unfolding scripts_compute
 empty = refl
 
 no_end : report_of (codes "open 1000\n") ≡ codes "bad 2 end\n"
-unfolding digits line_text ending_text line_of first_line_of is_simple_stanza
+unfolding scripts_compute
 no_end = refl
 
-later : report_of (codes "open 5\nshort 6 <a b='c'/>\n") ≡ codes "bad 2 later\n"
-unfolding digits line_text ending_text line_of first_line_of is_simple_stanza
-later = refl
+attributes_in_a_stanza : report_of (codes "open 5\nshort 6 <a b='c'/>\nend") ≡ codes "in s1 0 <a b='c'/>\ndone 3\n"
+unfolding scripts_compute
+attributes_in_a_stanza = refl
 
-no_opening : report_of (codes "host h\n") ≡ codes "bad 1 later\n"
-unfolding digits line_text ending_text line_of first_line_of is_simple_stanza
-no_opening = refl
+hosts_alone : report_of (codes "host h\nend") ≡ codes "done 2\n"
+unfolding scripts_compute
+hosts_alone = refl
 
 opened_twice : report_of (codes "open 5\nopen 5\nend\n") ≡ codes "bad 2 grammar\n"
-unfolding digits line_text ending_text line_of first_line_of is_simple_stanza
+unfolding scripts_compute
 opened_twice = refl
+
+creation : report_of (codes "host example.org <stream:features/>\npost 1 <body rid='1000' to='example.org' wait='60' hold='1' ver='1.6' xmlns='http://jabber.org/protocol/httpbind'/>\nend\n") ≡ codes "out 1 <body xmlns='http://jabber.org/protocol/httpbind' xmlns:xmpp='urn:xmpp:xbosh' xmlns:stream='http://etherx.jabber.org/streams' sid='s1' wait='60' requests='2' inactivity='30' polling='5' maxpause='120' hold='1' ver='1.6' from='example.org' ack='1000' xmpp:version='1.0' xmpp:restartlogic='true'><stream:features/></body>\ndone 3\n"
+unfolding scripts_compute
+creation = refl
+
+two_creations : report_of (codes "host example.org <stream:features/>\npost 1 <body rid='1000' to='example.org' wait='60' hold='1' ver='1.6' xmlns='http://jabber.org/protocol/httpbind'/>\npost 1 <body rid='1000' to='example.org' wait='60' hold='1' ver='1.6' xmlns='http://jabber.org/protocol/httpbind'/>\nend\n") ≡ codes "out 1 <body xmlns='http://jabber.org/protocol/httpbind' xmlns:xmpp='urn:xmpp:xbosh' xmlns:stream='http://etherx.jabber.org/streams' sid='s1' wait='60' requests='2' inactivity='30' polling='5' maxpause='120' hold='1' ver='1.6' from='example.org' ack='1000' xmpp:version='1.0' xmpp:restartlogic='true'><stream:features/></body>\nout 1 <body xmlns='http://jabber.org/protocol/httpbind' xmlns:xmpp='urn:xmpp:xbosh' xmlns:stream='http://etherx.jabber.org/streams' sid='s2' wait='60' requests='2' inactivity='30' polling='5' maxpause='120' hold='1' ver='1.6' from='example.org' ack='1000' xmpp:version='1.0' xmpp:restartlogic='true'><stream:features/></body>\ndone 4\n"
+unfolding scripts_compute
+two_creations = refl
+
+bad_body : report_of (codes "host example.org <stream:features/>\npost 1 <body rid='0' to='example.org' xmlns='http://jabber.org/protocol/httpbind'/>\nend\n") ≡ codes "out 1 <body xmlns='http://jabber.org/protocol/httpbind' type='terminate' condition='bad-request'/>\ndone 3\n"
+unfolding scripts_compute
+bad_body = refl
+
+other_host : report_of (codes "host example.org <stream:features/>\npost 4 <body rid='5' to='other.org' xmlns='http://jabber.org/protocol/httpbind'/>\npost 5 <body rid='5' xmlns='http://jabber.org/protocol/httpbind'/>\nend\n") ≡ codes "out 4 <body xmlns='http://jabber.org/protocol/httpbind' type='terminate' condition='host-unknown'/>\nout 5 <body xmlns='http://jabber.org/protocol/httpbind' type='terminate' condition='improper-addressing'/>\ndone 4\n"
+unfolding scripts_compute
+other_host = refl
+
+later_line : report_of (codes "host example.org <stream:features/>\nat 5\n") ≡ codes "bad 2 later\n"
+unfolding scripts_compute
+later_line = refl

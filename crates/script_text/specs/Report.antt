@@ -2,7 +2,7 @@
 use Rattle.std.specs.Prelude.{ℕ, List, [], ◌∷◌, ◌++◌, codes}
 use Rattle.std.specs.Fmt.{decimal}
 use Rattle.bosh_types.specs.Condition.{name_of}
-use Rattle.bosh_types.specs.declared.condition.Condition.TheVariants.{ItemNotFound, PolicyViolation, RemoteConnectionFailed, RemoteStreamError, SystemShutdown, UndefinedCondition}
+use Rattle.bosh_types.specs.declared.condition.Condition.TheVariants.{RemoteConnectionFailed, RemoteStreamError, SystemShutdown}
 use Rattle.bosh_types.specs.declared.ending.Closing.{Closing}
 use Rattle.bosh_types.specs.declared.ending.Closing.TheVariants.{Plain, RemoteConnectionFailed as ByConnection, RemoteStreamError as ByStream, SystemShutdown as ByShutdown}
 use Rattle.bosh_types.specs.declared.ending.Ending.{Ending}
@@ -10,7 +10,7 @@ use Rattle.bosh_types.specs.declared.ending.Ending.TheVariants.{Terminated, Stal
 use Rattle.script_text.specs.declared.line.BadKind.{BadKind}
 use Rattle.script_text.specs.declared.line.BadKind.TheVariants.{Count, End, Length, Later, Grammar}
 use Rattle.script_text.specs.declared.report.ReportLine.{ReportLine}
-use Rattle.script_text.specs.declared.report.ReportLine.TheVariants.{In, Over, Done, Bad}
+use Rattle.script_text.specs.declared.report.ReportLine.TheVariants.{In, Out, Over, Done, Bad}
 
 -- numbers, each after a space
 abbrev pub numbers_text : List ℕ → List ℕ
@@ -48,6 +48,7 @@ kind_text Grammar = codes "grammar"
 -- one line of a report, without its LF
 unfoldable pub line_text : ReportLine → List ℕ
 line_text (In session stream stanza) = codes "in s" ++ decimal session ++ codes " " ++ decimal stream ++ codes " " ++ stanza
+line_text (Out conn body) = codes "out " ++ decimal conn ++ codes " " ++ body
 line_text (Over session ending) = codes "over s" ++ decimal session ++ codes " " ++ ending_text ending
 line_text (Done line) = codes "done " ++ decimal line
 line_text (Bad line kind) = codes "bad " ++ decimal line ++ codes " " ++ kind_text kind
@@ -61,6 +62,7 @@ report_text (line ∷ lines) = line_text line ++ 10 ∷ report_text lines
 abbrev pub inward_in : List ReportLine → List (List ℕ)
 inward_in [] = []
 inward_in (In session stream stanza ∷ lines) = stanza ∷ inward_in lines
+inward_in (Out conn body ∷ lines) = inward_in lines
 inward_in (Over session ending ∷ lines) = inward_in lines
 inward_in (Done line ∷ lines) = inward_in lines
 inward_in (Bad line kind ∷ lines) = inward_in lines

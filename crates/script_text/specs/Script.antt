@@ -1,21 +1,29 @@
--- What a bare script gives: its outcome, its report, and the session that it leaves.
-use Rattle.std.specs.Prelude.{ℕ, ◌+◌, ◌≡◌, List, [], ◌∷◌, ◌++◌, Option, None, Some, Result, Ok, Err, MatchOption, false, length, drop, map, nat_lt, if◌then◌else◌}
+-- What a script gives: its outcome, its report, and what it leaves.
+use Rattle.std.specs.Prelude.{ℕ, ◌+◌, ◌≡◌, List, [], ◌∷◌, ◌++◌, Option, None, Some, false, length, drop, map, nat_lt, if◌then◌else◌}
 use Rattle.std.specs.Io.KnownBytes.{Appends}
 use Rattle.bosh_types.specs.declared.ending.Ending.{Ending}
 use Rattle.session_core.specs.Bare.{BareSession, inward_of}
-use Rattle.session_core.specs.Ending.{over_at, session_after}
-use Rattle.session_core.specs.Run.{IsLongestRun}
+use Rattle.session_core.specs.BareEnding.{over_at, session_after}
+use Rattle.session_core.specs.BareRun.{IsLongestRun}
+use Rattle.session_core.specs.Copy.{Copy, stanzas_of}
+use Rattle.session_core.specs.Machine.{Opening}
+use Rattle.session_core.specs.Run.{run_of}
 use Rattle.script_text.specs.declared.line.BadKind.{BadKind}
 use Rattle.script_text.specs.declared.line.BadKind.TheVariants.{Count, End, Length, Later, Grammar}
 use Rattle.script_text.specs.declared.line.ScriptLine.{ScriptLine}
-use Rattle.script_text.specs.declared.line.ScriptLine.TheVariants.{Open, Short, End as LastLine}
+use Rattle.script_text.specs.declared.line.ScriptLine.TheVariants.{Open, Short, Host, Post, End as LastLine}
 use Rattle.script_text.specs.declared.line.LineRead.{LineRead}
 use Rattle.script_text.specs.declared.line.LineRead.TheVariants.{Line, BadLine}
 use Rattle.script_text.specs.declared.driven.Driven.{Driven}
-use Rattle.script_text.specs.declared.driven.Driven.TheVariants.{Done, Bad}
+use Rattle.script_text.specs.declared.driven.Driven.TheVariants.{Bad}
 use Rattle.script_text.specs.declared.report.ReportLine.{ReportLine}
-use Rattle.script_text.specs.declared.report.ReportLine.TheVariants.{In, Over, Done as SaysDone, Bad as SaysBad}
-use Rattle.script_text.specs.Line.{line_of, first_line_of}
+use Rattle.script_text.specs.declared.report.ReportLine.TheVariants.{In, Over}
+use Rattle.script_text.specs.declared.run.Manager.{Manager}
+use Rattle.script_text.specs.declared.run.Next.TheVariants.{Goes, Ends}
+use Rattle.script_text.specs.declared.run.Run.{Run}
+use Rattle.script_text.specs.declared.run.Run.TheVariants.{Beginning, Arrivals, Creations}
+use Rattle.script_text.specs.Creation.{Step, bad_step, done_step, manager_step}
+use Rattle.script_text.specs.Line.{line_of}
 use Rattle.script_text.specs.Lines.{lines_of, longest_line}
 use Rattle.script_text.specs.Report.{report_text, inward_in}
 
@@ -23,27 +31,20 @@ use Rattle.script_text.specs.Report.{report_text, inward_in}
 abbrev pub most_lines : ℕ
 most_lines = 1000000
 
--- what a script gives
+-- what a script gives: how it ended, its report, what it was run over at its end, and the sessions that it created
 pub record Drive : Type 0 where
   pub outcome : Driven
   pub report : List ReportLine
-  pub session : Option BareSession
+  pub last : Run
+  pub openings : List Opening
 
--- the session, whose creation had this id and answers `s1`
+-- the session of arrivals, whose creation had this id and answers `s1`
 abbrev pub opened : ℕ → BareSession
 opened rid = record { first = rid; arrivals = []; is_over = false }
 
--- the script is bad at this line
-abbrev pub bad_at : Option BareSession → ℕ → BadKind → Drive
-bad_at session n kind = record { outcome = Bad n kind; report = SaysBad n kind ∷ []; session = session }
-
--- the script ends with this line
-abbrev pub done_at : BareSession → ℕ → Drive
-done_at session n = record { outcome = Done; report = SaysDone n ∷ []; session = Some session }
-
--- these lines of the report, and then what the rest of the script gives
-abbrev pub reported : List ReportLine → Drive → Drive
-reported lines drive = record drive { report = lines ++ drive.report }
+-- a manager without hosts and sessions
+abbrev pub new_manager : Manager
+new_manager = record { hosts = []; opened = 0; posted = false }
 
 -- an ending, if there is one
 abbrev pub over_lines : Option Ending → List ReportLine
@@ -56,53 +57,103 @@ request_lines session rid stanza =
     map (In 1 0) (drop (length (inward_of session)) (inward_of (session_after session rid stanza)))
     ++ over_lines (over_at session rid)
 
+-- these lines of the report, and then the run goes on
+abbrev pub goes_on : List ReportLine → Run → Step
+goes_on lines run = record { lines = lines; next = Goes run; openings = [] }
+
+-- the first line tells what the script is about
+abbrev pub first_step : ℕ → ScriptLine → Step
+first_step n (Open rid) = goes_on [] (Arrivals (opened rid))
+first_step n (Short rid stanza) = bad_step n Grammar
+first_step n (Host name greeting) = manager_step new_manager n (Host name greeting)
+first_step n (Post conn body) = manager_step new_manager n (Post conn body)
+first_step n LastLine = done_step n
+
+-- a line of a script that tells of arrivals
+abbrev pub arrival_step : BareSession → ℕ → ScriptLine → Step
+arrival_step session n (Open rid) = bad_step n Grammar
+arrival_step session n (Short rid stanza) = goes_on (request_lines session rid stanza) (Arrivals (session_after session rid stanza))
+arrival_step session n (Host name greeting) = bad_step n Grammar
+arrival_step session n (Post conn body) = bad_step n Grammar
+arrival_step session n LastLine = done_step n
+
+-- in a script of arrivals no line is for later
+abbrev pub never_later : BadKind → BadKind
+never_later Count = Count
+never_later End = End
+never_later Length = Length
+never_later Later = Grammar
+never_later Grammar = Grammar
+
+abbrev pub kind_in : Run → BadKind → BadKind
+kind_in Beginning kind = kind
+kind_in (Arrivals session) kind = never_later kind
+kind_in (Creations manager) kind = kind
+
+-- what a line does that says this
+abbrev pub said_step : Run → ℕ → ScriptLine → Step
+said_step Beginning n said = first_step n said
+said_step (Arrivals session) n said = arrival_step session n said
+said_step (Creations manager) n said = manager_step manager n said
+
+-- what a line does, by what was read
+abbrev pub step_by : Run → ℕ → LineRead → Step
+step_by run n (Line said) = said_step run n said
+step_by run n (BadLine kind) = bad_step n (kind_in run kind)
+
 -- a line that is too long is bad, whatever it says
 abbrev pub within_length : List ℕ → LineRead → LineRead
 within_length line read = if nat_lt longest_line (length line) then BadLine Length else read
 
--- what the line with this number says, from the second on
+-- what the line with this number says
 abbrev pub said : ℕ → List ℕ → LineRead
 said n line = if nat_lt most_lines n then BadLine Count else within_length line (line_of line)
 
+-- the script ends with this step
+abbrev pub ended_with : Run → Step → Driven → Drive
+ended_with run step outcome = record { outcome = outcome; report = step.lines; last = run; openings = step.openings }
+
+-- this step, and then what the rest of the script gives
+abbrev pub after_step : Step → Drive → Drive
+after_step step drive = record drive { report = step.lines ++ drive.report; openings = step.openings ++ drive.openings }
+
+-- the script is bad at this line
+abbrev pub bad_at : Run → ℕ → BadKind → Drive
+bad_at run n kind = ended_with run (bad_step n kind) (Bad n kind)
+
 -- the rest of a script, from the line with this number on
-abbrev pub drive_on : BareSession → ℕ → List (List ℕ) → Drive
-drive_on session n [] = bad_at (Some session) n (if nat_lt most_lines n then Count else End)
-drive_on session n (line ∷ others) =
-    elim (said n line) [
-      | Line said ↦ elim said [
-        | Open rid ↦ bad_at (Some session) n Grammar
-        | Short rid stanza ↦ reported (request_lines session rid stanza) (drive_on (session_after session rid stanza) (n + 1) others)
-        | LastLine ↦ done_at session n
-      ]
-      | BadLine kind ↦ bad_at (Some session) n kind
+abbrev pub drive_on : Run → ℕ → List (List ℕ) → Drive
+drive_on run n [] = bad_at run n (if nat_lt most_lines n then Count else End)
+drive_on run n (line ∷ others) =
+    elim (step_by run n (said n line)).next [
+      | Goes after ↦ after_step (step_by run n (said n line)) (drive_on after (n + 1) others)
+      | Ends outcome ↦ ended_with run (step_by run n (said n line)) outcome
     ]
-
--- the request id with which a line opens a session, or why it doesn't
-abbrev pub opened_by : LineRead → Result ℕ BadKind
-opened_by (Line (Open rid)) = Ok rid
-opened_by (Line (Short rid stanza)) = Err Grammar
-opened_by (Line LastLine) = Err Grammar
-opened_by (BadLine kind) = Err kind
-
--- a script after its first line
-abbrev pub drive_from : Result ℕ BadKind → List (List ℕ) → Drive
-drive_from (Ok rid) others = drive_on (opened rid) 2 others
-drive_from (Err kind) others = bad_at None 1 kind
-
--- a script by its lines: the first opens the session
-abbrev pub drive_lines : List (List ℕ) → Drive
-drive_lines [] = bad_at None 1 End
-drive_lines (line ∷ others) = drive_from (opened_by (within_length line (first_line_of line))) others
 
 -- a script by its bytes
 abbrev pub drive_of : List ℕ → Drive
-drive_of script = drive_lines (lines_of script)
+drive_of script = drive_on Beginning 1 (lines_of script)
 
 -- this outcome is the script's, and the sink was given its report and nothing else
 abbrev pub Reports : Drive → Driven → Option (List ℕ) → Option (List ℕ) → Type 0
 Reports drive outcome old new = (outcome ≡ drive.outcome) × Appends old new (report_text drive.report)
 
--- the stanzas that a report says went inward are the longest unbroken run of the request ids that arrived
+-- the stanzas of a run of copies
+abbrev pub stanzas_in : List Copy → List (List ℕ)
+stanzas_in [] = []
+stanzas_in (copy ∷ copies) = stanzas_of copy ++ stanzas_in copies
+
+-- the stanzas of the runs of these sessions, of which nothing arrived but their creations
+abbrev pub created_inward : List Opening → List (List ℕ)
+created_inward [] = []
+created_inward (o ∷ openings) = stanzas_in (run_of (record { opening = o; entries = [] })) ++ created_inward openings
+
+-- the stanzas that went inward are those of the longest unbroken run of the request ids that arrived
+abbrev pub IsInwardOf : Run → List Opening → List (List ℕ) → Type 0
+IsInwardOf Beginning openings inward = inward ≡ []
+IsInwardOf (Arrivals session) openings inward = IsLongestRun session.first session.arrivals inward
+IsInwardOf (Creations manager) openings inward = inward ≡ created_inward openings
+
+-- it is so of what a report says
 abbrev pub InwardIsLongestRun : Drive → Type 0
-InwardIsLongestRun drive =
-    MatchOption drive.session (inward_in drive.report ≡ []) (λ session. IsLongestRun session.first session.arrivals (inward_in drive.report))
+InwardIsLongestRun drive = IsInwardOf drive.last drive.openings (inward_in drive.report)

@@ -2,12 +2,16 @@
 // line, from bytes in to bytes out.
 #![tactic(auto)]
 
+mod arrivals;
+mod creations;
 mod drive;
 mod driven;
 mod ending;
 mod line;
 mod lines;
 mod report;
+mod run;
+mod stanza;
 mod text;
 
 pub use drive::run_drive;

@@ -1,12 +1,17 @@
 // What one line of a script says.
-ghost use Rattle.std.specs.Prelude.{◌≡◌, ◌==◌, IfOk, position};
-ghost use Rattle.std.specs.Char.{is_ascii_lowercase};
+ghost use Rattle.std.specs.Prelude.{◌≡◌, ◌==◌, IfOk, position, chars};
 ghost use Rattle.std.specs.List.{list_all};
 ghost use Rattle.std.specs.Option.{option_copied};
-ghost use Rattle.script_text.specs.Line.{line_of, open_of, short_of, word_of, rest_of, is_simple_stanza};
+ghost use Rattle.body_cutter.specs.Chars.{is_allowed};
+ghost use Rattle.bosh_types.specs.Rid.{rid_of};
+ghost use Rattle.script_text.specs.Line.{line_of, open_of, short_of, host_of, greeting_of, post_of, connection_of, other_line, word_of, rest_of, is_allowed_text, is_host_name, is_later};
 
-use bosh_types::{Rid, Text};
+use crate::stanza::{is_stanza, row_of};
+use body_cutter::is_allowed;
+use bosh_types::{Rid, Stanzas, Text};
 use std::alloc::{AllocError, Global};
+
+const LONGEST_NAME: usize = 1023;
 
 /// Why a line of a script is bad. They are tested in this order.
 #[derive(Clone, Copy, Debug, PartialEq, Eq)]
@@ -30,6 +35,10 @@ pub enum ScriptLine {
     Open { rid: Rid },
     /// `short RID STANZA`: a request with one stanza arrives.
     Short { rid: Rid, stanza: Text },
+    /// `host NAME GREETING`: the manager serves this host, and greets each new session with these stanzas.
+    Host { name: Text, greeting: Stanzas },
+    /// `post CONNECTION BODY`: a body arrives on this connection.
+    Post { conn: u16, body: Text },
     /// `end`
     End,
 }
@@ -41,8 +50,8 @@ pub enum LineRead {
     BadLine(BadKind),
 }
 
-/// Reads one line, without its LF. A line is bad by its own bytes as `Grammar`, or as `Later` where it is a request
-/// whose stanza is another than an empty element with a name of 1 to 32 lower-case letters.
+/// Reads one line, without its LF. A line is bad by its own bytes as `Grammar`, or as `Later` where its first word is `at`,
+/// `close`, `back` or `shut`.
 #[tactic(auto, unfolding(crate::specs::Line::line_of))]
 pub fn read_line(alloc: Global, line: &[u8]) -> Result<LineRead, AllocError>
     ensures { IfOk result (λ read. read ≡ line_of line.now) }
@@ -54,10 +63,38 @@ pub fn read_line(alloc: Global, line: &[u8]) -> Result<LineRead, AllocError>
     if word == b"short".as_slice() {
         return read_short(alloc, rest);
     }
-    if line == b"end".as_slice() {
-        return Ok(LineRead::Line(ScriptLine::End));
+    if word == b"host".as_slice() {
+        return read_host(alloc, rest);
     }
-    Ok(LineRead::BadLine(BadKind::Grammar))
+    if word == b"post".as_slice() {
+        return read_post(alloc, rest);
+    }
+    Ok(read_other(line))
+}
+
+// A line of another word.
+#[tactic(auto, unfolding(crate::specs::Line::other_line))]
+fn read_other(line: &[u8]) -> LineRead
+    ensures { result ≡ other_line line.now }
+{
+    let (word, _) = split_word(line);
+    if is_later(word) {
+        return LineRead::BadLine(BadKind::Later);
+    }
+    if line == b"end".as_slice() {
+        return LineRead::Line(ScriptLine::End);
+    }
+    LineRead::BadLine(BadKind::Grammar)
+}
+
+// The words of lines that this version doesn't know yet.
+#[tactic(auto, unfolding(crate::specs::Line::is_later))]
+fn is_later(word: &[u8]) -> bool
+    ensures { result ≡ is_later word.now }
+{
+    let is_time = word == b"at".as_slice() || word == b"close".as_slice();
+    let is_server = word == b"back".as_slice() || word == b"shut".as_slice();
+    is_time || is_server
 }
 
 // The rest of a line `open RID`.
@@ -84,11 +121,92 @@ fn read_short(alloc: Global, rest: Option<&[u8]>) -> Result<LineRead, AllocError
     let Some(stanza) = stanza else {
         return Ok(LineRead::BadLine(BadKind::Grammar));
     };
-    if !is_simple_stanza(stanza) {
-        return Ok(LineRead::BadLine(BadKind::Later));
+    if !is_stanza(alloc, stanza)? {
+        return Ok(LineRead::BadLine(BadKind::Grammar));
     }
     let stanza = Text::from_vec(Vec::from_slice(alloc, stanza)?);
     Ok(LineRead::Line(ScriptLine::Short { rid, stanza }))
+}
+
+// The rest of a line `host NAME GREETING`.
+fn read_host(alloc: Global, rest: Option<&[u8]>) -> Result<LineRead, AllocError>
+    ensures { IfOk result (λ read. read ≡ host_of (option_copied rest.entry)) }
+{
+    let Some(rest) = rest else {
+        return Ok(LineRead::BadLine(BadKind::Grammar));
+    };
+    let (name, greeting) = split_word(rest);
+    let Some(greeting) = read_greeting(alloc, greeting)? else {
+        return Ok(LineRead::BadLine(BadKind::Grammar));
+    };
+    if !is_host_name(name) {
+        return Ok(LineRead::BadLine(BadKind::Grammar));
+    }
+    let name = Text::from_vec(Vec::from_slice(alloc, name)?);
+    Ok(LineRead::Line(ScriptLine::Host { name, greeting }))
+}
+
+// The stanzas of a greeting, none where it is left out.
+fn read_greeting(alloc: Global, text: Option<&[u8]>) -> Result<Option<Stanzas>, AllocError>
+    ensures { IfOk result (λ greeting. greeting ≡ greeting_of (option_copied text.entry)) }
+{
+    match text {
+        Some(text) => row_of(alloc, text),
+        None => Ok(Some(Stanzas::from_vec(Vec::new(alloc)))),
+    }
+}
+
+// Whether a host may have this name.
+#[tactic(auto, unfolding(crate::specs::Line::is_host_name))]
+fn is_host_name(name: &[u8]) -> bool
+    ensures { result ≡ is_host_name name.now }
+{
+    if name.is_empty() || name.len() > LONGEST_NAME {
+        return false;
+    }
+    is_allowed_text(name)
+}
+
+// Whether the bytes are UTF-8 of the characters that XML 1.0, section 2.2, allows.
+fn is_allowed_text(bytes: &[u8]) -> bool
+    ensures { result ≡ is_allowed_text bytes.now }
+{
+    match std::str::from_utf8(bytes) {
+        Ok(text) => is_all_allowed(text),
+        Err(_) => false,
+    }
+}
+
+fn is_all_allowed(text: &str) -> bool
+    ensures { result ≡ list_all is_allowed (chars text.now) }
+{
+    text.chars().all(|c| is_allowed(u32::from(c)))
+}
+
+// The rest of a line `post CONNECTION BODY`.
+fn read_post(alloc: Global, rest: Option<&[u8]>) -> Result<LineRead, AllocError>
+    ensures { IfOk result (λ read. read ≡ post_of (option_copied rest.entry)) }
+{
+    let Some(rest) = rest else {
+        return Ok(LineRead::BadLine(BadKind::Grammar));
+    };
+    let (word, body) = split_word(rest);
+    let Some(conn) = read_connection(word) else {
+        return Ok(LineRead::BadLine(BadKind::Grammar));
+    };
+    let Some(body) = body else {
+        return Ok(LineRead::BadLine(BadKind::Grammar));
+    };
+    let body = Text::from_vec(Vec::from_slice(alloc, body)?);
+    Ok(LineRead::Line(ScriptLine::Post { conn, body }))
+}
+
+// The number of a connection, from 1 to 65535.
+fn read_connection(word: &[u8]) -> Option<u16>
+    ensures { result ≡ connection_of (rid_of word.now) }
+{
+    let number = Rid::read(word)?.value();
+    u16::try_from(number).ok()
 }
 
 // The first word, and what follows the space after it.
@@ -107,24 +225,4 @@ fn first_space(text: &[u8]) -> Option<usize>
     ensures { result ≡ position (λ byte. byte == 32) text.now }
 {
     text.iter().position(|byte| *byte == b' ')
-}
-
-// Whether the text is an empty element with a name of 1 to 32 lower-case letters and nothing else.
-#[tactic(auto, unfolding(crate::specs::Line::is_simple_stanza))]
-fn is_simple_stanza(text: &[u8]) -> bool
-    ensures { result ≡ is_simple_stanza text.now }
-{
-    if !text.starts_with(b"<") || !text.ends_with(b"/>") {
-        return false;
-    }
-    if text.len() < 4 || text.len() > 35 {
-        return false;
-    }
-    is_lowercase(&text[1..text.len() - 2])
-}
-
-fn is_lowercase(name: &[u8]) -> bool
-    ensures { result ≡ list_all is_ascii_lowercase name.now }
-{
-    name.iter().all(|byte| byte.is_ascii_lowercase())
 }

@@ -1,6 +1,6 @@
 // The lines of a report.
 ghost use Rattle.std.specs.Prelude.{◌≡◌, ◌++◌, ◌∷◌, [], IfOk};
-ghost use Rattle.script_text.specs.declared.report.ReportLine.TheVariants.{In, Over, Done, Bad};
+ghost use Rattle.script_text.specs.declared.report.ReportLine.TheVariants.{In, Out, Over, Done, Bad};
 ghost use Rattle.script_text.specs.Report.{line_text, kind_text};
 
 use crate::ending::push_ending;
@@ -17,6 +17,11 @@ pub enum ReportLine {
         session: u32,
         stream: StreamNo,
         stanza: Text,
+    },
+    /// A body is answered on this connection.
+    Out {
+        conn: u16,
+        body: Text,
     },
     /// The session ends.
     Over {
@@ -44,6 +49,7 @@ pub fn print_line(alloc: Global, line: &ReportLine) -> Result<Vec<u8>, AllocErro
             stream,
             stanza,
         } => print_in(alloc, *session, *stream, stanza)?,
+        ReportLine::Out { conn, body } => print_out(alloc, *conn, body)?,
         ReportLine::Over { session, ending } => print_over(alloc, *session, *ending)?,
         ReportLine::Done { line } => print_done(alloc, *line)?,
         ReportLine::Bad { line, kind } => print_bad(alloc, *line, *kind)?,
@@ -67,6 +73,17 @@ fn print_in(
     push_number(alloc, &mut text, u64::from(stream.number()))?;
     text.push(b' ')?;
     text.extend_from_slice(stanza.as_slice())?;
+    Ok(text)
+}
+
+#[tactic(auto, unfolding(crate::specs::Report::line_text))]
+fn print_out(alloc: Global, conn: u16, body: &Text) -> Result<Vec<u8>, AllocError>
+    ensures { IfOk result (λ text. text.items ≡ line_text (Out conn body.now)) }
+{
+    let mut text = Vec::from_slice(alloc, b"out ")?;
+    push_number(alloc, &mut text, u64::from(conn))?;
+    text.push(b' ')?;
+    text.extend_from_slice(body.as_slice())?;
     Ok(text)
 }
 

@@ -20,4 +20,6 @@ pub use request::{Creation, Kind, Request};
 pub use terms::negotiate;
 
 #[cfg(test)]
+mod refusal_tests;
+#[cfg(test)]
 mod tests;

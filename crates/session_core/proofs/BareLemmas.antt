@@ -3,7 +3,7 @@ use Rattle.std.proofs.Common.{ℕ, ◌≡◌, ◌+◌, ◌-◌, ◌<◌, ◌≤�
 use Rattle.std.proofs.lemmas.Bool.{eqb-true, eqb-false}
 use Rattle.bosh_types.specs.Rid.{greatest_rid, IsRid}
 use Rattle.session_core.specs.declared.arrival.Arrival.{Arrival}
-use Rattle.session_core.specs.Run.{run_after, run_from}
+use Rattle.session_core.specs.BareRun.{run_after, run_from}
 use Rattle.session_core.specs.Bare.{BareSession, inward_of, last_of, newly_inward}
 use Rattle.session_core.proofs.RunLemmas.{run_from-other, run_from-next}
 

@@ -1,12 +1,11 @@
 -- The run, id by id and arrival by arrival.
-use Rattle.std.proofs.Common.{ℕ, zero, suc, ◌≡◌, ◌≢◌, ◌+◌, ◌-◌, ◌<◌, ◌≤◌, ◌==◌, List, [], ◌∷◌, ◌++◌, Option, Some, None, All, slice_get, Bool, true, false, ◌⊎◌, inl, inr, length, refl, sym, ◌∙◌, ap, subst, add-one, add-zero, ap₂, append_assoc, append-nil, arith, if◌then◌else◌}
-use Rattle.std.proofs.lemmas.Grind.{common_steps}
+use Rattle.std.proofs.Common.{ℕ, zero, suc, ◌≡◌, ◌≢◌, ◌+◌, ◌-◌, ◌<◌, ◌==◌, List, [], ◌∷◌, ◌++◌, Option, Some, None, All, slice_get, Bool, true, false, ◌⊎◌, inl, inr, length, refl, sym, ◌∙◌, ap, add-one, add-zero, ap₂, append_assoc, arith, if◌then◌else◌}
 use Rattle.std.proofs.lemmas.Bool.{eqb-true, eqb-false}
 use Rattle.std.proofs.lemmas.Bool.Decides.{nat_tests}
 use Rattle.std.proofs.lemmas.List.Elements.{All-cons}
 use Rattle.bosh_types.specs.Rid.{greatest_rid}
 use Rattle.session_core.specs.declared.arrival.Arrival.{Arrival}
-use Rattle.session_core.specs.Run.{stands, run_from, run_after, IsFirstWith, IsLongestRun}
+use Rattle.session_core.specs.BareRun.{stands, run_from, run_after, IsFirstWith, IsLongestRun}
 
 -- either nothing stands or some stanza does
 pub which_stands : (o : Option (List ℕ)) → (o ≡ None) ⊎ ((stanza : List ℕ) × (o ≡ Some stanza))

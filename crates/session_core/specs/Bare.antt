@@ -1,7 +1,7 @@
 -- A session of which nothing is told but the arrivals: no answers, no time and no server.
-use Rattle.std.specs.Prelude.{ℕ, ◌+◌, ◌-◌, Bool, false, List, [], ◌∷◌, ◌++◌, Option, is_some, length, max, ◌==◌, if◌then◌else◌}
+use Rattle.std.specs.Prelude.{ℕ, ◌+◌, ◌-◌, Bool, List, [], ◌∷◌, length, max, ◌==◌, if◌then◌else◌}
 use Rattle.session_core.specs.declared.arrival.Arrival.{Arrival}
-use Rattle.session_core.specs.Run.{run_after}
+use Rattle.session_core.specs.BareRun.{run_after}
 
 -- the id of the creation, all that arrived after it, and whether the session has ended
 pub record BareSession : Type 0 where

@@ -1,6 +1,6 @@
 ghost use Rattle.std.specs.Prelude.{◌≡◌, ◌++◌, ◌+◌, IfOk, OnOk, OnErr, [], false, length};
 ghost use Rattle.bosh_types.specs.Rid.{IsRid};
-ghost use Rattle.session_core.specs.Run.{IsLongestRun};
+ghost use Rattle.session_core.specs.BareRun.{IsLongestRun};
 
 use crate::arrival::Arrival;
 use crate::search::{copied, extend_run};
@@ -42,7 +42,7 @@ pub struct BareSeen {
 
 impl Bare {
     ghost use Rattle.session_core.specs.Bare.{inward_of, last_of, lowest_of, newly_inward};
-    ghost use Rattle.session_core.specs.Ending.{ending_at, over_at, session_after};
+    ghost use Rattle.session_core.specs.BareEnding.{ending_at, over_at, session_after};
 
     /// A session whose creation had this request id. It takes no memory.
     pub fn open(alloc: Global, first: Rid) -> Self

@@ -4,7 +4,9 @@
 
 mod arrival;
 mod bare;
+mod replies;
 mod search;
 
 pub use arrival::Arrival;
 pub use bare::{Bare, BareSeen};
+pub use replies::{Arrived, Collected, Taken, Ticked};

@@ -1,7 +1,7 @@
 // Searches of everything that arrived.
 ghost use Rattle.std.specs.Prelude.{◌≡◌, ◌+◌, ◌++◌, IfOk, OnOk, length};
 ghost use Rattle.std.specs.Option.{option_copied};
-ghost use Rattle.session_core.specs.Run.{stands, run_after};
+ghost use Rattle.session_core.specs.BareRun.{stands, run_after};
 
 use crate::arrival::Arrival;
 use bosh_types::{Rid, Text};

@@ -1,6 +1,6 @@
 use Rattle.std.proofs.Common.{◌≡◌, ◌+◌, ◌++◌, ◌-◌, length}
 use Rattle.bosh_types.specs.Rid.{greatest_rid}
-use Rattle.session_core.specs.Run.{run_after}
+use Rattle.session_core.specs.BareRun.{run_after}
 use Rattle.session_core.proofs.search.extend_run.Given as goal
 
 -- the run is what was found so far and what follows it

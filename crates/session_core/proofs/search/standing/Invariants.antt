@@ -1,5 +1,5 @@
 use Rattle.std.proofs.Common.{◌≡◌, drop}
-use Rattle.session_core.specs.Run.{stands}
+use Rattle.session_core.specs.BareRun.{stands}
 use Rattle.session_core.proofs.search.standing.Given as goal
 
 -- nothing that was passed stands for the id

@@ -1,6 +1,6 @@
 use Rattle.std.proofs.Common.{arith, subst, sym}
 use Rattle.script_text.specs.Lines.{Reads, MovesPiece}
-use Rattle.script_text.proofs.ReadLemmas.{HasRead, filled, more_read, line_ended, source_ended, too_long}
+use Rattle.script_text.proofs.ReadLemmas.{filled, more_read, line_ended, source_ended, too_long}
 use Rattle.script_text.proofs.lines.LineReader.next_line.Goals as goal
 
 pub returns-then-not-branch-clause-reads : goal.returns-then-not-branch-clause-reads

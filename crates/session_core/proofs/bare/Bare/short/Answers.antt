@@ -1,6 +1,6 @@
 use Rattle.std.proofs.Common.{◌≡◌, [], ◌∷◌, ◌++◌, sym, ◌∙◌, ap}
 use Rattle.session_core.specs.declared.arrival.Arrival.{Arrival}
-use Rattle.session_core.specs.Run.{run_after}
+use Rattle.session_core.specs.BareRun.{run_after}
 use Rattle.session_core.specs.Bare.{BareSession, inward_of}
 use Rattle.session_core.proofs.RunLemmas.{run_after-longest}
 use Rattle.session_core.proofs.BareLemmas.{inward_of-arrival, last_of-grown}

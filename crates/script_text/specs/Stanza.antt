@@ -1,0 +1,38 @@
+-- Stanzas and rows of stanzas, as scripts have them.
+use Rattle.std.specs.Prelude.{ℕ, ◌+◌, ◌==◌, ◌&&◌, nat_le, Bool, List, [], ◌∷◌, ◌++◌, map, length, slice_range, Option, Some, None, Ok, Err, is_ok, codes, if◌then◌else◌}
+use Rattle.std.specs.Str.{is_utf8}
+use Rattle.body_cutter.specs.declared.parts.Cut.{Cut}
+use Rattle.body_cutter.specs.declared.parts.Span.{Span}
+use Rattle.body_cutter.specs.declared.place.Place.TheVariants.{Start, StanzaStart}
+use Rattle.body_cutter.specs.declared.place.Kind.TheVariants as kinds
+use Rattle.body_cutter.specs.Refusal.{text_answer, unit_answer}
+
+-- a stanza by itself
+unfoldable pub is_stanza : List ℕ → Bool
+is_stanza text = is_ok (unit_answer (text_answer kinds.Stanza StanzaStart 1000000 (is_utf8 text) text))
+
+-- the parts of a body, where the text is one
+unfoldable pub parts_of : List ℕ → Option Cut
+parts_of text = elim (text_answer kinds.Body Start 1048576 (is_utf8 text) text) [ Ok cut ↦ Some cut | Err refusal ↦ None ]
+
+-- the bytes of the text at each of these places
+abbrev pub slices_of : List ℕ → List Span → List (List ℕ)
+slices_of text spans = map (λ span. slice_range text span.start span.end) spans
+
+-- the spans stand side by side from this place to that
+abbrev pub is_row : ℕ → List Span → ℕ → Bool
+is_row start [] end = start == end
+is_row start (span ∷ spans) end = (span.start == start) && is_row span.end spans end
+
+-- the text as the content of a body
+abbrev pub within_body : List ℕ → List ℕ
+within_body text = codes "<body>" ++ text ++ codes "</body>"
+
+-- its children, where they stand side by side and are all of it
+abbrev pub row_in : List ℕ → Option Cut → Option (List (List ℕ))
+row_in text None = None
+row_in text (Some cut) = if is_row 6 cut.children (6 + length text) then Some (slices_of (within_body text) cut.children) else None
+
+-- the stanzas of a greeting: a row of at most 1024 with nothing between, and of at most 1,000,000 bytes
+unfoldable pub row_of : List ℕ → Option (List (List ℕ))
+row_of text = if nat_le (length text) 1000000 then row_in text (parts_of (within_body text)) else None

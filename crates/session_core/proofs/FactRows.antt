@@ -1,0 +1,61 @@
+-- The fact of each ending holds in a session that ends so.
+use Rattle.std.proofs.Common.{refl, arith}
+use Rattle.std.specs.Prelude.{true, List, [], ◌∷◌, Some, codes}
+use Rattle.bosh_types.specs.declared.ending.Closing.TheVariants as closings
+use Rattle.bosh_types.specs.declared.ending.Ending.{Ending}
+use Rattle.bosh_types.specs.declared.ending.Ending.TheVariants as endings
+use Rattle.session_core.specs.Facts.{Fact}
+use Rattle.session_core.specs.Journal.{Call, BackClosed, Tick, Entered, Made, Limit, Arrival, step, after_entry}
+use Rattle.session_core.specs.Machine.{opened}
+use Rattle.session_core.specs.Run.{tested_at}
+use Rattle.session_core.specs.State.{PlainSession}
+use Rattle.session_core.proofs.RowTools.{usual, opening, opening_with, empty, carrying, plain, bodies_compute, keys_compute}
+
+-- the state after calls
+abbrev after : PlainSession → List Call → PlainSession
+after s [] = s
+after s (call ∷ calls) = after (step s call).0 calls
+
+-- what the last of the entries shows of this ending
+abbrev ShownBy : PlainSession → Entered → Ending → Type 0
+ShownBy s entered ending = Fact (tested_at s entered) entered (after_entry s entered) ending
+
+terminated : ShownBy (opened opening) (Made (plain (record (empty 1001) { terminate = true }) 0)) (endings.Terminated 1001)
+unfolding bodies_compute
+terminated = (_, refl, refl, refl)
+
+stale : ShownBy (after (opened opening) (carrying (empty 1001) (codes "<a/>") 0 ∷ carrying (empty 1002) (codes "<b/>") 0 ∷ carrying (empty 1003) (codes "<c/>") 0 ∷ carrying (empty 1004) (codes "<d/>") 0 ∷ carrying (empty 1005) (codes "<e/>") 0 ∷ [])) (Made (plain (empty 1001) 0)) (endings.Stale 1001 1002)
+unfolding bodies_compute
+stale = ((refl, (omega arith, refl)), refl)
+
+above : ShownBy (opened opening) (Made (plain (empty 1003) 0)) (endings.Above 1003 1000 2)
+unfolding bodies_compute
+above = ((refl, refl), refl, refl)
+
+wrong_key : ShownBy (opened (opening_with usual (Some (codes "x")) 1000)) (Made (plain (record (empty 1001) { key = Some (codes "y") }) 0)) (endings.WrongKey 1001)
+unfolding bodies_compute keys_compute
+wrong_key = (refl, (_, refl, λ fits. absurd (cc)))
+
+unknown_stream : ShownBy (opened opening) (Made (plain (record (empty 1001) { stream = Some (codes "x") }) 0)) (endings.UnknownStream 1001)
+unfolding bodies_compute
+unknown_stream = (refl, (_, refl, (refl, λ unnamed. absurd (cc))))
+
+pause_too_long : ShownBy (opened opening) (Made (plain (record (empty 1001) { pause = Some 121 }) 0)) (endings.PauseTooLong 1001 121 120)
+unfolding bodies_compute
+pause_too_long = ((refl, (_, refl, (refl, refl, (refl, refl), omega arith))), refl)
+
+overactive : ShownBy (after (opened opening) (carrying (empty 1001) (codes "<a/>") 1000 ∷ [])) (Made (plain (empty 1002) 5999)) (endings.Overactive 1002 4999)
+unfolding bodies_compute
+overactive = (refl, (_, refl, (refl, refl, (λ seconds asks. absurd (cc)), refl, refl)))
+
+silent : ShownBy (opened opening) (Made (Tick 30001)) (endings.Silent 0 30001)
+unfolding bodies_compute
+silent = (refl, refl, refl, omega arith)
+
+closed : ShownBy (after (opened opening) (carrying (empty 1001) (codes "<a/>") 0 ∷ [])) (Made (BackClosed 0 closings.Plain 0)) (endings.Closed closings.Plain 1001)
+unfolding bodies_compute
+closed = (refl, (0, refl))
+
+journal_full : ShownBy (record (opened opening) { counted = 16777100 }) (Limit Arrival 136 0) (endings.JournalFull 16777100 136)
+unfolding bodies_compute
+journal_full = (refl, refl, omega arith)

@@ -1,0 +1,39 @@
+-- A copy: a request as it arrives at its session.
+use Rattle.std.specs.Prelude.{ℕ, Bool, ◌&&◌, ◌||◌, ◌==◌, not, is_some, List, [], ◌∷◌, ◌++◌, map, length, slice_range, if◌then◌else◌}
+use Rattle.bosh_types.specs.declared.inward.Inward.{Inward}
+use Rattle.bosh_types.specs.declared.inward.Inward.TheVariants.{Item, Restart}
+use Rattle.session_attrs.specs.declared.request.Request.{Request}
+
+-- what its body says, the body's bytes, and when it arrived
+pub record Copy : Type 0 where
+  pub request : Request
+  pub body : List ℕ
+  pub arrived : ℕ
+
+abbrev pub id_of : Copy → ℕ
+id_of copy = copy.request.rid
+
+-- the children of its body, each as its exact bytes
+abbrev pub stanzas_of : Copy → List (List ℕ)
+stanzas_of copy = map (λ span. slice_range copy.body span.start span.end) copy.request.stanzas
+
+-- a request for a pause, XEP-0124 section 10; a terminate pauses nothing
+abbrev pub is_pause : Copy → Bool
+is_pause copy = is_some copy.request.pause && not copy.request.terminate
+
+-- it carries nothing, XEP-0124 section 11: no stanza, and it is neither a pause, a terminate nor a restart
+abbrev pub is_empty : Copy → Bool
+is_empty copy =
+    ((length copy.request.stanzas == 0) && not (is_pause copy)) && not (copy.request.terminate || copy.request.restart)
+
+-- the one stream of a session is the unnamed one
+abbrev pub unnamed : ℕ
+unnamed = 0
+
+-- a restart of the stream, XEP-0206 section 5
+abbrev pub restart_item : Bool → List Inward
+restart_item restart = if restart then Restart unnamed ∷ [] else []
+
+-- what it passes on towards the server: its stanzas in order, and then a restart if it asks for one
+abbrev pub items_of : Copy → List Inward
+items_of copy = map (Item unnamed) (stanzas_of copy) ++ restart_item copy.request.restart

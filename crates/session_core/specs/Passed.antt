@@ -1,0 +1,60 @@
+-- What went inward and what the server gave, as a journal tells it.
+use Rattle.std.specs.Prelude.{ℕ, ◌==◌, Bool, List, ◌++◌, map, take, sum_by, filter, Option, Some, None}
+use Rattle.std.specs.List.{filter_map}
+use Rattle.bosh_types.specs.declared.inward.Inward.{Inward}
+use Rattle.bosh_types.specs.declared.inward.Inward.TheVariants.{Item, Restart}
+use Rattle.session_core.specs.declared.replies.Taken.{Taken}
+use Rattle.session_core.specs.declared.replies.Taken.TheVariants as takings
+use Rattle.session_core.specs.Copy.{unnamed}
+use Rattle.session_core.specs.Journal.{Arrive, Collect, Back, BackClosed, Tick, TakeInward, Entered, Made, Limit, Journal}
+use Rattle.session_core.specs.Machine.{back, back_closed}
+use Rattle.session_core.specs.Run.{points_of, run_of}
+use Rattle.session_core.specs.State.{PlainSession, Outward, Stanza, Close, items_of_all}
+
+abbrev pub stream_of : Inward → ℕ
+stream_of (Item stream stanza) = stream
+stream_of (Restart stream) = stream
+
+-- what goes inward on a stream: the items of the run's copies, those of the creation first
+abbrev pub inward_of : Journal → ℕ → List Inward
+inward_of journal stream = filter (λ item. stream_of item == stream) (items_of_all (run_of journal))
+
+abbrev pub takes : Entered → ℕ
+takes (Made (Arrive request body now)) = 0
+takes (Made (Collect ticket)) = 0
+takes (Made (Back stream stanza now)) = 0
+takes (Made (BackClosed stream closing now)) = 0
+takes (Made (Tick now)) = 0
+takes (Made TakeInward) = 1
+takes (Limit kind cost now) = 0
+
+-- what was passed on to the server: as many inward items from the front as were taken
+abbrev pub passed_of : Journal → List Inward
+passed_of journal = take (sum_by (λ entry. takes entry.entered) journal.entries) (items_of_all (run_of journal))
+
+abbrev pub if_done : Outward → Taken → Option Outward
+if_done item takings.Done = Some item
+if_done item takings.Full = None
+if_done item takings.Over = None
+
+-- what the server gave with an entry, where it was taken
+abbrev pub given_by : PlainSession → Entered → Option Outward
+given_by s (Made (Arrive request body now)) = None
+given_by s (Made (Collect ticket)) = None
+given_by s (Made (Back stream stanza now)) = if_done (Stanza stream stanza) (back s stream stanza now).1
+given_by s (Made (BackClosed stream closing now)) = if_done (Close stream closing) (back_closed s stream closing now).1
+given_by s (Made (Tick now)) = None
+given_by s (Made TakeInward) = None
+given_by s (Limit kind cost now) = None
+
+abbrev pub is_on : ℕ → Outward → Bool
+is_on stream (Stanza other bytes) = other == stream
+is_on stream (Close other closing) = other == stream
+
+-- what the server gave in all: the greeting, then each stanza and closing that was taken
+abbrev pub given_in : Journal → List Outward
+given_in journal =
+    map (Stanza unnamed) journal.opening.greeting ++ filter_map (λ point. given_by point.before point.entered) (points_of journal)
+
+abbrev pub given_of : Journal → ℕ → List Outward
+given_of journal stream = filter (is_on stream) (given_in journal)
