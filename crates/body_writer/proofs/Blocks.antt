@@ -9,6 +9,7 @@ use Rattle.body_cutter.specs.Built.{Written, IsWritten, attributes_text}
 use Rattle.body_writer.specs.Attribute.{attribute, number_attribute, text_attribute}
 use Rattle.body_writer.specs.Rows.{value_row, number_row, text_row}
 use Rattle.body_writer.specs.ReadBack.{IsAllowed, IsWord}
+use Rattle.body_cutter.proofs.Utf8Allowed.{allowed_is}
 use Rattle.body_writer.proofs.Texts.{text_append, texts_ascii}
 use Rattle.body_writer.proofs.Escapes.{escaped_spells, escaped_text}
 use Rattle.body_writer.proofs.Plain.{all_plain, spells_plainly, plain_text, decimal_plain, is_simple_name, simple_name, name_text}
@@ -55,7 +56,8 @@ block_number name number n small = block_value name (decimal number) n (decimal_
 pub block_text : (name text : List ℕ) → is_simple_name name ≡ true → IsAllowed text → Block (text_row name text ∷ []) (text_attribute name text) (name ∷ [])
 unfolding text_attribute
 block_text name text n is =
-    block_one (text_row name text) (record { written = record { name = simple_name name n; value = escaped_spells text is.1 }; name = name_text name n; spelling = escaped_text text is.0 })
+    let allowed = allowed_is text is in
+    block_one (text_row name text) (record { written = record { name = simple_name name n; value = escaped_spells text allowed.1 }; name = name_text name n; spelling = escaped_text text allowed.0 })
 
 attributes_append : (rows more : List Written) (rest : List ℕ) → attributes_text (rows ++ more) rest ≡ attributes_text rows (attributes_text more rest)
 attributes_append [] more rest = refl

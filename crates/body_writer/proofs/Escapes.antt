@@ -1,12 +1,8 @@
 -- What is written with references spells the text, and is a text itself.
-use Rattle.std.proofs.Common.{◌≡◌, ◌∙◌, ℕ, ◌<◌, ◌≤◌, Bool, true, false, List, [], ◌∷◌, ◌++◌, refl, sym, ap, subst, arith, append_assoc}
-use Rattle.std.specs.Prelude.{Option, None, Some, IsTrue, IsUtf8, nat_lt, nat_le, ◌==◌}
-use Rattle.std.specs.List.{All}
-use Rattle.std.specs.Str.{encode_utf8_all, all_scalars}
-use Rattle.std.proofs.Math.Utf8.{encode}
-use Rattle.std.proofs.lemmas.Str.{IsUtf8-append, IsUtf8-nil, IsUtf8-encode, encode_ascii}
-use Rattle.std.proofs.lemmas.List.Elements.{All-head, All-tail}
-use Rattle.std.proofs.lemmas.Bool.{eqb-true, ltb-true}
+use Rattle.std.proofs.Common.{◌≡◌, ◌∙◌, ℕ, ◌<◌, ◌≤◌, Bool, true, false, List, [], ◌∷◌, ◌++◌, refl, sym, subst, arith}
+use Rattle.std.specs.Prelude.{Option, None, Some, nat_le, ◌==◌}
+use Rattle.std.specs.List.{list_all}
+use Rattle.std.proofs.lemmas.Bool.{eqb-true}
 use Rattle.std.proofs.lemmas.Bool.Decides.{nat_tests}
 use Rattle.body_cutter.specs.declared.place.Wide.{Wide}
 use Rattle.body_cutter.specs.declared.place.Wide.TheVariants.{Whole, One, Two, Three, AfterE0, AfterEd, AfterEf, AfterEfBf, AfterF0, AfterF4}
@@ -16,7 +12,8 @@ use Rattle.body_cutter.specs.BodyText.{IsText}
 use Rattle.body_cutter.specs.Built.{Spells}
 use Rattle.body_cutter.proofs.Spelling.{spells_nothing, spells_itself, spells_ampersand, spells_less, spells_apostrophe, spells_tab, spells_lf, spells_cr}
 use Rattle.body_writer.specs.Attribute.{escaped, escaped_byte}
-use Rattle.body_writer.proofs.Texts.{goes_on, both, ascii_utf8, texts_ascii}
+use Rattle.body_cutter.proofs.Utf8Allowed.{whole_is_utf8}
+use Rattle.body_writer.proofs.Texts.{goes_on, both}
 
 -- the byte, by what it is
 module _ (P : ℕ → Type 0) (amp : P 38) (less : P 60) (apostrophe : P 39) (tab : P 9) (lf : P 10) (cr : P 13) (b : ℕ)
@@ -53,11 +50,11 @@ spells_byte b spelling value c k =
     (spells_itself spelling value b (value_byte b c a l q) t n r k))
 
 -- it spells the text
-pub escaped_spells : (text : List ℕ) → All (λ byte. IsTrue (is_char_byte byte)) text → Spells (escaped text) text
+pub escaped_spells : (text : List ℕ) → list_all is_char_byte text ≡ true → Spells (escaped text) text
 escaped_spells [] are = spells_nothing
 escaped_spells (b ∷ text) are =
-    spells_byte b (escaped text) text (All-head (λ byte. IsTrue (is_char_byte byte)) b text are)
-    (escaped_spells text (All-tail (λ byte. IsTrue (is_char_byte byte)) b text are))
+    let k = both (is_char_byte b) (list_all is_char_byte text) are in
+    spells_byte b (escaped text) text k.0 (escaped_spells text k.1)
 
 -- no character goes on with an ASCII byte
 module _ (c : ℕ) (small : c < 128) where
@@ -109,48 +106,8 @@ escaped_ends : (text : List ℕ) (wide : Wide) → ends_whole wide text ≡ true
 escaped_ends [] wide e = e
 escaped_ends (b ∷ text) wide e = ends_byte b text (escaped text) wide (λ next. escaped_ends text next) e
 
-escaped-append : (text other : List ℕ) → escaped (text ++ other) ≡ escaped text ++ escaped other
-escaped-append [] other = refl
-escaped-append (b ∷ text) other =
-    ap (λ (bytes : List ℕ). escaped_byte b ++ bytes) (escaped-append text other) ∙ sym (append_assoc (escaped_byte b) (escaped text) (escaped other))
-
--- bytes from U+0080 on are written as they are
-high : (b : ℕ) → 128 ≤ b → escaped_byte b ≡ b ∷ []
-high b h = sym (escaped_itself b (unlike 38 (omega arith)) (unlike 60 (omega arith)) (unlike 39 (omega arith)) (unlike 9 (omega arith)) (unlike 10 (omega arith)) (unlike 13 (omega arith)))
-  where
-    unlike : (n : ℕ) → n < 128 → (b == n) ≡ false
-    unlike n k = grind (arith, nat_tests, h, k)
-
-all_high : (b : ℕ) (bytes : List ℕ) → 128 ≤ b → escaped bytes ≡ bytes → escaped (b ∷ bytes) ≡ b ∷ bytes
-all_high b bytes h e = ap (λ (front : List ℕ). front ++ escaped bytes) (high b h) ∙ ap (λ (rest : List ℕ). b ∷ rest) e
-
-wide_character : (c : ℕ) (two three : Bool) → nat_lt c 128 ≡ false → nat_lt c 2048 ≡ two → nat_lt c 65536 ≡ three → escaped (encode c) ≡ encode c
-unfolding encode
-wide_character c true three f two_is three_is = rw (f, two_is) (all_high _ _ (omega arith) (all_high _ _ (omega arith) refl))
-wide_character c false true f two_is three_is = rw (f, two_is, three_is) (all_high _ _ (omega arith) (all_high _ _ (omega arith) (all_high _ _ (omega arith) refl)))
-wide_character c false false f two_is three_is = rw (f, two_is, three_is) (all_high _ _ (omega arith) (all_high _ _ (omega arith) (all_high _ _ (omega arith) (all_high _ _ (omega arith) refl))))
-
-ascii_escaped : (c : ℕ) → c < 128 → IsUtf8 (escaped (c ∷ []))
-unfolding escaped_byte
-ascii_escaped c small =
-    by_byte (λ x. IsUtf8 (escaped (x ∷ [])))
-    (texts_ascii _ refl).0 (texts_ascii _ refl).0 (texts_ascii _ refl).0 (texts_ascii _ refl).0 (texts_ascii _ refl).0 (texts_ascii _ refl).0
-    c
-    (λ a l q t n r. subst (λ (bytes : List ℕ). IsUtf8 (bytes ++ [])) (escaped_itself c a l q t n r) (ascii_utf8 c small))
-
-character : (c : ℕ) (small : Bool) → nat_lt c 128 ≡ small → IsUtf8 (encode c) → IsUtf8 (escaped (encode c))
-character c true e is = subst (λ (bytes : List ℕ). IsUtf8 (escaped bytes)) (sym (encode_ascii c (ltb-true c 128 e))) (ascii_escaped c (ltb-true c 128 e))
-character c false e is = subst (λ (bytes : List ℕ). IsUtf8 bytes) (sym (wide_character c (nat_lt c 2048) (nat_lt c 65536) e refl refl)) is
-
-characters : (cs : List ℕ) → all_scalars cs ≡ true → IsUtf8 (escaped (encode_utf8_all cs))
-characters [] are = IsUtf8-nil
-characters (c ∷ cs) are =
-    let k = both _ (all_scalars cs) are in
-    subst (λ (bytes : List ℕ). IsUtf8 bytes) (sym (escaped-append (encode c) (encode_utf8_all cs)))
-    (IsUtf8-append (escaped (encode c)) (escaped (encode_utf8_all cs)) (character c (nat_lt c 128) refl (IsUtf8-encode c k.0)) (characters cs k.1))
-
 -- and is a text
-pub escaped_text : (text : List ℕ) → IsText text → IsText (escaped text)
+pub escaped_text : (text : List ℕ) → ends_whole Whole text ≡ true → IsText (escaped text)
 escaped_text text is =
-    let (cs, (are, spell)) = is.0 in
-    (subst (λ (bytes : List ℕ). IsUtf8 (escaped bytes)) spell (characters cs are), escaped_ends text Whole is.1)
+    let ends = escaped_ends text Whole is in
+    (whole_is_utf8 (escaped text) ends, ends)

@@ -1,13 +1,12 @@
 -- Texts one after the other are a text.
-use Rattle.std.proofs.Common.{◌≡◌, ℕ, ◌<◌, Bool, true, false, ◌&&◌, List, [], ◌∷◌, ◌++◌, refl, ap, arith}
-use Rattle.std.specs.Prelude.{Option, None, Some, IsUtf8, nat_lt}
-use Rattle.std.proofs.lemmas.Str.{IsUtf8-append, IsUtf8-nil, encode_ascii}
-use Rattle.std.proofs.lemmas.Bool.{ltb-true}
-use Rattle.std.proofs.lemmas.Bool.Decides.{nat_tests}
+use Rattle.std.proofs.Common.{◌≡◌, ℕ, Bool, true, false, ◌&&◌, List, [], ◌∷◌, ◌++◌, refl, ap}
+use Rattle.std.specs.Prelude.{Option, None, Some, nat_lt}
+use Rattle.std.proofs.lemmas.Str.{IsUtf8-append, IsUtf8-nil}
 use Rattle.body_cutter.specs.declared.place.Wide.{Wide}
 use Rattle.body_cutter.specs.declared.place.Wide.TheVariants.{Whole, One, Two, Three, AfterE0, AfterEd, AfterEf, AfterEfBf, AfterF0, AfterF4}
 use Rattle.body_cutter.specs.Chars.{wide_begin, wide_next, ends_whole, is_whole}
 use Rattle.body_cutter.specs.BodyText.{IsText}
+use Rattle.body_cutter.proofs.Utf8Allowed.{whole_is_utf8}
 
 at_end : (wide : Wide) (text : List ℕ) → is_whole wide ≡ true → ends_whole Whole text ≡ true → ends_whole wide text ≡ true
 at_end Whole text w t = t
@@ -35,21 +34,20 @@ ends_append (b ∷ text) other wide e o = goes_on (wide_next wide b) text (text 
 pub text_append : (text other : List ℕ) → IsText text → IsText other → IsText (text ++ other)
 text_append text other t o = (IsUtf8-append text other t.0 o.0, ends_append text other Whole t.1 o.1)
 
-pub text_nothing : IsText []
+text_nothing : IsText []
 unfolding ends_whole
 text_nothing = (IsUtf8-nil, refl)
-
-pub ascii_utf8 : (b : ℕ) → b < 128 → IsUtf8 (b ∷ [])
-ascii_utf8 b h = (b ∷ [], (grind (arith, nat_tests, h), ap (λ (bytes : List ℕ). bytes ++ []) (encode_ascii b h)))
 
 -- an ASCII byte is a text
 ascii_begins : (b : ℕ) → nat_lt b 128 ≡ true → wide_next Whole b ≡ Some Whole
 unfolding wide_next wide_begin
 ascii_begins b h = rw h refl
 
-pub ascii_text : (b : ℕ) → nat_lt b 128 ≡ true → IsText (b ∷ [])
+ascii_text : (b : ℕ) → nat_lt b 128 ≡ true → IsText (b ∷ [])
 unfolding ends_whole
-ascii_text b h = (ascii_utf8 b (ltb-true b 128 h), ap (λ (o : Option Wide). elim o [ None ↦ false | Some next ↦ ends_whole next [] ]) (ascii_begins b h))
+ascii_text b h =
+    let ends = ap (λ (o : Option Wide). elim o [ None ↦ false | Some next ↦ ends_whole next [] ]) (ascii_begins b h) in
+    (whole_is_utf8 (b ∷ []) ends, ends)
 
 abbrev pub all_ascii : List ℕ → Bool
 all_ascii [] = true

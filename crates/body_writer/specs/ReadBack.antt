@@ -4,10 +4,11 @@ use Rattle.std.specs.List.{All}
 use Rattle.bosh_types.specs.Rid.{IsRid}
 use Rattle.bosh_types.specs.declared.terms.Terms.{Terms}
 use Rattle.body_cutter.specs.declared.parts.Cut.{Cut}
-use Rattle.body_cutter.specs.Chars.{is_char_byte, is_digit}
-use Rattle.body_cutter.specs.BodyText.{IsBody, IsText}
+use Rattle.body_cutter.specs.Chars.{is_allowed, is_digit}
+use Rattle.body_cutter.specs.BodyText.{IsBody}
 use Rattle.body_cutter.specs.Built.{IsElementWithin, Written}
 use Rattle.body_cutter.specs.Pieces.{bytes_at}
+use Rattle.body_cutter.specs.Utf8.{IsUtf8Of}
 use Rattle.body_writer.specs.declared.answer.AnswerParts.{AnswerParts}
 use Rattle.body_writer.specs.declared.answer.Created.{Created}
 use Rattle.body_writer.specs.declared.request.RequestParts.{RequestParts}
@@ -16,7 +17,7 @@ use Rattle.body_writer.specs.Request.{request_text}
 
 -- UTF-8 of allowed characters (XML 1.0 section 2.2)
 abbrev pub IsAllowed : List ℕ → Type 0
-IsAllowed text = IsText text × All (λ byte. IsTrue (is_char_byte byte)) text
+IsAllowed text = IsUtf8Of is_allowed text
 
 -- a number of 64 bits
 abbrev pub IsWord : ℕ → Type 0

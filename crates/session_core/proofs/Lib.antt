@@ -5,3 +5,6 @@ pub mod JournalRows
 pub mod RowTools
 pub mod RunLemmas
 pub mod SessionRows
+pub mod NamedValues
+pub mod WrittenNumbers
+pub mod WrittenRequests
