@@ -21,9 +21,9 @@ pub record Sound (a : Written) : Type 0 where
   pub name : IsText a.name
   pub spelling : IsText a.spelling
 
--- attributes, their bytes, and the names that they may have
-pub record Block (rows : List Written) (text : List ℕ) (names : List (List ℕ)) : Type 0 where
-  pub sound : All Sound rows
+-- attributes, their bytes, and the names that they may have; they read back where this holds
+pub record Block (Holds : Type 0) (rows : List Written) (text : List ℕ) (names : List (List ℕ)) : Type 0 where
+  pub sound : Holds → All Sound rows
   pub text_is : (rest : List ℕ) → attributes_text rows rest ≡ text ++ rest
   pub among : (more : List Written) (others : List (List ℕ)) → Among more others → Among (rows ++ more) (names ++ others)
 
@@ -31,13 +31,13 @@ skipped : (names : List (List ℕ)) (more : List Written) (others : List (List �
 skipped [] more others a = a
 skipped (name ∷ names) more others a = Among.skip (skipped names more others a)
 
-pub block_none : (names : List (List ℕ)) → Block [] [] names
-block_none names = record { sound = All-nil Sound; text_is = λ rest. refl; among = skipped names }
+pub block_none : {Holds : Type 0} (names : List (List ℕ)) → Block Holds [] [] names
+block_none names = record { sound = λ h. All-nil Sound; text_is = λ rest. refl; among = skipped names }
 
-block_one : (a : Written) → Sound a → Block (a ∷ []) (attribute a.name a.spelling) (a.name ∷ [])
+block_one : {Holds : Type 0} (a : Written) → (Holds → Sound a) → Block Holds (a ∷ []) (attribute a.name a.spelling) (a.name ∷ [])
 unfolding attribute
 block_one a sound = record {
-  sound = All-cons Sound a [] sound (All-nil Sound);
+  sound = λ h. All-cons Sound a [] (sound h) (All-nil Sound);
   text_is = λ rest.
       sym (append_assoc (32 ∷ a.name ++ 61 ∷ 39 ∷ [] ++ a.spelling) (39 ∷ []) rest
       ∙ append_assoc (32 ∷ a.name ++ 61 ∷ 39 ∷ []) a.spelling (39 ∷ rest)
@@ -45,19 +45,26 @@ block_one a sound = record {
   among = λ more others k. Among.keep refl k;
 }
 
-pub block_value : (name value : List ℕ) → is_simple_name name ≡ true → all_plain value ≡ true → Block (value_row name value ∷ []) (attribute name value) (name ∷ [])
-block_value name value n v =
-    block_one (value_row name value) (record { written = record { name = simple_name name n; value = spells_plainly value v }; name = name_text name n; spelling = plain_text value v })
+pub block_plain : {Holds : Type 0} (name value : List ℕ) → is_simple_name name ≡ true → (Holds → all_plain value ≡ true) → Block Holds (value_row name value ∷ []) (attribute name value) (name ∷ [])
+block_plain name value n v =
+    block_one (value_row name value)
+    (λ h. record { written = record { name = simple_name name n; value = spells_plainly value (v h) }; name = name_text name n; spelling = plain_text value (v h) })
 
-pub block_number : (name : List ℕ) (number : ℕ) → is_simple_name name ≡ true → IsWord number → Block (number_row name number ∷ []) (number_attribute name number) (name ∷ [])
+pub block_value : {Holds : Type 0} (name value : List ℕ) → is_simple_name name ≡ true → all_plain value ≡ true → Block Holds (value_row name value ∷ []) (attribute name value) (name ∷ [])
+block_value name value n v = block_plain name value n (λ h. v)
+
+pub block_number : {Holds : Type 0} (name : List ℕ) (number : ℕ) → is_simple_name name ≡ true → (Holds → IsWord number) → Block Holds (number_row name number ∷ []) (number_attribute name number) (name ∷ [])
 unfolding number_attribute
-block_number name number n small = block_value name (decimal number) n (decimal_plain number small)
+block_number name number n small = block_plain name (decimal number) n (λ h. decimal_plain number (small h))
 
-pub block_text : (name text : List ℕ) → is_simple_name name ≡ true → IsAllowed text → Block (text_row name text ∷ []) (text_attribute name text) (name ∷ [])
-unfolding text_attribute
-block_text name text n is =
+text_sound : (name text : List ℕ) → is_simple_name name ≡ true → IsAllowed text → Sound (text_row name text)
+text_sound name text n is =
     let allowed = allowed_is text is in
-    block_one (text_row name text) (record { written = record { name = simple_name name n; value = escaped_spells text allowed.1 }; name = name_text name n; spelling = escaped_text text allowed.0 })
+    record { written = record { name = simple_name name n; value = escaped_spells text allowed.1 }; name = name_text name n; spelling = escaped_text text allowed.0 }
+
+pub block_text : {Holds : Type 0} (name text : List ℕ) → is_simple_name name ≡ true → (Holds → IsAllowed text) → Block Holds (text_row name text ∷ []) (text_attribute name text) (name ∷ [])
+unfolding text_attribute
+block_text name text n is = block_one (text_row name text) (λ h. text_sound name text n (is h))
 
 attributes_append : (rows more : List Written) (rest : List ℕ) → attributes_text (rows ++ more) rest ≡ attributes_text rows (attributes_text more rest)
 attributes_append [] more rest = refl
@@ -69,9 +76,9 @@ joins rows more last names others ends a =
     (subst (λ (ns : List (List ℕ)). Among (rows ++ (more ++ last)) ns) (sym (append_assoc names others ends)) a)
 
 -- one block after the other
-pub block_both : {rows more : List Written} {text other : List ℕ} {names others : List (List ℕ)} → Block rows text names → Block more other others → Block (rows ++ more) (text ++ other) (names ++ others)
+pub block_both : {Holds : Type 0} {rows more : List Written} {text other : List ℕ} {names others : List (List ℕ)} → Block Holds rows text names → Block Holds more other others → Block Holds (rows ++ more) (text ++ other) (names ++ others)
 block_both {rows = rows} {more = more} {text = text} {other = other} {names = names} {others = others} one two = record {
-  sound = All-append Sound rows more one.sound two.sound;
+  sound = λ h. All-append Sound rows more (one.sound h) (two.sound h);
   text_is = λ rest.
       attributes_append rows more rest ∙ one.text_is (attributes_text more rest)
       ∙ ap (λ (t : List ℕ). text ++ t) (two.text_is rest) ∙ sym (append_assoc text other rest);
@@ -79,24 +86,24 @@ block_both {rows = rows} {more = more} {text = text} {other = other} {names = na
 }
 
 -- a body up to the end of these attributes
-pub record Begun (rows : List Written) (text : List ℕ) (names : List (List ℕ)) : Type 0 where
-  pub sound : All Sound rows
+pub record Begun (Holds : Type 0) (rows : List Written) (text : List ℕ) (names : List (List ℕ)) : Type 0 where
+  pub sound : Holds → All Sound rows
   pub text_is : (rest : List ℕ) → codes "<body" ++ attributes_text rows rest ≡ text ++ rest
   pub among : (more : List Written) (others : List (List ℕ)) → Among more others → Among (rows ++ more) (names ++ others)
 
-pub begun : Begun [] (codes "<body") []
-begun = record { sound = All-nil Sound; text_is = λ rest. refl; among = λ more others k. k }
+pub begun : {Holds : Type 0} → Begun Holds [] (codes "<body") []
+begun = record { sound = λ h. All-nil Sound; text_is = λ rest. refl; among = λ more others k. k }
 
-pub after : {rows more : List Written} {text other : List ℕ} {names others : List (List ℕ)} → Begun rows text names → Block more other others → Begun (rows ++ more) (text ++ other) (names ++ others)
+pub after : {Holds : Type 0} {rows more : List Written} {text other : List ℕ} {names others : List (List ℕ)} → Begun Holds rows text names → Block Holds more other others → Begun Holds (rows ++ more) (text ++ other) (names ++ others)
 after {rows = rows} {more = more} {text = text} {other = other} {names = names} {others = others} one two = record {
-  sound = All-append Sound rows more one.sound two.sound;
+  sound = λ h. All-append Sound rows more (one.sound h) (two.sound h);
   text_is = λ rest.
       ap (λ (t : List ℕ). codes "<body" ++ t) (attributes_append rows more rest) ∙ one.text_is (attributes_text more rest)
       ∙ ap (λ (t : List ℕ). text ++ t) (two.text_is rest) ∙ sym (append_assoc text other rest);
   among = λ last ends k. joins rows more last names others ends (one.among (more ++ last) (others ++ ends) (two.among last ends k));
 }
 
-pub all_among : {rows : List Written} {text : List ℕ} {names : List (List ℕ)} → Begun rows text names → Among rows names
+pub all_among : {Holds : Type 0} {rows : List Written} {text : List ℕ} {names : List (List ℕ)} → Begun Holds rows text names → Among rows names
 all_among {rows = rows} {names = names} all =
     subst (λ (xs : List Written). Among xs names) (append-nil rows)
     (subst (λ (ns : List (List ℕ)). Among (rows ++ []) ns) (append-nil names) (all.among [] [] Among.none))

@@ -67,12 +67,12 @@ reads_as attributes names payloads sound among distinct few are short =
     (reads_back 32 64 attributes payloads whole (All-weaker Sound IsWritten (λ a s. s.written) attributes sound) (fresh among distinct) (omega (arith, few, among_count among)) are.0)
     are.1 short
 
-module _ {rows : List Written} {text : List ℕ} {names : List (List ℕ)} (all : Begun rows text names) (payloads : List (List ℕ)) where
+module _ {Holds : Type 0} {rows : List Written} {text : List ℕ} {names : List (List ℕ)} (all : Begun Holds rows text names) (payloads : List (List ℕ)) where
   -- a body of these attributes and payloads
   pub begun_built : text ++ closed_with payloads ≡ built_text rows payloads
   begun_built = ap (λ (t : List ℕ). text ++ t) (sym (closed payloads)) ∙ sym (all.text_is (closing payloads))
 
-  pub begun_reads : are_distinct names ≡ true → length names ≤ 32 → ArePayloads payloads → length (text ++ closed_with payloads) ≤ longest → ReadsAs (text ++ closed_with payloads) rows payloads
-  begun_reads distinct few are short =
+  pub begun_reads : Holds → are_distinct names ≡ true → length names ≤ 32 → ArePayloads payloads → length (text ++ closed_with payloads) ≤ longest → ReadsAs (text ++ closed_with payloads) rows payloads
+  begun_reads holds distinct few are short =
       subst (λ (t : List ℕ). ReadsAs t rows payloads) (sym begun_built)
-      (reads_as rows names payloads all.sound (all_among all) distinct few are (subst (λ (t : List ℕ). length t ≤ longest) begun_built short))
+      (reads_as rows names payloads (all.sound holds) (all_among all) distinct few are (subst (λ (t : List ℕ). length t ≤ longest) begun_built short))

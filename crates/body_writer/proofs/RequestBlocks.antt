@@ -9,17 +9,17 @@ use Rattle.body_writer.specs.Request.{request_text, xmpp_namespace, sid_text, cr
 use Rattle.body_writer.specs.RequestRows.{request_attributes, xmpp_rows, sid_rows, creation_rows, number_rows, key_rows, terminate_rows, version_rows, restart_rows}
 use Rattle.body_writer.specs.ReadBack.{IsRequest, IsAllowed, IsKey, IsWord, ReadsAs}
 use Rattle.body_writer.proofs.Plain.{is_simple_name, key_plain}
-use Rattle.body_writer.proofs.Blocks.{Block, block_none, block_value, block_number, block_text, block_both, Begun, begun, after}
+use Rattle.body_writer.proofs.Blocks.{Block, block_none, block_plain, block_value, block_number, block_text, block_both, Begun, begun, after}
 use Rattle.body_writer.proofs.AnswerBlocks.{block_httpbind, block_version}
 use Rattle.body_writer.proofs.ReadBacks.{begun_built, begun_reads}
 
-xmpp_block : (creation : Option (List ℕ × ℕ × ℕ)) (restart : Bool) → Block (xmpp_rows creation restart) (xmpp_namespace creation restart) (codes "xmlns:xmpp" ∷ [])
+xmpp_block : {Holds : Type 0} (creation : Option (List ℕ × ℕ × ℕ)) (restart : Bool) → Block Holds (xmpp_rows creation restart) (xmpp_namespace creation restart) (codes "xmlns:xmpp" ∷ [])
 unfolding xmpp_rows xmpp_namespace
 xmpp_block None false = block_none _
 xmpp_block None true = block_value (codes "xmlns:xmpp") (codes "urn:xmpp:xbosh") refl refl
 xmpp_block (Some creation) restart = block_value (codes "xmlns:xmpp") (codes "urn:xmpp:xbosh") refl refl
 
-sid_block : (sid : Option (List ℕ)) → IfSome sid IsAllowed → Block (sid_rows sid) (sid_text sid) (codes "sid" ∷ [])
+sid_block : {Holds : Type 0} (sid : Option (List ℕ)) → (Holds → IfSome sid IsAllowed) → Block Holds (sid_rows sid) (sid_text sid) (codes "sid" ∷ [])
 unfolding sid_rows sid_text
 sid_block None is = block_none _
 sid_block (Some sid) is = block_text (codes "sid") sid refl is
@@ -27,44 +27,44 @@ sid_block (Some sid) is = block_text (codes "sid") sid refl is
 abbrev creation_names : List (List ℕ)
 creation_names = codes "to" ∷ codes "xml:lang" ∷ codes "wait" ∷ codes "hold" ∷ codes "ver" ∷ codes "content" ∷ []
 
-creation_block : (creation : Option (List ℕ × ℕ × ℕ)) → IfSome creation (λ c. IsAllowed c.0 × IsWord c.1 × IsWord c.2) → Block (creation_rows creation) (creation_text creation) creation_names
+creation_block : {Holds : Type 0} (creation : Option (List ℕ × ℕ × ℕ)) → (Holds → IfSome creation (λ c. IsAllowed c.0 × IsWord c.1 × IsWord c.2)) → Block Holds (creation_rows creation) (creation_text creation) creation_names
 unfolding creation_rows creation_text
 creation_block None is = block_none _
 creation_block (Some (to, wait, hold)) is =
     block_both (block_both (block_both (block_both (block_both
-    (block_text (codes "to") to refl is.0)
+    (block_text (codes "to") to refl (λ h. (is h).0))
     (block_value (codes "xml:lang") (codes "en") refl refl))
-    (block_number (codes "wait") wait refl is.1))
-    (block_number (codes "hold") hold refl is.2))
+    (block_number (codes "wait") wait refl (λ h. (is h).1)))
+    (block_number (codes "hold") hold refl (λ h. (is h).2)))
     (block_value (codes "ver") (codes "1.11") refl refl))
     (block_value (codes "content") (codes "text/xml; charset=utf-8") refl refl)
 
-ack_block : (ack : Option ℕ) → IfSome ack IsWord → Block (number_rows (codes "ack") ack) (ack_text ack) (codes "ack" ∷ [])
+ack_block : {Holds : Type 0} (ack : Option ℕ) → (Holds → IfSome ack IsWord) → Block Holds (number_rows (codes "ack") ack) (ack_text ack) (codes "ack" ∷ [])
 unfolding number_rows ack_text
 ack_block None is = block_none _
 ack_block (Some ack) is = block_number (codes "ack") ack refl is
 
-key_block : (name : List ℕ) (key : Option (List ℕ)) → is_simple_name name ≡ true → IfSome key IsKey → Block (key_rows name key) (key_text name key) (name ∷ [])
+key_block : {Holds : Type 0} (name : List ℕ) (key : Option (List ℕ)) → is_simple_name name ≡ true → (Holds → IfSome key IsKey) → Block Holds (key_rows name key) (key_text name key) (name ∷ [])
 unfolding key_rows key_text
 key_block name None n is = block_none _
-key_block name (Some key) n is = block_value name key n (key_plain key is)
+key_block name (Some key) n is = block_plain name key n (λ h. key_plain key (is h))
 
-pause_block : (pause : Option ℕ) → IfSome pause IsWord → Block (number_rows (codes "pause") pause) (pause_text pause) (codes "pause" ∷ [])
+pause_block : {Holds : Type 0} (pause : Option ℕ) → (Holds → IfSome pause IsWord) → Block Holds (number_rows (codes "pause") pause) (pause_text pause) (codes "pause" ∷ [])
 unfolding number_rows pause_text
 pause_block None is = block_none _
 pause_block (Some pause) is = block_number (codes "pause") pause refl is
 
-terminate_block : (terminate : Bool) → Block (terminate_rows terminate) (terminate_text terminate) (codes "type" ∷ [])
+terminate_block : {Holds : Type 0} (terminate : Bool) → Block Holds (terminate_rows terminate) (terminate_text terminate) (codes "type" ∷ [])
 unfolding terminate_rows terminate_text
 terminate_block true = block_value (codes "type") (codes "terminate") refl refl
 terminate_block false = block_none _
 
-version_block : (creation : Option (List ℕ × ℕ × ℕ)) → Block (version_rows creation) (version_text creation) (codes "xmpp:version" ∷ [])
+version_block : {Holds : Type 0} (creation : Option (List ℕ × ℕ × ℕ)) → Block Holds (version_rows creation) (version_text creation) (codes "xmpp:version" ∷ [])
 unfolding version_rows version_text
 version_block None = block_none _
 version_block (Some creation) = block_version
 
-restart_block : (restart : Bool) → Block (restart_rows restart) (restart_text restart) (codes "xmpp:restart" ∷ [])
+restart_block : {Holds : Type 0} (restart : Bool) → Block Holds (restart_rows restart) (restart_text restart) (codes "xmpp:restart" ∷ [])
 unfolding restart_rows restart_text
 restart_block true = block_value (codes "xmpp:restart") (codes "true") refl refl
 restart_block false = block_none _
@@ -84,27 +84,27 @@ request_head parts =
 rid_word : (rid : ℕ) → IsRid rid → IsWord rid
 rid_word rid is = omega (arith, is.1)
 
-request_blocks : (parts : RequestParts) → IsRequest parts → Begun (request_attributes parts) (request_head parts) request_names
+request_blocks : (parts : RequestParts) → Begun (IsRequest parts) (request_attributes parts) (request_head parts) request_names
 unfolding request_attributes
-request_blocks parts is =
+request_blocks parts =
     after (after (after (after (after (after (after (after (after (after (after (after begun
     block_httpbind)
     (xmpp_block parts.creation parts.restart))
-    (block_number (codes "rid") parts.rid refl (rid_word parts.rid is.rid)))
-    (sid_block parts.sid is.sid))
-    (creation_block parts.creation is.creation))
-    (ack_block parts.ack is.ack))
-    (key_block (codes "key") parts.key refl is.key))
-    (key_block (codes "newkey") parts.newkey refl is.newkey))
-    (pause_block parts.pause is.pause))
+    (block_number (codes "rid") parts.rid refl (λ is. rid_word parts.rid is.rid)))
+    (sid_block parts.sid (λ is. is.sid)))
+    (creation_block parts.creation (λ is. is.creation)))
+    (ack_block parts.ack (λ is. is.ack)))
+    (key_block (codes "key") parts.key refl (λ is. is.key)))
+    (key_block (codes "newkey") parts.newkey refl (λ is. is.newkey)))
+    (pause_block parts.pause (λ is. is.pause)))
     (terminate_block parts.terminate))
     (version_block parts.creation))
     (restart_block parts.restart)
 
-pub request_built : (parts : RequestParts) → IsRequest parts → request_text parts ≡ built_text (request_attributes parts) parts.payloads
+pub request_built : (parts : RequestParts) → request_text parts ≡ built_text (request_attributes parts) parts.payloads
 unfolding request_text
-request_built parts is = begun_built (request_blocks parts is) parts.payloads
+request_built parts = begun_built (request_blocks parts) parts.payloads
 
 pub request_reads : (parts : RequestParts) → IsRequest parts → ReadsAs (request_text parts) (request_attributes parts) parts.payloads
 unfolding request_text
-request_reads parts is = begun_reads (request_blocks parts is) parts.payloads refl (omega arith) is.payloads is.length
+request_reads parts is = begun_reads (request_blocks parts) parts.payloads is refl (omega arith) is.payloads is.fits

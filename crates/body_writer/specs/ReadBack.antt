@@ -52,7 +52,7 @@ pub record IsAnswer (parts : AnswerParts) : Type 0 where
   pub ack : IfSome parts.ack IsWord
   pub report : IfSome parts.report (λ report. IsWord report.0 × IsWord report.1)
   pub payloads : ArePayloads parts.payloads
-  pub length : length (answer_text parts) ≤ longest
+  pub fits : length (answer_text parts) ≤ longest
 
 -- parts of a request whose text is within the limits of a body
 pub record IsRequest (parts : RequestParts) : Type 0 where
@@ -64,7 +64,7 @@ pub record IsRequest (parts : RequestParts) : Type 0 where
   pub newkey : IfSome parts.newkey IsKey
   pub pause : IfSome parts.pause IsWord
   pub payloads : ArePayloads parts.payloads
-  pub length : length (request_text parts) ≤ longest
+  pub fits : length (request_text parts) ≤ longest
 
 -- the body's text was cut into attributes with these names and values and into these children
 pub record IsCutInto (text : List ℕ) (cut : Cut) (attributes : List Written) (children : List (List ℕ)) : Type 0 where
