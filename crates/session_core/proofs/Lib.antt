@@ -6,5 +6,6 @@ pub mod RowTools
 pub mod RunLemmas
 pub mod SessionRows
 pub mod NamedValues
+pub mod ReadBackRows
 pub mod WrittenNumbers
 pub mod WrittenRequests
