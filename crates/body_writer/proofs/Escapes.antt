@@ -13,7 +13,8 @@ use Rattle.body_cutter.specs.Built.{Spells}
 use Rattle.body_cutter.proofs.Spelling.{spells_nothing, spells_itself, spells_ampersand, spells_less, spells_apostrophe, spells_tab, spells_lf, spells_cr}
 use Rattle.body_writer.specs.Attribute.{escaped, escaped_byte}
 use Rattle.body_cutter.proofs.Utf8Allowed.{whole_is_utf8}
-use Rattle.body_writer.proofs.Texts.{goes_on, both}
+use Rattle.body_cutter.proofs.Leads.{both}
+use Rattle.body_writer.proofs.Texts.{goes_on}
 
 -- the byte, by what it is
 module _ (P : ℕ → Type 0) (amp : P 38) (less : P 60) (apostrophe : P 39) (tab : P 9) (lf : P 10) (cr : P 13) (b : ℕ)

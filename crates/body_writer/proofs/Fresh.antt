@@ -9,7 +9,7 @@ use Rattle.std.specs.declared.cmp.Ordering.{Ordering}
 use Rattle.std.specs.declared.cmp.Ordering.TheVariants.{Less, Equal, Greater}
 use Rattle.body_cutter.specs.Names.{has_name, with_name}
 use Rattle.body_cutter.specs.Built.{Written, AreFresh}
-use Rattle.body_writer.proofs.Texts.{both}
+use Rattle.body_cutter.proofs.Leads.{both}
 
 -- some of these names, in order
 pub data Among : List Written → List (List ℕ) → Type 0 where
@@ -42,7 +42,7 @@ neither : (a b : Bool) → a || b ≡ false → (a ≡ false) × (b ≡ false)
 neither true b h = cc
 neither false b h = (refl, h)
 
-denied : (a : Bool) → not a ≡ true → a ≡ false
+pub denied : (a : Bool) → not a ≡ true → a ≡ false
 denied true h = cc
 denied false h = refl
 

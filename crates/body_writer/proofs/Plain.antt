@@ -16,7 +16,9 @@ use Rattle.body_cutter.specs.BodyText.{IsText}
 use Rattle.body_cutter.specs.Built.{Spells}
 use Rattle.body_cutter.proofs.Spelling.{spells_nothing, spells_itself}
 use Rattle.body_writer.specs.ReadBack.{IsWord, IsKey, is_key_digit}
-use Rattle.body_writer.proofs.Texts.{both, all_ascii, texts_ascii}
+use Rattle.body_cutter.proofs.Leads.{both}
+use Rattle.body_writer.proofs.Fresh.{denied}
+use Rattle.body_writer.proofs.Texts.{all_ascii, texts_ascii}
 
 abbrev pub is_plain_byte : ℕ → Bool
 is_plain_byte b = nat_le 32 b && (nat_lt b 128 && (not (b == 38) && (not (b == 60) && not (b == 39))))
@@ -35,10 +37,6 @@ record PlainByte (b : ℕ) : Type 0 where
   ampersand : (b == 38) ≡ false
   less : (b == 60) ≡ false
   apostrophe : (b == 39) ≡ false
-
-denied : (a : Bool) → not a ≡ true → a ≡ false
-denied true h = cc
-denied false h = refl
 
 plain_byte : (b : ℕ) → is_plain_byte b ≡ true → PlainByte b
 plain_byte b h =
