@@ -6,3 +6,4 @@ pub mod Blocks
 pub mod ReadBacks
 pub mod AnswerBlocks
 pub mod RequestBlocks
+pub mod ReadBackRows
