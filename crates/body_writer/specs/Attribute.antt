@@ -1,7 +1,6 @@
 -- Attributes and the end of a body, as bytes.
 use Rattle.std.specs.Prelude.{ℕ, List, [], ◌∷◌, ◌++◌, ◌==◌, if◌then◌else◌, codes}
 use Rattle.std.specs.Fmt.{decimal}
-use Rattle.bosh_types.specs.declared.condition.Condition.{Condition}
 
 -- a byte of a value: what has a meaning of its own between apostrophes, or would be read as a space, is a reference
 unfoldable pub escaped_byte : ℕ → List ℕ

@@ -1,3 +1,7 @@
 pub mod Answer
+pub mod AnswerRows
 pub mod Attribute
+pub mod ReadBack
 pub mod Request
+pub mod RequestRows
+pub mod Rows

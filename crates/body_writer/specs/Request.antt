@@ -1,5 +1,5 @@
 -- The text of a request.
-use Rattle.std.specs.Prelude.{ℕ, Bool, true, false, List, [], ◌∷◌, ◌++◌, ◌||◌, Option, None, Some, codes, if◌then◌else◌}
+use Rattle.std.specs.Prelude.{ℕ, Bool, true, false, List, [], ◌++◌, Option, None, Some, codes, if◌then◌else◌}
 use Rattle.body_writer.specs.declared.request.RequestParts.{RequestParts}
 use Rattle.body_writer.specs.Attribute.{attribute, number_attribute, text_attribute, closed_with, httpbind_text, xbosh_text, xmpp_version_text}
 

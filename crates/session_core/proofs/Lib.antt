@@ -5,3 +5,7 @@ pub mod JournalRows
 pub mod RowTools
 pub mod RunLemmas
 pub mod SessionRows
+pub mod NamedValues
+pub mod ReadBackRows
+pub mod WrittenNumbers
+pub mod WrittenRequests

@@ -10,6 +10,7 @@ pub mod Kept
 pub mod Laws
 pub mod Machine
 pub mod Passed
+pub mod ReadBack
 pub mod Run
 pub mod Rules
 pub mod State

@@ -4,9 +4,11 @@
 
 mod arrival;
 mod bare;
+mod laws;
 mod replies;
 mod search;
 
 pub use arrival::Arrival;
 pub use bare::{Bare, BareSeen};
+pub use laws::written_requests_read_back;
 pub use replies::{Arrived, Collected, Taken, Ticked};

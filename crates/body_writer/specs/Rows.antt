@@ -1,0 +1,30 @@
+-- Attributes one by one, as they are written between apostrophes, with the values that they spell.
+use Rattle.std.specs.Prelude.{ℕ, List, codes}
+use Rattle.std.specs.Fmt.{decimal}
+use Rattle.body_cutter.specs.Built.{Written}
+use Rattle.body_writer.specs.Attribute.{escaped}
+
+-- a value that is written as it is
+abbrev pub value_row : List ℕ → List ℕ → Written
+value_row name value = record { name = name; spelling = value; value = value }
+
+-- a number in plain decimal
+abbrev pub number_row : List ℕ → ℕ → Written
+number_row name number = value_row name (decimal number)
+
+-- any text, with references
+abbrev pub text_row : List ℕ → List ℕ → Written
+text_row name text = record { name = name; spelling = escaped text; value = text }
+
+-- the namespaces, and the version of XMPP
+abbrev pub httpbind_row : Written
+httpbind_row = value_row (codes "xmlns") (codes "http://jabber.org/protocol/httpbind")
+
+abbrev pub xbosh_row : Written
+xbosh_row = value_row (codes "xmlns:xmpp") (codes "urn:xmpp:xbosh")
+
+abbrev pub stream_row : Written
+stream_row = value_row (codes "xmlns:stream") (codes "http://etherx.jabber.org/streams")
+
+abbrev pub xmpp_version_row : Written
+xmpp_version_row = value_row (codes "xmpp:version") (codes "1.0")
