@@ -1,5 +1,5 @@
 -- What the ending of a session gives to the requests that are open then, XEP-0124 sections 13 and 17.
-use Rattle.std.specs.Prelude.{ℕ, ◌+◌, ◌==◌, List, [], ◌++◌, map, Option, Some, None, if◌then◌else◌}
+use Rattle.std.specs.Prelude.{ℕ, ◌+◌, ◌==◌, Bool, false, List, [], ◌++◌, map, Option, Some, None, if◌then◌else◌}
 use Rattle.bosh_types.specs.declared.condition.Condition.{Condition}
 use Rattle.bosh_types.specs.declared.condition.Condition.TheVariants as conditions
 use Rattle.bosh_types.specs.declared.ending.Closing.{Closing}
@@ -60,22 +60,22 @@ other_word (Silent since now) = terminal (Some conditions.ItemNotFound)
 other_word (Closed closing rid) = word_at_closing closing
 other_word (JournalFull counted cost) = terminal (Some conditions.OtherRequest)
 
--- the open id that broke the session; at a terminate, the oldest held one; 0 where none did
-abbrev pub breaker_of : PlainSession → Ending → ℕ
-breaker_of s (Terminated rid) = answered_of s + 1
-breaker_of s (Stale rid lowest) = 0
-breaker_of s (Above rid last requests) = 0
-breaker_of s (WrongKey rid) = rid
-breaker_of s (UnknownStream rid) = rid
-breaker_of s (PauseTooLong rid pause maxpause) = rid
-breaker_of s (Overactive rid apart) = rid
-breaker_of s (Silent since now) = 0
-breaker_of s (Closed closing rid) = 0
-breaker_of s (JournalFull counted cost) = 0
+-- the open request with this id broke the session; at a terminate, it is the oldest held one
+abbrev pub is_breaker : PlainSession → Ending → ℕ → Bool
+is_breaker s (Terminated rid) id = id == answered_of s + 1
+is_breaker s (Stale rid lowest) id = false
+is_breaker s (Above rid last requests) id = false
+is_breaker s (WrongKey rid) id = id == rid
+is_breaker s (UnknownStream rid) id = id == rid
+is_breaker s (PauseTooLong rid pause maxpause) id = id == rid
+is_breaker s (Overactive rid apart) id = id == rid
+is_breaker s (Silent since now) id = false
+is_breaker s (Closed closing rid) id = false
+is_breaker s (JournalFull counted cost) id = false
 
 abbrev pub last_word : PlainSession → Ending → Copy → ℕ × List ℕ
 last_word s ending copy =
-    (id_of copy, answer_text (if id_of copy == breaker_of s ending then breaker_word ending else other_word ending))
+    (id_of copy, answer_text (if is_breaker s ending (id_of copy) then breaker_word ending else other_word ending))
 
 -- the session ends: every request that is open is answered, and nothing is answered later
 abbrev pub ended : Ending → PlainSession → PlainSession
