@@ -1,10 +1,11 @@
 -- Stanzas and rows of stanzas, as scripts have them.
-use Rattle.std.specs.Prelude.{ℕ, ◌+◌, ◌==◌, ◌&&◌, nat_le, Bool, List, [], ◌∷◌, ◌++◌, map, length, slice_range, Option, Some, None, Ok, Err, is_ok, codes, if◌then◌else◌}
+use Rattle.std.specs.Prelude.{ℕ, ◌+◌, ◌==◌, ◌&&◌, nat_le, Bool, List, [], ◌∷◌, ◌++◌, map, length, Option, Some, None, Ok, Err, is_ok, codes, if◌then◌else◌}
 use Rattle.std.specs.Str.{is_utf8}
 use Rattle.body_cutter.specs.declared.parts.Cut.{Cut}
 use Rattle.body_cutter.specs.declared.parts.Span.{Span}
 use Rattle.body_cutter.specs.declared.place.Place.TheVariants.{Start, StanzaStart}
 use Rattle.body_cutter.specs.declared.place.Kind.TheVariants as kinds
+use Rattle.body_cutter.specs.Pieces.{bytes_at}
 use Rattle.body_cutter.specs.Refusal.{text_answer, unit_answer}
 
 -- a stanza by itself
@@ -17,7 +18,7 @@ parts_of text = elim (text_answer kinds.Body Start 1048576 (is_utf8 text) text) 
 
 -- the bytes of the text at each of these places
 abbrev pub slices_of : List ℕ → List Span → List (List ℕ)
-slices_of text spans = map (λ span. slice_range text span.start span.end) spans
+slices_of text spans = map (bytes_at text) spans
 
 -- the spans stand side by side from this place to that
 abbrev pub is_row : ℕ → List Span → ℕ → Bool

@@ -1,9 +1,10 @@
 // The lines of a script that tells of arrivals at one session.
 ghost use Rattle.std.specs.Prelude.{◌≡◌, ◌++◌, List, [], map, IfOk, OnOk};
 ghost use Rattle.script_text.specs.declared.report.ReportLine.TheVariants.{In};
-ghost use Rattle.script_text.specs.declared.line.ScriptLine.TheVariants.{Short};
+ghost use Rattle.session_core.specs.BareEnding.{session_after};
+ghost use Rattle.script_text.specs.declared.run.Run.TheVariants.{Arrivals};
 ghost use Rattle.script_text.specs.Creation.{Does};
-ghost use Rattle.script_text.specs.Script.{arrival_step, over_lines};
+ghost use Rattle.script_text.specs.Script.{arrival_step, goes_on, over_lines, request_lines};
 
 use crate::line::{BadKind, ScriptLine};
 use crate::report::ReportLine;
@@ -22,7 +23,7 @@ pub(crate) fn arrival_effect(
     ensures { IfOk result (λ effect. Does effect (arrival_step session n said)) }
 {
     match said {
-        ScriptLine::Short { rid, stanza } => short(alloc, session, n, rid, stanza.as_slice()),
+        ScriptLine::Short { rid, stanza } => short(alloc, session, rid, stanza.as_slice()),
         ScriptLine::End => Effect::done(alloc, n),
         ScriptLine::Open { .. } => Effect::bad(alloc, n, BadKind::Grammar),
         ScriptLine::Host { .. } => Effect::bad(alloc, n, BadKind::Grammar),
@@ -31,14 +32,8 @@ pub(crate) fn arrival_effect(
 }
 
 // A request with one stanza arrives.
-fn short(
-    alloc: Global,
-    mut session: Bare,
-    _n: u64,
-    rid: Rid,
-    stanza: &[u8],
-) -> Result<Effect, AllocError>
-    ensures { IfOk result (λ effect. Does effect (arrival_step session _n (Short rid stanza.now))) }
+fn short(alloc: Global, mut session: Bare, rid: Rid, stanza: &[u8]) -> Result<Effect, AllocError>
+    ensures { IfOk result (λ effect. Does effect (goes_on (request_lines session rid stanza.now) (Arrivals (session_after session rid stanza.now)))) }
 {
     let seen = session.short(alloc, rid, stanza)?;
     let lines = seen_lines(alloc, seen)?;

@@ -1,5 +1,5 @@
 // The lines of a script that tells of bodies that arrive at a manager.
-ghost use Rattle.std.specs.Prelude.{◌≡◌, slice_get, IfOk, Some};
+ghost use Rattle.std.specs.Prelude.{◌≡◌, [], slice_get, IfOk, Some};
 ghost use Rattle.std.specs.List.{list_any};
 ghost use Rattle.std.specs.Str.{bytes_eq};
 ghost use Rattle.body_writer.specs.Answer.{answer_text};
@@ -222,7 +222,7 @@ fn opening_lines(
 {
     let stanzas = slices_of(alloc, body, request.stanzas.as_slice())?;
     let mut lines = inward_lines(alloc, number, stanzas)?;
-    let body = created_body(alloc, number, body, request, creation, host)?;
+    let body = created_body(alloc, number, request, creation, host)?;
     lines.push(ReportLine::Out { conn, body })?;
     Ok(lines)
 }
@@ -231,12 +231,11 @@ fn opening_lines(
 fn created_body(
     alloc: Global,
     number: u32,
-    body: &[u8],
     request: &Request,
     creation: &Creation,
     host: &HostName,
 ) -> Result<Text, AllocError>
-    ensures { IfOk result (λ text. text ≡ answer_text (created_parts (opening_by host.now number body.now request.now creation.now))) }
+    ensures { IfOk result (λ text. text ≡ answer_text (created_parts (opening_by host.now number [] request.now creation.now))) }
 {
     let created = Created {
         sid: sid_of(alloc, number)?,

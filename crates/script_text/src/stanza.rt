@@ -74,7 +74,7 @@ fn is_row(start: usize, spans: &[Span], end: usize) -> bool
     place == end
 }
 
-// The bytes of the text at each of these places; a place that isn't within it has none.
+// The bytes of the text at each of these places, as far as these lie within it.
 pub(crate) fn slices_of(alloc: Global, text: &[u8], spans: &[Span]) -> Result<Stanzas, AllocError>
     ensures { IfOk result (λ slices. slices ≡ slices_of text.now spans.now) }
 {

@@ -1,7 +1,8 @@
 -- A copy: a request as it arrives at its session.
-use Rattle.std.specs.Prelude.{ℕ, Bool, ◌&&◌, ◌||◌, ◌==◌, not, is_some, List, [], ◌∷◌, ◌++◌, map, length, slice_range, if◌then◌else◌}
+use Rattle.std.specs.Prelude.{ℕ, Bool, ◌&&◌, ◌||◌, ◌==◌, not, is_some, List, [], ◌∷◌, ◌++◌, map, length, if◌then◌else◌}
 use Rattle.bosh_types.specs.declared.inward.Inward.{Inward}
 use Rattle.bosh_types.specs.declared.inward.Inward.TheVariants.{Item, Restart}
+use Rattle.body_cutter.specs.Pieces.{bytes_at}
 use Rattle.session_attrs.specs.declared.request.Request.{Request}
 
 -- what its body says, the body's bytes, and when it arrived
@@ -15,7 +16,7 @@ id_of copy = copy.request.rid
 
 -- the children of its body, each as its exact bytes
 abbrev pub stanzas_of : Copy → List (List ℕ)
-stanzas_of copy = map (λ span. slice_range copy.body span.start span.end) copy.request.stanzas
+stanzas_of copy = map (bytes_at copy.body) copy.request.stanzas
 
 -- a request for a pause, XEP-0124 section 10; a terminate pauses nothing
 abbrev pub is_pause : Copy → Bool

@@ -37,8 +37,9 @@ OfNext after rid P = (rid ≡ last_of after + 1) × ((copy : Copy) × (standing_
 abbrev pub HasKey : PlainSession → Copy → Type 0
 HasKey after copy = IsTrue (fits after.key copy.request.key)
 
-abbrev pub HasStream : Copy → Type 0
-HasStream copy = copy.request.stream ≡ None
+-- it is for the unnamed stream, which is open
+abbrev pub IsUnnamed : Copy → Type 0
+IsUnnamed copy = copy.request.stream ≡ None
 
 -- it is a pause of this many seconds
 abbrev pub Asks : Copy → ℕ → Type 0
@@ -65,12 +66,12 @@ Fact before entered after (Above rid last requests) =
     × (last ≡ last_of before) × (requests ≡ before.terms.requests)
 -- the next copy breaks a rule, and none that is tested earlier
 Fact before entered after (WrongKey rid) = OfNext after rid (λ copy. HasKey after copy → ⊥)
-Fact before entered after (UnknownStream rid) = OfNext after rid (λ copy. HasKey after copy × (HasStream copy → ⊥))
+Fact before entered after (UnknownStream rid) = OfNext after rid (λ copy. HasKey after copy × (IsUnnamed copy → ⊥))
 Fact before entered after (PauseTooLong rid pause maxpause) =
-    OfNext after rid (λ copy. HasKey after copy × HasStream copy × Asks copy pause × (maxpause < pause))
+    OfNext after rid (λ copy. HasKey after copy × IsUnnamed copy × Asks copy pause × (maxpause < pause))
     × (maxpause ≡ after.terms.maxpause)
 Fact before entered after (Overactive rid distance) =
-    OfNext after rid (λ copy. HasKey after copy × HasStream copy × IsShort after copy
+    OfNext after rid (λ copy. HasKey after copy × IsUnnamed copy × IsShort after copy
     × IsTrue (is_overactive after.terms (length (held after)) (mark_of after copy) (mark_of after (prior_of after copy)))
     × (distance ≡ apart (mark_of after copy) (mark_of after (prior_of after copy))))
 -- no request was held, and it was quiet for longer than allowed
