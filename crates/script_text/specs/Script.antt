@@ -5,7 +5,8 @@ use Rattle.bosh_types.specs.declared.ending.Ending.{Ending}
 use Rattle.session_core.specs.Bare.{BareSession, inward_of}
 use Rattle.session_core.specs.BareEnding.{over_at, session_after}
 use Rattle.session_core.specs.BareRun.{IsLongestRun}
-use Rattle.session_core.specs.Copy.{Copy, stanzas_of}
+use Rattle.session_core.specs.declared.copy.RequestCopy.{RequestCopy}
+use Rattle.session_core.specs.Copy.{stanzas_of}
 use Rattle.session_core.specs.Machine.{Opening}
 use Rattle.session_core.specs.Run.{run_of}
 use Rattle.script_text.specs.declared.line.BadKind.{BadKind}
@@ -139,7 +140,7 @@ abbrev pub Reports : Drive → Driven → Option (List ℕ) → Option (List ℕ
 Reports drive outcome old new = (outcome ≡ drive.outcome) × Appends old new (report_text drive.report)
 
 -- the stanzas of a run of copies
-abbrev pub stanzas_in : List Copy → List (List ℕ)
+abbrev pub stanzas_in : List RequestCopy → List (List ℕ)
 stanzas_in [] = []
 stanzas_in (copy ∷ copies) = stanzas_of copy ++ stanzas_in copies
 
