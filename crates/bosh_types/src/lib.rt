@@ -4,6 +4,7 @@
 #![tactic(auto)]
 
 mod condition;
+mod copies;
 mod ending;
 mod hosts;
 mod inward;
@@ -11,10 +12,12 @@ mod kept;
 mod key;
 mod numbers;
 mod rid;
+mod shared;
 mod terms;
 mod text;
 
 pub use condition::Condition;
+pub use copies::{CopyIn, copy_items};
 pub use ending::{Closing, Ending};
 pub use hosts::{HostName, HostNames};
 pub use inward::Inward;
@@ -22,6 +25,7 @@ pub use kept::KeptAnswer;
 pub use key::Key;
 pub use numbers::{Moment, StreamNo, Ticket, Wire};
 pub use rid::Rid;
+pub use shared::SharedText;
 pub use terms::Terms;
 pub use text::{Stanzas, Text};
 
