@@ -9,8 +9,10 @@ mod hosts;
 mod inward;
 mod kept;
 mod key;
+pub mod limits;
 mod numbers;
 mod rid;
+mod row;
 mod terms;
 mod text;
 
@@ -22,6 +24,7 @@ pub use kept::KeptAnswer;
 pub use key::Key;
 pub use numbers::{Moment, StreamNo, Ticket, Wire};
 pub use rid::Rid;
+pub use row::Row;
 pub use terms::Terms;
 pub use text::{Stanzas, Text};
 
