@@ -1,6 +1,7 @@
 -- What a script gives: its outcome, its report, and what it leaves.
 use Rattle.std.specs.Prelude.{ℕ, ◌+◌, ◌≡◌, List, [], ◌∷◌, ◌++◌, Option, None, Some, false, length, drop, map, nat_lt, if◌then◌else◌}
 use Rattle.std.specs.Io.KnownBytes.{Appends}
+use Rattle.bosh_types.specs.Limits.{longest_line, most_lines}
 use Rattle.bosh_types.specs.declared.ending.Ending.{Ending}
 use Rattle.session_core.specs.Bare.{BareSession, inward_of}
 use Rattle.session_core.specs.BareEnding.{over_at, session_after}
@@ -25,12 +26,8 @@ use Rattle.script_text.specs.declared.run.Run.{Run}
 use Rattle.script_text.specs.declared.run.Run.TheVariants.{Beginning, Arrivals, Creations}
 use Rattle.script_text.specs.Creation.{Step, bad_step, done_step, manager_step}
 use Rattle.script_text.specs.Line.{line_of}
-use Rattle.script_text.specs.Lines.{lines_of, longest_line}
+use Rattle.script_text.specs.Lines.{lines_of}
 use Rattle.script_text.specs.Report.{report_text, inward_in}
-
--- the most lines that a script may have
-abbrev pub most_lines : ℕ
-most_lines = 1000000
 
 -- what a script gives: how it ended, its report, what it was run over at its end, and the sessions that it created
 pub record Drive : Type 0 where
