@@ -1,5 +1,5 @@
 -- The run, as a search of the whole journal: which copy stands for each id, and how far they go on without a gap
--- (XEP-0124 section 14.1). It knows no window, no buffer and no order of processing.
+-- (XEP-0124 section 14.2). It knows no window, no buffer and no order of processing.
 use Rattle.std.specs.Prelude.{ℕ, zero, suc, ◌+◌, ◌==◌, Bool, List, [], ◌∷◌, ◌++◌, length, drop, Option, Some, None, is_some, if◌then◌else◌}
 use Rattle.std.specs.List.{find, filter_map, list_all, range_with_len}
 use Rattle.key_sequence.specs.Current.{current_after}
