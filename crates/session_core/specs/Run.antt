@@ -1,14 +1,7 @@
-<<<<<<< HEAD
--- The run of a journal in the subject's own words (XEP-0124 section 14.1): of which copies it is made, and where it stops. It
+-- The run of a journal in the subject's own words (XEP-0124 section 14.2): of which copies it is made, and where it stops. It
 -- knows no window, no buffer and no order of processing.
 use Rattle.std.specs.Prelude.{◌≡◌, ◌≢◌, ℕ, ◌+◌, ◌≤◌, true, false, max, List, [], ◌∷◌, ◌++◌, All, length, take, Option, Some, None, slice_get}
 use Rattle.bosh_types.specs.declared.ending.Ending.{Ending}
-=======
--- The run, as a search of the whole journal: which copy stands for each id, and how far they go on without a gap
--- (XEP-0124 section 14.2). It knows no window, no buffer and no order of processing.
-use Rattle.std.specs.Prelude.{ℕ, zero, suc, ◌+◌, ◌==◌, Bool, List, [], ◌∷◌, ◌++◌, length, drop, Option, Some, None, is_some, if◌then◌else◌}
-use Rattle.std.specs.List.{find, filter_map, list_all, range_with_len}
->>>>>>> h1
 use Rattle.key_sequence.specs.Current.{current_after}
 use Rattle.session_core.specs.declared.copy.RequestCopy.{RequestCopy}
 use Rattle.session_core.specs.Copy.{id_of}
