@@ -15,7 +15,8 @@ use Rattle.body_cutter.specs.declared.parts.CutRefusal.{CutRefusal}
 use Rattle.body_cutter.specs.declared.parts.CutRefusal.TheVariants.{TooLong, NotUtf8, NotBody, Forbidden, Malformed, TooManyAttributes, TooManyChildren, TooDeep}
 use Rattle.body_cutter.specs.Chars.{ends_whole}
 use Rattle.body_cutter.specs.Reader.{State, first_state}
-use Rattle.body_cutter.specs.Refusal.{Reading, Ended, Stopped, reading, is_accepted, is_complete, is_before_body, read_answer, refusal_or, ended_refusal, stopped_refusal, text_answer, unit_answer, unit_result, Answers}
+use Rattle.body_cutter.specs.Refusal.{Reading, Ended, Stopped, reading, is_accepted, is_complete, is_before_body, read_answer, refusal_or, ended_refusal, stopped_refusal, text_answer, unit_answer, unit_result}
+use Rattle.body_cutter.specs.Cutting.{Answers}
 use Rattle.body_cutter.specs.Parts.{Parts, document_parts, single_parts}
 use Rattle.body_cutter.specs.BodyText.{IsBodyText, IsElementText, HasBodyParts, HasElementParts, IsWithinLimits, IsBody, IsStanza, IsReadable, IsWrongAt, RefusalTells, Tells, limit_passed, cut_with, answer_of}
 use Rattle.body_cutter.proofs.Stops.{never_on}

@@ -57,3 +57,5 @@ pub mod CompletionSections
 pub mod CompletionOpens
 pub mod CompletionForbidden
 pub mod CompletionTable
+pub mod Cuts
+pub mod Rows

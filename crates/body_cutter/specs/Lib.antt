@@ -8,8 +8,10 @@ pub mod Completion
 pub mod Viable
 pub mod Reading
 pub mod Refusal
+pub mod Cutting
 pub mod Grammar
 pub mod Parts
 pub mod BodyText
+pub mod Table
 pub mod Pieces
 pub mod Built

@@ -6,7 +6,6 @@ use Rattle.body_cutter.specs.declared.place.Place.TheVariants.{Start, First, Dec
 use Rattle.body_cutter.specs.declared.place.Kind.{Kind}
 use Rattle.body_cutter.specs.declared.parts.Cut.{Cut}
 use Rattle.body_cutter.specs.declared.parts.CutError.{CutError}
-use Rattle.body_cutter.specs.declared.parts.CutError.TheVariants.{Memory, Refused}
 use Rattle.body_cutter.specs.declared.parts.CutRefusal.{CutRefusal}
 use Rattle.body_cutter.specs.declared.parts.CutRefusal.TheVariants.{TooLong, NotUtf8, NotBody, Forbidden, Malformed, TooManyAttributes, TooManyChildren, TooDeep}
 use Rattle.body_cutter.specs.Chars.{is_whole}
@@ -87,12 +86,6 @@ read_answer text (Stopped at b s) = Err (stopped_refusal text at b s)
 unfoldable pub text_answer : Kind → Place → ℕ → Bool → List ℕ → Result Cut CutRefusal
 text_answer kind place longest is_utf8 text =
     if nat_lt longest (length text) then Err TooLong else if is_utf8 then read_answer text (reading 0 (first_state kind place) text) else Err NotUtf8
-
--- what was answered is this, unless memory ran out
-abbrev pub Answers : {A : Type 0} → Result A CutError → Result A CutRefusal → Type 0
-Answers (Ok x) answer = answer ≡ Ok x
-Answers (Err Memory) answer = Unit {0}
-Answers (Err (Refused refusal)) answer = answer ≡ Err refusal
 
 -- the same without the parts
 abbrev pub unit_answer : Result Cut CutRefusal → Result (Unit {0}) CutRefusal

@@ -1,11 +1,15 @@
-ghost use Rattle.std.specs.Prelude.{◌≡◌, ◌≤◌, ℕ, ◌↔◌, List, [], length, true};
+ghost use Rattle.std.specs.Prelude.{◌≡◌, ◌≤◌, ℕ, ◌↔◌, List, [], length, true, IsTrue, Ok, Err};
 ghost use Rattle.std.specs.List.{All};
 ghost use Rattle.body_cutter.specs.declared.place.Place.TheVariants.{Start, StanzaStart};
 ghost use Rattle.body_cutter.specs.declared.place.Kind.TheVariants as kinds;
 ghost use Rattle.body_cutter.specs.Reader.{first_state};
 ghost use Rattle.body_cutter.specs.Refusal.{is_accepted, reading};
 ghost use Rattle.body_cutter.specs.Parts.{Parts};
-ghost use Rattle.body_cutter.specs.BodyText.{HasBodyParts, HasElementParts, IsBodyText, IsElementText, IsText, limit_passed};
+ghost use Rattle.body_cutter.specs.BodyText.{HasBodyParts, HasElementParts, IsBody, IsBodyText, IsElementText, IsStanza, IsText, limit_passed};
+ghost use Rattle.body_cutter.specs.declared.parts.Cut.{Cut};
+ghost use Rattle.body_cutter.specs.declared.parts.CutRefusal.{CutRefusal};
+ghost use Rattle.body_cutter.specs.Cutting.{body_cut_of, is_stanza, stanza_read_of};
+ghost use Rattle.body_cutter.specs.Table.{IsBodyRefusal, IsStanzaRefusal};
 ghost use Rattle.body_cutter.specs.Pieces.{IsNamed, IsPiece};
 ghost use Rattle.body_cutter.specs.Built.{AreFresh, IsElementWithin, IsWritten, ReadsBack, Written, built_text};
 
@@ -13,6 +17,14 @@ ghost use Rattle.body_cutter.specs.Built.{AreFresh, IsElementWithin, IsWritten, 
 pub fn reader_takes_the_grammar()
     ensures body { (text : List ℕ) → (is_accepted (reading 0 (first_state kinds.Body Start) text) ≡ true) ↔ IsBodyText text }
     ensures stanza { (text : List ℕ) → (is_accepted (reading 0 (first_state kinds.Stanza StanzaStart) text) ≡ true) ↔ IsElementText text }
+{}
+
+/// What a text is cut into is the grammar's body, and what refuses it stands in its row of the table; so it is with stanzas.
+pub fn texts_are_cut_by_the_grammar()
+    ensures body { (text : List ℕ) (cut : Cut) → (body_cut_of text ≡ Ok cut) ↔ IsBody text cut }
+    ensures refusal { (text : List ℕ) (refusal : CutRefusal) → (body_cut_of text ≡ Err refusal) ↔ IsBodyRefusal text refusal }
+    ensures stanza { (text : List ℕ) → IsTrue (is_stanza text) ↔ IsStanza text }
+    ensures no_stanza { (text : List ℕ) (refusal : CutRefusal) → (stanza_read_of text ≡ Err refusal) ↔ IsStanzaRefusal text refusal }
 {}
 
 /// A text has one reading: its attributes and children, and the first limit that it passes.

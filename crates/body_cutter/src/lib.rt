@@ -21,6 +21,7 @@ pub use characters::texts_are_allowed_characters;
 pub use chars::is_allowed;
 pub use laws::{
     a_text_has_one_reading, built_bodies_read_back, parts_are_pieces, reader_takes_the_grammar,
+    texts_are_cut_by_the_grammar,
 };
 pub use parts::{Attr, Attrs, Cut, CutError, CutRefusal, Span, Spans};
 pub use prefixes::prefixes_are_viable_where_read;

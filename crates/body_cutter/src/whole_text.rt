@@ -5,7 +5,8 @@ ghost use Rattle.body_cutter.specs.declared.place.Kind.TheVariants as kinds;
 ghost use Rattle.body_cutter.specs.Chars.{is_whole};
 ghost use Rattle.body_cutter.specs.Reader.{first_state};
 ghost use Rattle.body_cutter.specs.Reading.{state_of};
-ghost use Rattle.body_cutter.specs.Refusal.{Answers, ended_refusal, ends_in_section_start, is_before_body, is_complete, is_forbidden, is_opened, is_content, limit_refusal, reading, read_answer, stopped_refusal, text_answer, unit_answer, unit_result, ReadsTo};
+ghost use Rattle.body_cutter.specs.Cutting.{Answers, body_cut_of, stanza_read_of};
+ghost use Rattle.body_cutter.specs.Refusal.{ended_refusal, ends_in_section_start, is_before_body, is_complete, is_forbidden, is_opened, is_content, limit_refusal, reading, read_answer, stopped_refusal, text_answer, unit_answer, unit_result, ReadsTo};
 ghost use Rattle.body_cutter.specs.Parts.{Parts};
 ghost use Rattle.body_cutter.specs.BodyText.{HasBodyParts, HasElementParts, IsBody, IsBodyText, IsElementText, IsStanza, Tells, answer_of};
 ghost use Rattle.body_cutter.specs.Viable.{Anything, NamesBody, TellsRow};
@@ -201,10 +202,10 @@ fn without_parts(parts: Result<Cut, CutError>) -> Result<(), CutError>
 }
 
 /// Cuts a body into its attributes and its children.
-#[tactic(auto, unfolding(crate::specs::Refusal::text_answer))]
+#[tactic(auto, unfolding(crate::specs::Cutting::body_cut_of))]
 pub fn cut(alloc: Global, text: &[u8]) -> Result<Cut, CutError>
-    // The answer is what reading the text from left to right gives.
-    ensures answer { Answers result (text_answer kinds.Body Start 1048576 (is_utf8 text.now) text.now) }
+    // The answer is what the text is cut into, or its refusal, unless memory runs out.
+    ensures answer { Answers result (body_cut_of text.now) }
     // What is cut is a body's text within the limits, with exactly these attributes and children.
     ensures body { IfOk result (λ cut. IsBody text.now cut) }
     // A refusal by the grammar is right, and one by a limit is of a body's text that passes it and none before it.
@@ -218,10 +219,10 @@ pub fn cut(alloc: Global, text: &[u8]) -> Result<Cut, CutError>
 }
 
 /// Reads a stanza that stands by itself.
-#[tactic(auto, unfolding(crate::specs::Refusal::text_answer))]
+#[tactic(auto, unfolding(crate::specs::Cutting::stanza_read_of))]
 pub fn read_stanza(alloc: Global, text: &[u8]) -> Result<(), CutError>
-    // The answer is what reading the text from left to right gives.
-    ensures answer { Answers result (unit_answer (text_answer kinds.Stanza StanzaStart 1000000 (is_utf8 text.now) text.now)) }
+    // The answer is whether the text is a stanza, or its refusal, unless memory runs out.
+    ensures answer { Answers result (stanza_read_of text.now) }
     // What is read is a stanza.
     ensures stanza { OnOk result (IsStanza text.now) }
     // A refusal by the grammar is right, and one by a limit is of an element that passes it and none before it.

@@ -37,7 +37,8 @@ use Rattle.script_text.specs.declared.run.Run.TheVariants.{Beginning, Arrivals, 
 use Rattle.script_text.specs.Creation.{Step, bad_step, takes_host, with_host, request_in, request_step, kind_step, admitted_step, at_host, opening_by, opened_step, refused_step, manager_step}
 use Rattle.script_text.specs.Lines.{lines_of}
 use Rattle.script_text.specs.Report.{inward_in}
-use Rattle.script_text.specs.Script.{Drive, most_lines, opened, new_manager, over_lines, request_lines, kind_in, first_step, arrival_step, step_by, said, drive_on, drive_of, created_inward, stanzas_in, IsInwardOf, InwardIsLongestRun, bad_at}
+use Rattle.bosh_types.specs.Limits.{most_lines}
+use Rattle.script_text.specs.Script.{Drive, opened, new_manager, over_lines, request_lines, kind_in, first_step, arrival_step, step_by, said, drive_on, drive_of, created_inward, stanzas_in, IsInwardOf, InwardIsLongestRun, bad_at}
 use Rattle.script_text.specs.Stanza.{slices_of}
 use Rattle.script_text.proofs.StepLemmas.{next_drive, drive_by, by_next}
 

@@ -2,14 +2,7 @@
 use Rattle.std.proofs.Common.{◌≡◌, refl}
 use Rattle.std.specs.Prelude.{codes, List, ℕ, ⊤}
 use Rattle.std.specs.Fmt.{digits}
-use Rattle.std.specs.Char.{encode_utf8}
-use Rattle.std.specs.Str.{chars, is_utf8}
-use Rattle.body_cutter.specs.Chars.{is_space, is_plain, is_letter, is_digit, begins_name_plainly, grows_name_plainly, is_allowed, wide_begin, wide_next, is_char_byte, is_name_start, is_name_byte, ends_whole}
-use Rattle.body_cutter.specs.Names.{around, due, has_name, with_name}
-use Rattle.body_cutter.specs.Reader.{place_next, matched, move_of, is_body_tag, with_value, with_element, with_attr_name, with_attr, without_element, with_name_begun, with_name_grown, attr_named, acted, next_move, step, first_state}
-use Rattle.body_cutter.specs.References.{letter, begun_next, letter_a_next, done_if, done_number, decimal_more, hex_more, hex_digit, decimal_next, hex_next, number_next, decimal_or_end, hex_or_end, reference_next}
-use Rattle.body_cutter.specs.Refusal.{reading, is_before_body, is_complete, ends_in_section_start, is_forbidden, stopped_refusal, limit_refusal, ended_refusal, read_answer, text_answer}
-use Rattle.body_cutter.specs.Tables.{start_next, first_next, xml_letter, declaration_word_next, declaration_next, prolog_next, body_letter, name_ended, body_word_next, tag_name_next, tag_space_next, attr_name_next, attr_equals_next, attr_quote_next, value_plain, value_next, after_value_next, tag_slash_next, stanza_start_next, more_brackets, child_content_next, body_content_next, content_next, opened_in_body, opened_in_child, opened_next, section_letter, section_word_next, section_next, end_space_next, end_name_next}
+use Rattle.body_cutter.proofs.Rows.{cuts_compute}
 use Rattle.body_writer.specs.Answer.{answer_text, xmpp_namespace, stream_namespace, kind_text, version_text, terms_text, created_text, ack_text, report_text as report_attribute, restart_text}
 use Rattle.body_writer.specs.Attribute.{attribute, number_attribute, text_attribute, escaped_byte, closed_with, xmpp_version_text}
 use Rattle.session_attrs.specs.Attributes.{is_named, value_of}
@@ -20,15 +13,11 @@ use Rattle.script_text.specs.Creation.{sid_of}
 use Rattle.script_text.specs.Line.{is_host_name, is_later, other_line, line_of}
 use Rattle.script_text.specs.Report.{line_text, ending_text, report_text}
 use Rattle.script_text.specs.Script.{drive_of}
-use Rattle.script_text.specs.Stanza.{is_stanza, parts_of, row_of}
+use Rattle.script_text.specs.Stanza.{row_of}
 
--- what a row unfolds: the reader of bodies, the meaning of attributes, the texts of answers, lines and reports
-unfoldable texts_compute : ⊤
-unfolding chars encode_utf8 is_utf8 is_space is_plain is_letter is_digit begins_name_plainly grows_name_plainly is_allowed wide_begin wide_next is_char_byte is_name_start is_name_byte ends_whole around due has_name with_name place_next matched move_of is_body_tag with_value with_element with_attr_name with_attr without_element with_name_begun with_name_grown attr_named acted next_move step first_state letter begun_next letter_a_next done_if done_number decimal_more hex_more hex_digit decimal_next hex_next number_next decimal_or_end hex_or_end reference_next reading is_before_body is_complete ends_in_section_start is_forbidden stopped_refusal limit_refusal ended_refusal read_answer text_answer start_next first_next xml_letter declaration_word_next declaration_next prolog_next body_letter name_ended body_word_next tag_name_next tag_space_next attr_name_next attr_equals_next attr_quote_next value_plain value_next after_value_next tag_slash_next stanza_start_next more_brackets child_content_next body_content_next content_next opened_in_body opened_in_child opened_next section_letter section_word_next section_next end_space_next end_name_next
-texts_compute = tt
-
+-- what a row unfolds: the reading of bodies, the meaning of attributes, the texts of answers, lines and reports
 unfoldable scripts_compute : ⊤
-unfolding texts_compute digits answer_text xmpp_namespace stream_namespace kind_text version_text terms_text created_text ack_text report_attribute restart_text attribute number_attribute text_attribute escaped_byte closed_with xmpp_version_text is_named value_of is_httpbind number_of pause_of version_of wish_of ack_of terminate_of flag_of rid_in creation_in asked_in request_with request_of terms_of sid_of is_host_name is_later other_line line_of line_text ending_text is_stanza parts_of row_of
+unfolding cuts_compute digits answer_text xmpp_namespace stream_namespace kind_text version_text terms_text created_text ack_text report_attribute restart_text attribute number_attribute text_attribute escaped_byte closed_with xmpp_version_text is_named value_of is_httpbind number_of pause_of version_of wish_of ack_of terminate_of flag_of rid_in creation_in asked_in request_with request_of terms_of sid_of is_host_name is_later other_line line_of line_text ending_text row_of
 scripts_compute = tt
 
 -- the bytes of a script's report

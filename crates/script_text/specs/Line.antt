@@ -3,12 +3,13 @@ use Rattle.std.specs.Prelude.{ℕ, ◌+◌, ◌==◌, ◌&&◌, ◌||◌, nat_le
 use Rattle.std.specs.List.{list_all}
 use Rattle.std.specs.Str.{bytes_eq, is_utf8}
 use Rattle.body_cutter.specs.Chars.{is_allowed}
+use Rattle.body_cutter.specs.Cutting.{is_stanza}
 use Rattle.bosh_types.specs.Rid.{rid_of}
 use Rattle.script_text.specs.declared.line.BadKind.TheVariants.{Grammar, Later}
 use Rattle.script_text.specs.declared.line.ScriptLine.TheVariants.{Open, Short, Host, Post, End}
 use Rattle.script_text.specs.declared.line.LineRead.{LineRead}
 use Rattle.script_text.specs.declared.line.LineRead.TheVariants.{Line, BadLine}
-use Rattle.script_text.specs.Stanza.{is_stanza, row_of}
+use Rattle.script_text.specs.Stanza.{row_of}
 
 -- the first word: what stands before the first space
 abbrev pub word_of : List ℕ → List ℕ

@@ -1,20 +1,14 @@
 -- Stanzas and rows of stanzas, as scripts have them.
-use Rattle.std.specs.Prelude.{ℕ, ◌+◌, ◌==◌, ◌&&◌, nat_le, Bool, List, [], ◌∷◌, ◌++◌, map, length, Option, Some, None, Ok, Err, is_ok, codes, if◌then◌else◌}
-use Rattle.std.specs.Str.{is_utf8}
+use Rattle.std.specs.Prelude.{ℕ, ◌+◌, ◌==◌, ◌&&◌, nat_le, Bool, List, [], ◌∷◌, ◌++◌, map, length, Option, Some, None, codes, if◌then◌else◌}
+use Rattle.std.specs.Result.{result_ok}
 use Rattle.body_cutter.specs.declared.parts.Cut.{Cut}
 use Rattle.body_cutter.specs.declared.parts.Span.{Span}
-use Rattle.body_cutter.specs.declared.place.Place.TheVariants.{Start, StanzaStart}
-use Rattle.body_cutter.specs.declared.place.Kind.TheVariants as kinds
+use Rattle.body_cutter.specs.Cutting.{body_cut_of}
 use Rattle.body_cutter.specs.Pieces.{bytes_at}
-use Rattle.body_cutter.specs.Refusal.{text_answer, unit_answer}
-
--- a stanza by itself
-unfoldable pub is_stanza : List ℕ → Bool
-is_stanza text = is_ok (unit_answer (text_answer kinds.Stanza StanzaStart 1000000 (is_utf8 text) text))
 
 -- the parts of a body, where the text is one
-unfoldable pub parts_of : List ℕ → Option Cut
-parts_of text = elim (text_answer kinds.Body Start 1048576 (is_utf8 text) text) [ Ok cut ↦ Some cut | Err refusal ↦ None ]
+abbrev pub parts_of : List ℕ → Option Cut
+parts_of text = result_ok (body_cut_of text)
 
 -- the bytes of the text at each of these places
 abbrev pub slices_of : List ℕ → List Span → List (List ℕ)

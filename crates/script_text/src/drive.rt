@@ -16,10 +16,9 @@ use crate::report::{ReportLine, print_line};
 use crate::run::{Effect, Manager, Next, Run};
 use bosh_ports::{Sink, Source, give_all};
 use bosh_types::HostNames;
+use bosh_types::limits::MOST_LINES;
 use session_core::Bare;
 use std::alloc::{AllocError, Global};
-
-const MOST_LINES: u64 = 1000000;
 
 /// Runs a script line by line and gives its report, each line as soon as it is known. After an error what was given
 /// stays given.

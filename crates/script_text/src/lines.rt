@@ -4,12 +4,11 @@ ghost use Rattle.script_text.specs.Lines.{ended_line_of, last_line_of};
 
 use bosh_ports::{Got, Source};
 use bosh_types::Text;
+use bosh_types::limits::LONGEST_LINE;
 use std::alloc::{AllocError, Global};
 use std::marker::Model;
 
 const ROOM: usize = 8192;
-
-const LONGEST: usize = 2097152;
 
 // What reading the next line gives.
 #[derive(Debug, Drop)]
@@ -86,7 +85,7 @@ impl LineReader {
         ensures faults { S.faults source.old ≤ S.faults source.new }
     {
         let mut line = Vec::new(alloc);
-        while line.len() <= LONGEST {
+        while line.len() <= LONGEST_LINE {
             if !self.fill(source)? {
                 return Ok(last_line(line));
             }
@@ -152,7 +151,7 @@ fn line_feed(bytes: &[u8]) -> Option<usize>
 fn ended_line(line: Vec<u8>) -> NextLine
     ensures { result ≡ ended_line_of line.items }
 {
-    if line.len() > LONGEST {
+    if line.len() > LONGEST_LINE {
         return NextLine::TooLong;
     }
     NextLine::Line(Text::from_vec(line))

@@ -1,6 +1,7 @@
 // Stanzas and rows of stanzas, as scripts have them.
 ghost use Rattle.std.specs.Prelude.{◌≡◌, slice_range, IfOk};
-ghost use Rattle.script_text.specs.Stanza.{is_stanza, parts_of, is_row, row_of, slices_of, within_body};
+ghost use Rattle.body_cutter.specs.Cutting.{is_stanza};
+ghost use Rattle.script_text.specs.Stanza.{parts_of, is_row, row_of, slices_of, within_body};
 
 use body_cutter::{Cut, CutError, Span, cut, read_stanza};
 use bosh_types::{Stanzas, Text};
@@ -9,7 +10,7 @@ use std::alloc::{AllocError, Global};
 const LONGEST_ROW: usize = 1_000_000;
 
 // Whether the text is a stanza by itself.
-#[tactic(auto, unfolding(crate::specs::Stanza::is_stanza))]
+#[tactic(auto, unfolding(body_cutter::specs::Cutting::is_stanza))]
 pub(crate) fn is_stanza(alloc: Global, text: &[u8]) -> Result<bool, AllocError>
     ensures { IfOk result (λ yes. yes ≡ is_stanza text.now) }
 {
@@ -21,7 +22,6 @@ pub(crate) fn is_stanza(alloc: Global, text: &[u8]) -> Result<bool, AllocError>
 }
 
 // The parts of a body, where the text is one.
-#[tactic(auto, unfolding(crate::specs::Stanza::parts_of))]
 pub(crate) fn parts_of(alloc: Global, text: &[u8]) -> Result<Option<Cut>, AllocError>
     ensures { IfOk result (λ parts. parts ≡ parts_of text.now) }
 {

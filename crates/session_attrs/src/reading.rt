@@ -16,7 +16,7 @@ use std::alloc::{AllocError, Global};
 
 /// Reads a request from the body that was cut from this text.
 pub fn read_request(alloc: Global, cut: &Cut, text: &[u8]) -> Result<Request, RequestError>
-    // The answer is what reading the attributes in their order gives, unless memory runs out.
+    // The answer is the request that the attributes and the children make, or its refusal, unless memory runs out.
     ensures answer { Answers result (request_of (values_of text.now cut.now.attrs) cut.now.children) }
     // What is read is what the attributes and the children mean.
     ensures means { IfOk result (λ request. Means (values_of text.now cut.now.attrs) cut.now.children request) }

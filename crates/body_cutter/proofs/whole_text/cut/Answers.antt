@@ -1,5 +1,5 @@
 use Rattle.std.proofs.Common.{subst}
-use Rattle.body_cutter.specs.Refusal.{Answers}
+use Rattle.body_cutter.specs.Cutting.{Answers}
 use Rattle.body_cutter.specs.BodyText.{IsBodyText, HasBodyParts, IsBody}
 use Rattle.body_cutter.proofs.Bodies.{body_tells, result_cut, result_refused}
 use Rattle.body_cutter.proofs.Readings.{body_answer}

@@ -2,11 +2,13 @@ use Rattle.std.proofs.Common.{sym}
 use Rattle.body_cutter.specs.BodyText.{IsElementText, HasElementParts, IsStanza}
 use Rattle.body_cutter.proofs.Bodies.{stanza_tells, result_cut, result_refused, unit_answers, unit_refused, unit_stanza}
 use Rattle.body_cutter.proofs.Readings.{stanza_answer}
+use Rattle.body_cutter.specs.Cutting.{stanza_read_of}
 use Rattle.body_cutter.specs.Viable.{Anything}
 use Rattle.body_cutter.proofs.CompletionTable.{stanza_row, result_row, unit_row}
 use Rattle.body_cutter.proofs.whole_text.read_stanza.Goals as goal
 
 pub returns-clause-answer : goal.returns-clause-answer
+unfolding stanza_read_of
 returns-clause-answer c =
     rw c.without_parts.ensures (unit_answers c.parts_of-parts.result _ c.parts_of-parts.ensures)
 

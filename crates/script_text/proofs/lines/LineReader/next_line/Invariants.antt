@@ -1,6 +1,6 @@
 use Rattle.std.proofs.Common.{◌≤◌, ◌+◌, ◌-◌, length}
 use Rattle.std.specs.Io.KnownBytes.{prepend_known}
-use Rattle.script_text.specs.Lines.{longest_line}
+use Rattle.bosh_types.specs.Limits.{longest_line}
 use Rattle.script_text.proofs.ReadLemmas.{HasRead}
 use Rattle.script_text.proofs.lines.LineReader.next_line.Given as goal
 
