@@ -2,6 +2,7 @@ ghost use Rattle.std.specs.Prelude.{◌≡◌, IfOk};
 
 use crate::text::Text;
 use std::alloc::{AllocError, Global};
+use std::collections::VecDeque;
 
 /// What a second value can be made of, equal to the first, where there is memory.
 pub trait CopyIn: Drop {
@@ -31,6 +32,17 @@ pub fn copy_items<T: CopyIn>(alloc: Global, items: &[T]) -> Result<Vec<T>, Alloc
     let mut copies = Vec::with_capacity(alloc, items.len())?;
     for item in items {
         copies.push(item.copy_in(alloc)?)?;
+    }
+    Ok(copies)
+}
+
+/// Copies of all items of a queue, in order.
+pub fn copy_queue<T: CopyIn>(alloc: Global, items: &VecDeque<T>) -> Result<VecDeque<T>, AllocError>
+    ensures { IfOk result (λ copies. copies.items ≡ items.now.items) }
+{
+    let mut copies = VecDeque::with_capacity(alloc, items.len())?;
+    for index in 0..items.len() {
+        copies.push_back(items[index].copy_in(alloc)?)?;
     }
     Ok(copies)
 }

@@ -19,7 +19,7 @@ mod terms;
 mod text;
 
 pub use condition::Condition;
-pub use copies::{CopyIn, copy_items};
+pub use copies::{CopyIn, copy_items, copy_queue};
 pub use ending::{Closing, Ending};
 pub use hosts::{HostName, HostNames};
 pub use inward::Inward;
