@@ -9,3 +9,6 @@ pub mod EndingRows
 pub mod FactRows
 pub mod JournalRows
 pub mod SessionRows
+pub mod Fronts
+pub mod InPlace
+pub mod OutTickets

@@ -12,9 +12,11 @@ pub mod Machine
 pub mod Outward
 pub mod Passed
 pub mod Points
+pub mod Queue
 pub mod ReadBack
 pub mod Run
 pub mod Rules
 pub mod State
+pub mod Tickets
 pub mod Time
 pub mod Window

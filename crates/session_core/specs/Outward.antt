@@ -3,12 +3,10 @@ use Rattle.std.specs.Prelude.{ℕ, Bool, true, false, List, [], ◌∷◌, lengt
 use Rattle.bosh_types.specs.declared.ending.Closing.{Closing}
 use Rattle.session_core.specs.declared.outward.Outward.{Outward}
 use Rattle.session_core.specs.declared.outward.Outward.TheVariants.{Stanza, Close}
+pub use Rattle.session_core.specs.declared.outward.Front.{Front}
+pub use Rattle.session_core.specs.declared.outward.Front.TheVariants.{OfStanzas, OfClosing}
 
--- some stanzas in order, or one closing: a closing stands in an answer of its own
-pub data Front : Type 0 where
-  OfStanzas : List Outward → Front
-  OfClosing : ℕ → Closing → Front
-
+-- the items of a front
 abbrev pub items_in : Front → List Outward
 items_in (OfStanzas items) = items
 items_in (OfClosing stream closing) = Close stream closing ∷ []

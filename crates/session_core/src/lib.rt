@@ -5,16 +5,27 @@
 mod arrival;
 mod bare;
 mod copy;
+mod held;
+mod inbox;
 mod laws;
+mod outbox;
 mod outward;
 mod place;
 mod replies;
 mod search;
+mod tickets;
 
 pub use arrival::Arrival;
 pub use bare::{Bare, BareSeen};
 pub use copy::RequestCopy;
+pub use held::{HeldRequest, HeldRequests};
+pub use inbox::Inbox;
 pub use laws::written_requests_read_back;
-pub use outward::Outward;
+pub use outbox::Outbox;
+pub use outward::{Front, Outward};
 pub use place::Place;
 pub use replies::{Arrived, Collected, Taken, Ticked, Waiting};
+pub use tickets::{OpenTicket, Tickets};
+
+#[cfg(test)]
+mod tests;

@@ -1,10 +1,10 @@
-use bosh_types::{Text, Ticket};
+use bosh_types::{SharedText, Ticket};
 
 /// What a session makes of an arriving request.
 #[derive(Debug, Drop)]
 pub enum Arrived {
     /// The body that answers it.
-    Answer(Text),
+    Answer(SharedText),
     /// It waits for its answer, which is collected by this ticket.
     Parked(Ticket),
     /// The session has ended before.
@@ -15,7 +15,7 @@ pub enum Arrived {
 #[derive(Debug, Drop)]
 pub enum Collected {
     /// The body that answers its request. The ticket is used up.
-    Answer(Text),
+    Answer(SharedText),
     /// Its request waits on.
     NotYet,
     /// A later copy of its request took its place. The ticket is used up.

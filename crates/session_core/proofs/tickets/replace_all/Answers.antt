@@ -1,0 +1,11 @@
+use Rattle.std.proofs.Common.{arith, ◌∙◌}
+use Rattle.session_core.specs.Tickets.{replace}
+use Rattle.session_core.proofs.InPlace.{changed_all, changed_step}
+use Rattle.session_core.proofs.tickets.replace_all.Goals as goal
+
+pub loop-index-preserved : goal.loop-index-preserved
+loop-index-preserved c =
+    changed_step (replace c.args.rid) c.loop-index.index c.args.out.now c.loop-index.out c.index-out-index.result c.replace_one.new.ticket c.loop-index.invariant c.loop-index-test.true c.replace_one.ensures
+
+pub returns : goal.returns
+returns c = c.loop-index.invariant ∙ changed_all (replace c.args.rid) c.loop-index.index c.args.out.now c.loop-index-test.false

@@ -1,0 +1,113 @@
+ghost use Rattle.std.specs.Prelude.{◌≡◌, IfOk, OnOk, OnErr, [], ◌∷◌, ◌++◌, drop, length, slice_get};
+ghost use Rattle.std.specs.List.{list_any};
+ghost use Rattle.pause_rules.specs.Due.{is_wait_due};
+
+use bosh_types::{CopyIn, Moment, Rid, copy_queue};
+use pause_rules::Deadlines;
+use std::alloc::{AllocError, Global};
+use std::collections::VecDeque;
+use std::marker::Model;
+
+/// A request that waits for its answer, as far as that depends on it.
+#[derive(Clone, Copy, Debug, PartialEq, Eq)]
+pub struct HeldRequest {
+    pub rid: Rid,
+    /// When it arrived.
+    pub arrived: Moment,
+    /// Whether it asks for a pause (XEP-0124, section 10).
+    pub pause: bool,
+}
+
+impl CopyIn for HeldRequest {
+    fn copy_in(&self, _alloc: Global) -> Result<Self, AllocError> {
+        Ok(HeldRequest {
+            rid: self.rid,
+            arrived: self.arrived,
+            pause: self.pause,
+        })
+    }
+}
+
+/// The requests that are held, the oldest first.
+#[derive(Debug, Drop)]
+pub struct HeldRequests {
+    requests: VecDeque<HeldRequest>,
+}
+
+impl Model for HeldRequests {
+    ghost use Rattle.std.specs.Prelude.{List};
+    ghost use Rattle.session_core.specs.declared.held.HeldRequest.{HeldRequest};
+
+    ghost Value = { List HeldRequest };
+
+    ghost view = { λ h. h.requests.items };
+}
+
+impl HeldRequests {
+    /// None is held. It takes no memory.
+    pub fn new(alloc: Global) -> Self
+        ensures { result ≡ [] }
+    {
+        HeldRequests {
+            requests: VecDeque::new(alloc),
+        }
+    }
+
+    pub fn len(&self) -> usize
+        ensures { result ≡ length self.now }
+    {
+        self.requests.len()
+    }
+
+    /// The oldest one, if any is held.
+    pub fn oldest(&self) -> Option<HeldRequest>
+        ensures { result ≡ slice_get self.now 0 }
+    {
+        match self.requests.front() {
+            Some(request) => Some(*request),
+            None => None,
+        }
+    }
+
+    /// Whether one of them has waited its time.
+    pub fn any_wait_due(&self, deadlines: &Deadlines, now: Moment) -> bool
+        ensures { result ≡ list_any (λ held. is_wait_due deadlines.now.terms held.arrived now) self.now }
+    {
+        self.requests
+            .iter()
+            .any(|request| deadlines.wait_due(request.arrived, now))
+    }
+
+    /// Whether one of them is a pause.
+    pub fn any_pause(&self) -> bool
+        ensures { result ≡ list_any (λ held. held.pause) self.now }
+    {
+        self.requests.iter().any(|request| request.pause)
+    }
+
+    /// It is held, as the youngest.
+    pub fn push(&mut self, request: HeldRequest) -> Result<(), AllocError>
+        ensures after { OnOk result (self.new ≡ self.old ++ request ∷ []) }
+        ensures err { OnErr result (self.new ≡ self.old) }
+    {
+        self.requests.push_back(request)?;
+        Ok(())
+    }
+
+    /// The oldest one is held no longer. It takes no memory.
+    pub fn take_oldest(&mut self) -> Option<HeldRequest>
+        ensures oldest { result ≡ slice_get self.old 0 }
+        ensures after { self.new ≡ drop 1 self.old }
+    {
+        self.requests.pop_front()
+    }
+
+    /// The same requests a second time.
+    pub fn copied(&self, alloc: Global) -> Result<Self, AllocError>
+        ensures { IfOk result (λ copy. copy ≡ self.now) }
+    {
+        Ok(HeldRequests {
+            requests: copy_queue(alloc, &self.requests)?,
+        })
+    }
+}
