@@ -12,3 +12,4 @@ pub mod SessionRows
 pub mod Fronts
 pub mod InPlace
 pub mod OutTickets
+pub mod AreOut

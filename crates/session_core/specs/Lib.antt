@@ -18,5 +18,6 @@ pub mod Run
 pub mod Rules
 pub mod State
 pub mod Tickets
+pub mod TicketsOut
 pub mod Time
 pub mod Window

@@ -20,11 +20,7 @@ pub struct HeldRequest {
 
 impl CopyIn for HeldRequest {
     fn copy_in(&self, _alloc: Global) -> Result<Self, AllocError> {
-        Ok(HeldRequest {
-            rid: self.rid,
-            arrived: self.arrived,
-            pause: self.pause,
-        })
+        Ok(*self)
     }
 }
 
