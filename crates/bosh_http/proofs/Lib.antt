@@ -8,4 +8,5 @@ pub mod TakenLemmas
 pub mod TargetLemmas
 pub mod TextLemmas
 pub mod UniqueLemmas
+pub mod ResponseUniqueLemmas
 pub mod WordLemmas
