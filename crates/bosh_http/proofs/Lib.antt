@@ -10,3 +10,5 @@ pub mod TextLemmas
 pub mod UniqueLemmas
 pub mod ResponseUniqueLemmas
 pub mod WordLemmas
+pub mod ScanLemmas
+pub mod HeadEndLemmas

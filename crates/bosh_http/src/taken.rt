@@ -83,6 +83,7 @@ impl Taken {
         ensures none { result ≡ Ok Filled.End → self.new ≡ self.old }
         ensures end { result ≡ Ok Filled.End → IsAtEnd (L.left link.old) }
         ensures same { result ≡ Ok Filled.End → Keeps (L.left link.old) (L.left link.new) }
+        ensures unchanged { result ≡ Ok Filled.Failed → self.new ≡ self.old }
         ensures given { Keeps (L.given link.old) (L.given link.new) }
         ensures failed { result ≡ Ok Filled.Failed → HasRisen (L.faults link.old) (L.faults link.new) }
         ensures faults { L.faults link.old ≤ L.faults link.new }
