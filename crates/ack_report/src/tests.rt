@@ -2,7 +2,7 @@ ghost use Rattle.std.specs.Prelude.{◌≡◌};
 ghost use Rattle.bosh_types.specs.Rid.{IsRid};
 
 use crate::Acks;
-use bosh_types::{Moment, Rid, Text};
+use bosh_types::{Moment, Rid, SharedText, Text};
 use reply_keep::{Keep, KeptAnswer};
 use std::alloc::{AllocError, Global};
 use std::process::Abort;
@@ -22,7 +22,7 @@ fn rid(rt: &impl Abort, value: u64) -> Rid
 // An answer without payloads.
 fn answer(alloc: Global, given: u64) -> Result<KeptAnswer, AllocError> {
     Ok(KeptAnswer {
-        bytes: Text::from_vec(Vec::from_slice(alloc, b"<body/>")?),
+        bytes: SharedText::new(alloc, Text::from_vec(Vec::from_slice(alloc, b"<body/>")?))?,
         given: Moment::from_millis(given),
         payloads: 0,
     })

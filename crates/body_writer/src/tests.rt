@@ -183,7 +183,7 @@ fn writes_creations(rt: HostRuntime) -> Result<(), Fail> {
         )?
     );
     parts.ack = Some(1);
-    parts.newkey = Some(Key::new([b'0'; 40]));
+    parts.newkey = Key::read(&[b'0'; 40]);
     assert!(rt;
         is_request(
             alloc,
@@ -210,8 +210,8 @@ fn writes_later_requests(rt: HostRuntime) -> Result<(), Fail> {
     let mut parts = request(alloc, rid(&rt, 1002), &[])?;
     parts.sid = Some(text(alloc, b"s1")?);
     parts.ack = Some(1000);
-    parts.key = Some(Key::new([b'a'; 40]));
-    parts.newkey = Some(Key::new([b'b'; 40]));
+    parts.key = Key::read(&[b'a'; 40]);
+    parts.newkey = Key::read(&[b'b'; 40]);
     parts.pause = Some(120);
     parts.terminate = true;
     parts.restart = true;

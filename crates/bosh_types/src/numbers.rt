@@ -1,5 +1,8 @@
-ghost use Rattle.std.specs.Prelude.{◌≡◌, ℕ, ◌+◌, ◌*◌, ◌^◌, ◌<◌};
+ghost use Rattle.std.specs.Prelude.{◌≡◌, ℕ, ◌+◌, ◌*◌, ◌<◌};
+ghost use Rattle.std.specs.Option.{SomeIff};
+ghost use Rattle.bosh_types.specs.Limits.{most_streams};
 
+use crate::limits::MOST_STREAMS;
 use std::marker::Model;
 
 /// A point in time, in milliseconds.
@@ -30,7 +33,7 @@ impl Moment {
     }
 }
 
-/// The number of a stream within its session; the unnamed one is 0.
+/// The number of a stream within its session, below 8; the unnamed one is 0.
 #[derive(Clone, Copy, Debug, PartialEq, Eq, PartialOrd, Ord)]
 pub struct StreamNo {
     number: u16,
@@ -41,18 +44,32 @@ impl Model for StreamNo {
 
     ghost view = { λ s. s.number };
 
+    ghost invariant = { λ s. s.number < most_streams };
+
     ghost inverse = { λ n. record { number = n } };
 }
 
 impl StreamNo {
-    pub fn new(number: u16) -> Self
-        ensures { result ≡ number }
+    /// `None` exactly at 8 and above.
+    pub fn new(number: u16) -> Option<StreamNo>
+        ensures { SomeIff result (number < most_streams) number }
     {
-        StreamNo { number }
+        if number >= MOST_STREAMS {
+            return None;
+        }
+        Some(StreamNo { number })
+    }
+
+    /// The number of the stream that has no name.
+    pub fn unnamed() -> Self
+        ensures { result ≡ 0 }
+    {
+        StreamNo { number: 0 }
     }
 
     pub fn number(self) -> u16
-        ensures { result ≡ self }
+        ensures value { result ≡ self }
+        ensures in_range { self < most_streams }
     {
         self.number
     }
@@ -103,10 +120,9 @@ impl Model for Wire {
 impl Wire {
     /// The wire of a stream in the session with this opening number.
     pub fn new(opening: u32, stream: StreamNo) -> Self
-        requires { stream < 8 }
-        ensures { result ≡ opening * 8 + stream }
+        ensures { result ≡ opening * most_streams + stream }
     {
-        let number = u64::from(opening) * 8 + u64::from(stream.number());
+        let number = u64::from(opening) * u64::from(MOST_STREAMS) + u64::from(stream.number());
         Wire { number }
     }
 

@@ -1,8 +1,10 @@
-ghost use Rattle.std.specs.Prelude.{◌≡◌, ◌↔◌, IsTrue};
+ghost use Rattle.std.specs.Prelude.{◌≡◌, ◌↔◌, IfOk, IsTrue};
+ghost use Rattle.std.specs.Option.{option_copied};
 ghost use Rattle.key_sequence.specs.Current.{fits, current_after};
 
 use crate::digest::digest_of;
-use bosh_types::Text;
+use bosh_types::{CopyIn, Text};
+use std::alloc::{AllocError, Global};
 use std::marker::Model;
 
 /// What a key is found to be.
@@ -37,22 +39,41 @@ impl KeyCheck {
         KeyCheck { current: newkey }
     }
 
+    /// Whether a request may carry this `key`. It takes no memory.
+    pub fn fits(&self, key: Option<&Text>) -> bool
+        ensures { result ≡ fits self.now (option_copied key.entry) }
+    {
+        let Some(current) = &self.current else {
+            return true;
+        };
+        let Some(key) = key else {
+            return false;
+        };
+        digest_of(key.as_slice()).as_slice() == current.as_slice()
+    }
+
     /// Checks the `key` of a request, and goes on from its `newkey`, or else from its `key`. It takes no memory.
     pub fn accept(&mut self, key: Option<Text>, newkey: Option<Text>) -> Verdict
         ensures verdict { (result ≡ Verdict.Good) ↔ IsTrue (fits self.old key) }
         ensures good { result ≡ Verdict.Good → self.new ≡ current_after self.old key newkey }
         ensures wrong { result ≡ Verdict.Wrong → self.new ≡ self.old }
     {
-        let Some(current) = &self.current else {
-            return Verdict::Good;
-        };
-        let Some(key) = key else {
-            return Verdict::Wrong;
-        };
-        if digest_of(key.as_slice()).as_slice() != current.as_slice() {
+        if !self.fits(key.as_ref()) {
             return Verdict::Wrong;
         }
-        self.current = Some(newkey.unwrap_or(key));
+        if self.current.is_none() {
+            return Verdict::Good;
+        }
+        self.current = newkey.or(key);
         Verdict::Good
+    }
+
+    /// A second check that goes on from the same key.
+    pub fn copied(&self, alloc: Global) -> Result<Self, AllocError>
+        ensures { IfOk result (λ check. check ≡ self.now) }
+    {
+        Ok(KeyCheck {
+            current: self.current.copy_in(alloc)?,
+        })
     }
 }

@@ -59,8 +59,10 @@ fn checks_the_keys_of_a_maker(rt: HostRuntime) -> Result<(), Fail> {
     let newkey = text(rt.alloc(), maker.newkey().as_slice())?;
     let mut check = KeyCheck::start(Some(newkey));
     let wrong = text(rt.alloc(), b"abc")?;
+    assert_eq!(rt; (check.fits(Some(&wrong)), check.fits(None)), (false, false));
     assert_eq!(rt; check.accept(Some(wrong), None), Verdict::Wrong);
     assert_eq!(rt; check.accept(None, None), Verdict::Wrong);
+    check = check.copied(rt.alloc())?;
     let mut sent = 0u32;
     for _ in 0..4095 {
         if let Some(key) = maker.next_key() {

@@ -1,10 +1,13 @@
 -- The places of a keep against the list of all that was put.
-use Rattle.std.proofs.Common.{◌≡◌, ◌≢◌, ℕ, suc, zero, ◌+◌, ◌-◌, ◌<◌, ◌≤◌, ◌⊎◌, inl, inr, ◌&&◌, cond, nat_lt, min, max, List, [], ◌∷◌, ◌++◌, Option, Some, None, length, set, get_or, refl, sym, ◌∙◌, ap, subst, arith, get_or-set_same, get_or-set_other, length-set}
+use Rattle.std.proofs.Common.{◌≡◌, ◌≢◌, ℕ, suc, zero, ◌+◌, ◌-◌, ◌<◌, ◌≤◌, ◌⊎◌, inl, inr, ◌&&◌, cond, nat_lt, min, max, List, [], ◌∷◌, ◌++◌, Option, Some, None, IsSome, length, set, get_or, refl, sym, ◌∙◌, ap, subst, arith, get_or-set_same, get_or-set_other, length-set}
 use Rattle.std.proofs.lemmas.Bool.{cases_lt}
+use Rattle.std.specs.Option.{SomeIff}
 use Rattle.bosh_types.specs.ById.{at_id}
+use Rattle.bosh_types.specs.Rid.{IsRid, greatest_rid}
 use Rattle.bosh_types.specs.declared.kept.KeptAnswer.{KeptAnswer}
 use Rattle.bosh_types.proofs.ById.{at_id-push_same, at_id-push_other}
-use Rattle.reply_keep.specs.PlainKeep.{PlainKeep, after_ack, after_put, falls_out, kept_at, last_id, new_keep}
+use Rattle.reply_keep.specs.Filled.{IsLastFilled}
+use Rattle.reply_keep.specs.PlainKeep.{PlainKeep, IsLowestKept, after_ack, after_put, falls_out, kept_at, last_id, new_keep}
 use Rattle.reply_keep.specs.StandsFor.{Holds}
 use Rattle.reply_keep.proofs.Kept.{kept_above, kept_absent, kept_in, kept_low, kept_old, last_after-push, none_either_way}
 use Rattle.reply_keep.proofs.Turned.{length-turned, turned, turned_first, turned_later, turned_past}
@@ -19,13 +22,17 @@ Holds-new places size room empty = record {
   each = λ below. empty below ∙ sym (none_either_way _);
 }
 
+is_none : {T : Type 0} {o : Option T} → o ≡ None → IsSome o → ⊥
+is_none none some = absurd (cc)
+
+-- an id whose answer is kept is at least 1
+kept_id : (plain : PlainKeep) (rid : ℕ) → IsSome (kept_at plain rid) → 1 ≤ rid
+kept_id plain zero kept = absurd (is_none (kept_low plain.acknowledged (last_id plain.put) plain.size 0 (at_id plain.put 0) (omega arith)) kept)
+kept_id plain (suc rid) kept = omega arith
+
 later_id : (last rid : ℕ) → 1 ≤ rid → (last ≡ 0) ⊎ (rid ≡ last + 1) → last < rid
 later_id last rid some (inl zero_is) = omega arith
 later_id last rid some (inr next) = omega arith
-
--- two plain keeps that one keep stands for have the same last id
-pub next_here : {last : Option ℕ} {places : List (Option KeptAnswer)} {plain other : PlainKeep} (rid : ℕ) → Holds last places other → Holds last places plain → (last_id other.put ≡ 0) ⊎ (rid ≡ last_id other.put + 1) → (last_id plain.put ≡ 0) ⊎ (rid ≡ last_id plain.put + 1)
-next_here rid there here next = subst (λ n. (n ≡ 0) ⊎ (rid ≡ n + 1)) (sym there.last_is ∙ here.last_is) next
 
 module _ {last : Option ℕ} {places : List (Option KeptAnswer)} {plain : PlainKeep} where
   -- nothing is kept of a later id
@@ -44,6 +51,40 @@ module _ {last : Option ℕ} {places : List (Option KeptAnswer)} {plain : PlainK
   kept_place rid s within =
       let here : last_id plain.put - (last_id plain.put - rid) ≡ rid = omega arith in
       s.each (last_id plain.put - rid) ∙ ap (kept_at plain) here
+
+  -- nothing is kept where all places are empty
+  none_kept_at : (rid : ℕ) → Holds last places plain → ((k : ℕ) → get_or places k None ≡ None) → kept_at plain rid ≡ None
+  none_kept_at rid s empty = elim (cases_lt (last_id plain.put) rid) [
+    | inl later ↦ none_kept rid s later
+    | inr within ↦ sym (kept_place rid s within) ∙ empty (last_id plain.put - rid)
+  ]
+
+  -- the least id whose answer is kept has the last place that isn't empty
+  pub lowest_none : Holds last places plain → last_id plain.put ≡ 0 → IsLowestKept plain None
+  lowest_none s none = λ rid. none_put rid s none
+
+  pub lowest_empty : Holds last places plain → ((k : ℕ) → get_or places k None ≡ None) → IsLowestKept plain None
+  lowest_empty s empty = λ rid. none_kept_at rid s empty
+
+  lowest_at : (at : ℕ) → Holds last places plain → IsLastFilled places (Some at) → IsSome (kept_at plain (last_id plain.put - at))
+  lowest_at at s filled = subst (λ o. IsSome o) (s.each at) filled.0
+
+  pub lowest_within : (at : ℕ) → Holds last places plain → IsLastFilled places (Some at) → at < last_id plain.put
+  lowest_within at s filled = omega (arith, kept_id plain (last_id plain.put - at) (lowest_at at s filled))
+
+  pub lowest_is : (at : ℕ) → Holds last places plain → IsLastFilled places (Some at) → IsLowestKept plain (Some (last_id plain.put - at))
+  lowest_is at s filled = (
+    lowest_at at s filled,
+    λ lower below.
+        let within : lower ≤ last_id plain.put = omega arith in
+        sym (kept_place lower s within) ∙ filled.1 (last_id plain.put - lower) (omega (arith, lowest_within at s filled)),
+  )
+
+  pub lowest_made : (at : ℕ) (made : Option ℕ) → Holds last places plain → IsLastFilled places (Some at) → last_id plain.put ≤ greatest_rid → SomeIff made (IsRid (last_id plain.put - at)) (last_id plain.put - at) → IsLowestKept plain made
+  lowest_made at None s filled small none =
+      let within : at < last_id plain.put = lowest_within at s filled in
+      absurd (none (omega arith, omega arith))
+  lowest_made at (Some rid) s filled small some = subst (λ n. IsLowestKept plain (Some n)) (sym some.1) (lowest_is at s filled)
 
   -- the answer that has no room any more
   pub oldest : (rid : ℕ) → Holds last places plain → 0 < length places → (last_id plain.put ≡ 0) ⊎ (rid ≡ last_id plain.put + 1) → get_or (turned places) 0 None ≡ falls_out plain rid

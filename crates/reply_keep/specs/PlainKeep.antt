@@ -1,5 +1,5 @@
 -- The plain keep: every answer that was ever put, and which of them are kept, XEP-0124 sections 9.2 and 14.3.
-use Rattle.std.specs.Prelude.{◌≡◌, ℕ, ◌+◌, ◌-◌, ◌&&◌, nat_lt, min, max, if◌then◌else◌, List, [], ◌∷◌, ◌++◌, Option, None, ⊤}
+use Rattle.std.specs.Prelude.{◌≡◌, ℕ, ◌+◌, ◌-◌, ◌&&◌, nat_lt, min, max, if◌then◌else◌, List, [], ◌∷◌, ◌++◌, Option, Some, None, IsSome, ◌<◌, ⊤}
 use Rattle.bosh_types.specs.ById.{at_id}
 use Rattle.bosh_types.specs.declared.kept.KeptAnswer.{KeptAnswer}
 
@@ -32,6 +32,12 @@ IsNextId (pair ∷ pairs) rid = rid ≡ last_id (pair ∷ pairs) + 1
 abbrev pub kept_at : PlainKeep → ℕ → Option KeptAnswer
 kept_at plain rid =
     if nat_lt plain.acknowledged rid && nat_lt (last_id plain.put) (rid + plain.size) then at_id plain.put rid else None
+
+-- the least id whose answer is kept, and none exactly where no answer is
+abbrev pub IsLowestKept : PlainKeep → Option ℕ → Type 0
+IsLowestKept plain None = (rid : ℕ) → kept_at plain rid ≡ None
+IsLowestKept plain (Some rid) =
+    IsSome (kept_at plain rid) × ((lower : ℕ) → lower < rid → kept_at plain lower ≡ None)
 
 -- what is kept no longer once this id is put
 abbrev pub falls_out : PlainKeep → ℕ → Option KeptAnswer

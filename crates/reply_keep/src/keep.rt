@@ -1,7 +1,8 @@
 ghost use Rattle.std.specs.Prelude.{◌≡◌, ℕ, ◌<◌, ◌≤◌, IfOk, slice_index_or, vec_len};
 ghost use Rattle.std.specs.Option.{option_copied};
+ghost use Rattle.reply_keep.specs.Filled.{IsLastFilled};
 
-use bosh_types::{KeptAnswer, Rid};
+use bosh_types::{KeptAnswer, Rid, copy_items};
 use std::alloc::{AllocError, Global};
 
 /// The answers of the last `size` request ids, less those that were acknowledged.
@@ -15,7 +16,7 @@ pub struct Keep {
 }
 
 impl Keep {
-    ghost use Rattle.reply_keep.specs.PlainKeep.{PlainKeep, new_keep, IsNextId, kept_at, falls_out, after_put, after_ack};
+    ghost use Rattle.reply_keep.specs.PlainKeep.{PlainKeep, new_keep, IsNextId, IsLowestKept, kept_at, falls_out, after_put, after_ack};
     ghost use Rattle.reply_keep.specs.StandsFor.{StandsFor};
 
     /// Keeps nothing yet, and has room for `size` answers.
@@ -35,11 +36,11 @@ impl Keep {
         })
     }
 
-    /// Keeps the answer of the id after the last one. The answer that has no room any more is handed back.
+    /// Keeps the answer of an id, which is the one after the last. The answer that has no room any more is handed back.
     pub fn put(&mut self, rid: Rid, answer: KeptAnswer) -> Option<KeptAnswer>
-        requires { (plain : PlainKeep) × StandsFor self.old plain × IsNextId plain.put rid }
-        ensures handed_back { (plain : PlainKeep) → StandsFor self.old plain → result ≡ falls_out plain rid }
-        ensures after { (plain : PlainKeep) → StandsFor self.old plain
+        ensures handed_back { (plain : PlainKeep) → StandsFor self.old plain → IsNextId plain.put rid
+            → result ≡ falls_out plain rid }
+        ensures after { (plain : PlainKeep) → StandsFor self.old plain → IsNextId plain.put rid
             → StandsFor self.new (after_put plain rid answer) }
     {
         // The proof learns here that an id is at least 1.
@@ -58,6 +59,25 @@ impl Keep {
         let last = self.last?;
         let below = last.value().checked_sub(rid.value())?;
         answer_at(&self.answers, below as usize)
+    }
+
+    /// The least id whose answer is kept: `None` exactly where none is.
+    pub fn lowest(&self) -> Option<Rid>
+        ensures { (plain : PlainKeep) → StandsFor self.now plain → IsLowestKept plain result }
+    {
+        let last = self.last?;
+        let below = last_filled(&self.answers)?;
+        Rid::new(last.value().checked_sub(below as u64)?)
+    }
+
+    /// A second keep of the same answers, which stands for all that this one stands for.
+    pub fn copied(&self, alloc: Global) -> Result<Self, AllocError>
+        ensures { (plain : PlainKeep) → StandsFor self.now plain → IfOk result (λ keep. StandsFor keep plain) }
+    {
+        Ok(Keep {
+            last: self.last,
+            answers: copy_items(alloc, &self.answers)?,
+        })
     }
 
     /// Keeps the answers up to this id no longer: the client has them (XEP-0124, section 9.2).
@@ -81,6 +101,18 @@ fn answer_at(places: &[Option<KeptAnswer>], place: usize) -> Option<&KeptAnswer>
         Some(answer) => answer.as_ref(),
         None => None,
     }
+}
+
+// The last place that has an answer.
+fn last_filled(places: &[Option<KeptAnswer>]) -> Option<usize>
+    ensures { IsLastFilled places.now result }
+{
+    for place in (0..places.len()).rev() {
+        if places[place].is_some() {
+            return Some(place);
+        }
+    }
+    None
 }
 
 // Empties the places from this one on.

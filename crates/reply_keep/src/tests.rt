@@ -2,7 +2,7 @@ ghost use Rattle.std.specs.Prelude.{◌≡◌, ◌≤◌};
 ghost use Rattle.bosh_types.specs.Rid.{IsRid};
 
 use crate::{Keep, KeptAnswer};
-use bosh_types::{Moment, Rid, Text};
+use bosh_types::{Moment, Rid, SharedText, Text};
 use std::alloc::{AllocError, Global};
 use std::process::Abort;
 use std::test::Fail;
@@ -28,7 +28,7 @@ fn rid(rt: &impl Abort, value: u64) -> Rid
 // An answer that is told by its moment.
 fn answer(alloc: Global, given: u64) -> Result<KeptAnswer, AllocError> {
     Ok(KeptAnswer {
-        bytes: Text::from_vec(Vec::from_slice(alloc, b"<body/>")?),
+        bytes: SharedText::new(alloc, Text::from_vec(Vec::from_slice(alloc, b"<body/>")?))?,
         given: Moment::from_millis(given),
         payloads: 0,
     })
@@ -37,6 +37,13 @@ fn answer(alloc: Global, given: u64) -> Result<KeptAnswer, AllocError> {
 fn told(answer: Option<&KeptAnswer>) -> Option<u64> {
     match answer {
         Some(kept) => Some(kept.given.millis()),
+        None => None,
+    }
+}
+
+fn lowest(keep: &Keep) -> Option<u64> {
+    match keep.lowest() {
+        Some(rid) => Some(rid.value()),
         None => None,
     }
 }
@@ -132,6 +139,31 @@ fn drops_what_is_acknowledged(rt: HostRuntime) -> Result<(), Fail> {
         assert_eq!(rt; out, fallen, "row {row}");
         assert_eq!(rt; told(keep.find(rid(&rt, 2))), kept[0], "row {row}");
         assert_eq!(rt; told(keep.find(rid(&rt, 3))), kept[1], "row {row}");
+    }
+    Ok(())
+}
+
+#[test]
+fn tells_the_lowest_kept_id(rt: HostRuntime) -> Result<(), Fail> {
+    let none = [Step::Ack(9)];
+    let one = [Step::Put];
+    let fallen = [Step::Put, Step::Put, Step::Put];
+    let acknowledged = [Step::Put, Step::Put, Step::Put, Step::Ack(8)];
+    let all = [Step::Put, Step::Put, Step::Ack(9)];
+    let after_all = [Step::Put, Step::Put, Step::Ack(9), Step::Put];
+    // of a keep of two answers, the first of which is that of 7
+    let rows = [
+        (none.as_slice(), None),
+        (&one, Some(7)),
+        (&fallen, Some(8)),
+        (&acknowledged, Some(9)),
+        (&all, None),
+        (&after_all, Some(9)),
+    ];
+    for (row, (steps, want)) in rows.into_iter().enumerate() {
+        let (keep, _) = after(&rt, rt.alloc(), 2, 7, steps)?;
+        assert_eq!(rt; lowest(&keep), want, "row {row}");
+        assert_eq!(rt; lowest(&keep.copied(rt.alloc())?), want, "row {row}");
     }
     Ok(())
 }

@@ -1,5 +1,6 @@
 -- The places of a window against the list of all that was placed.
-use Rattle.std.proofs.Common.{◌≡◌, ◌≢◌, ℕ, suc, ◌+◌, ◌<◌, ◌≤◌, Bool, true, false, inl, inr, List, [], ◌∷◌, ◌++◌, Option, Some, None, is_some, length, set, drop, take, get_or, refl, sym, ◌∙◌, ap, subst, arith, get_or-set_same, get_or-set_other, length-append, length-set}
+use Rattle.std.proofs.Common.{◌≡◌, ◌≢◌, ℕ, zero, suc, ◌+◌, ◌-◌, ◌<◌, ◌≤◌, Bool, true, false, inl, inr, List, [], ◌∷◌, ◌++◌, Option, Some, None, is_some, is_none, length, set, drop, take, get_or, refl, sym, ◌∙◌, ap, subst, arith, IsTrue, ◌↔◌, ◌&&◌, get_or-set_same, get_or-set_other, length-append, length-set}
+use Rattle.std.specs.List.{list_all}
 use Rattle.std.specs.Option.{SomeIff}
 use Rattle.std.proofs.lemmas.Bool.{cases_eq}
 use Rattle.std.proofs.lemmas.Bool.Decides.{nat_tests}
@@ -7,12 +8,26 @@ use Rattle.bosh_types.specs.ById.{at_id}
 use Rattle.bosh_types.specs.Rid.{greatest_rid}
 use Rattle.bosh_types.proofs.Places.{get_or-push_none}
 use Rattle.bosh_types.proofs.ById.{at_id-push_same, at_id-push_other}
-use Rattle.rid_window.specs.PlainWindow.{PlainWindow, IsAbove, IsBelow, IsOpen, IsWithin, after_ready, id_after, next_after, reach, ready, ready_at, with_item}
+use Rattle.rid_window.specs.PlainWindow.{PlainWindow, IsAbove, IsBelow, IsClear, IsOpen, IsWithin, after_ready, first_item, id_after, item_at, next_after, reach, ready, ready_at, with_item}
 use Rattle.rid_window.specs.StandsFor.{Holds}
 
 none_of : {T : Type 0} (o : Option T) → is_some o ≡ false → o ≡ None
 none_of None e = refl
 none_of (Some x) e = absurd (cc)
+
+-- all places are empty exactly where each is
+each_empty : {T : Type 0} (places : List (Option T)) (k : ℕ) → list_all is_none places ≡ true → get_or places k None ≡ None
+each_empty [] k empty = refl
+each_empty (Some x ∷ places) k empty = absurd (cc)
+each_empty (None ∷ places) zero empty = refl
+each_empty (None ∷ places) (suc k) empty = each_empty places k empty
+
+all_empty : {T : Type 0} (places : List (Option T)) → ((k : ℕ) → get_or places k None ≡ None) → list_all is_none places ≡ true
+all_empty [] each = refl
+all_empty (Some x ∷ places) each =
+    let first : Some x ≡ None = each 0 in
+    absurd (cc)
+all_empty (None ∷ places) each = all_empty places (λ k. each (suc k))
 
 -- what `next` of an id is
 pub id_after_is : (o : Option ℕ) (rid : ℕ) → SomeIff o (rid < greatest_rid) (rid + 1) → o ≡ id_after rid
@@ -119,3 +134,41 @@ module _ {T : Type 0} {next : Option ℕ} {places : List (Option T)} {plain : Pl
         let there : n + k ≡ first + suc k = omega arith in
         ap (at_id plain.placed) there ∙ s.each first (suc k) is ∙ sym (get_or-moved_up places k some);
   }
+
+  -- the item of the first place, and none where no id is left
+  first_at : (first : ℕ) → Holds next places plain → next ≡ Some first → get_or places 0 None ≡ first_item plain
+  first_at first s is = sym (first_place first s is) ∙ ap (λ o. item_at o plain.placed) (sym is ∙ s.next_is)
+
+  pub first_none : Holds next places plain → next ≡ None → None ≡ first_item plain
+  first_none s is = ap (λ o. item_at o plain.placed) (sym is ∙ s.next_is)
+
+  clear_at : (first : ℕ) → Holds next places plain → next ≡ Some first → IsTrue (list_all is_none places) ↔ IsClear plain
+  clear_at first s is = (
+    λ empty rid open_.
+        let from : first ≤ rid = subst (λ o. IsOpen o rid) (sym s.next_is ∙ is) open_ in
+        at_place first (rid - first) rid s is (omega arith) ∙ each_empty places (rid - first) empty,
+    λ clear. all_empty places
+        (λ k.
+        let from : first ≤ first + k = omega arith in
+        sym (s.each first k is) ∙ clear (first + k) (subst (λ o. IsOpen o (first + k)) (sym is ∙ s.next_is) from)),
+  )
+
+  -- nothing stands where no id is left
+  pub clear_past : Holds next places plain → next ≡ None → IsClear plain
+  clear_past s is = λ rid open_. absurd (subst (λ o. IsOpen o rid) (sym s.next_is ∙ is) open_)
+
+some_left : (next : Option ℕ) → is_some next ≡ true → (first : ℕ) × (next ≡ Some first)
+some_left None e = absurd (cc)
+some_left (Some first) e = (first, refl)
+
+pub no_left : (next : Option ℕ) → is_some next ≡ false → next ≡ None
+no_left None e = refl
+no_left (Some first) e = absurd (cc)
+
+module _ {T : Type 0} {next : Option ℕ} {places : List (Option T)} {plain : PlainWindow T} where
+  pub first_is : is_some next ≡ true → Holds next places plain → get_or places 0 None ≡ first_item plain
+  first_is left s = let first = some_left next left in first_at first.0 s first.1
+
+  -- where an id is left, the places are empty exactly where nothing stands
+  pub clear_is : is_some next ≡ true → Holds next places plain → IsTrue (list_all is_none places) ↔ IsClear plain
+  clear_is left s = let first = some_left next left in clear_at first.0 s first.1

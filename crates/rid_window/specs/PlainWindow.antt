@@ -1,4 +1,4 @@
--- The plain window: everything that was placed in it, and how far it was taken, XEP-0124 sections 14.1 and 14.2.
+-- The plain window: everything that was placed in it, and how far it was taken, XEP-0124 section 14.2.
 use Rattle.std.specs.Prelude.{◌≡◌, ℕ, ◌+◌, ◌<◌, ◌≤◌, nat_lt, Bool, if◌then◌else◌, List, [], ◌∷◌, ◌++◌, Option, Some, None, IsSome, ⊤}
 use Rattle.bosh_types.specs.ById.{at_id}
 use Rattle.bosh_types.specs.Rid.{greatest_rid}
@@ -71,6 +71,18 @@ module _ {T : Type 0} where
   abbrev pub ready_at : Option ℕ → List (ℕ × T) → Option (ℕ × T)
   ready_at None pairs = None
   ready_at (Some next) pairs = with_item next (at_id pairs next)
+
+  -- the item of the lowest id not taken, where that was placed
+  abbrev pub item_at : Option ℕ → List (ℕ × T) → Option T
+  item_at None pairs = None
+  item_at (Some next) pairs = at_id pairs next
+
+  abbrev pub first_item : PlainWindow T → Option T
+  first_item plain = item_at plain.next plain.placed
+
+  -- nothing was placed that wasn't taken
+  abbrev pub IsClear : PlainWindow T → Type 0
+  IsClear plain = (rid : ℕ) → IsOpen plain.next rid → at_id plain.placed rid ≡ None
 
   -- the item that is next in the order of ids
   abbrev pub ready : PlainWindow T → Option (ℕ × T)

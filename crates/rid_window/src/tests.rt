@@ -1,5 +1,6 @@
 use crate::{Placed, Window};
-use bosh_types::Rid;
+use bosh_types::{Rid, Text};
+use std::alloc::AllocError;
 use std::process::Abort;
 use std::test::Fail;
 
@@ -87,5 +88,42 @@ fn begins_at_the_least_id(rt: HostRuntime) -> Result<(), Fail> {
     let _ = window.place(rid(&rt, 1), false, (7, true));
     assert_eq!(rt; window.take_ready(), Some((rid(&rt, 1), (7, true))));
     assert_eq!(rt; window.next(), Some(rid(&rt, 2)));
+    Ok(())
+}
+
+#[test]
+fn looks_without_taking(rt: HostRuntime) -> Result<(), Fail> {
+    let mut window: Window<Text> = Window::new(rt.alloc(), rid(&rt, GREATEST - 1), 2)?;
+    assert_eq!(rt;
+        (window.first().is_some(), window.is_clear()),
+        (false, true)
+    );
+    let text = |bytes: &[u8]| -> Result<Text, AllocError> {
+        Ok(Text::from_vec(Vec::from_slice(rt.alloc(), bytes)?))
+    };
+    let _ = window.place(rid(&rt, GREATEST), false, text(b"last")?);
+    assert_eq!(rt;
+        (window.first().is_some(), window.is_clear()),
+        (false, false)
+    );
+    let _ = window.place(rid(&rt, GREATEST - 1), false, text(b"first")?);
+    let mut copy = window.copied(rt.alloc())?;
+    for _ in 0..2 {
+        let _ = window.take_ready();
+    }
+    assert_eq!(rt;
+        (window.next(), window.first().is_some(), window.is_clear()),
+        (None, false, true)
+    );
+    assert_eq!(rt;
+        copy.first().map(|text| text.as_slice()),
+        Some(b"first".as_slice())
+    );
+    for (value, bytes) in [(GREATEST - 1, b"first".as_slice()), (GREATEST, b"last")] {
+        match copy.take_ready() {
+            Some((id, text)) => assert_eq!(rt; (id.value(), text.as_slice()), (value, bytes)),
+            None => assert!(rt; false, "{value}"),
+        }
+    }
     Ok(())
 }

@@ -1,6 +1,8 @@
-ghost use Rattle.std.specs.Prelude.{◌≡◌, ◌-◌, ◌<◌, ◌≤◌, IfOk, is_some, slice_index_or, vec_len};
+ghost use Rattle.std.specs.Prelude.{◌≡◌, ◌↔◌, ◌-◌, ◌<◌, ◌≤◌, IfOk, IsTrue, is_none, is_some, slice_index_or, vec_len};
+ghost use Rattle.std.specs.List.{list_all};
+ghost use Rattle.std.specs.Option.{option_copied};
 
-use bosh_types::Rid;
+use bosh_types::{CopyIn, Rid, copy_items};
 use std::alloc::{AllocError, Global};
 
 /// What became of an item. One that wasn't placed is handed back, and nothing changed.
@@ -12,7 +14,7 @@ pub enum Placed<T> {
     Below(T),
     /// Its id has an item that wasn't taken yet.
     Repeat(T),
-    /// Its id is beyond the window (XEP-0124, section 14.1).
+    /// Its id is beyond the window (XEP-0124, section 14.2).
     Above(T),
 }
 
@@ -26,7 +28,7 @@ pub struct Window<T> {
 }
 
 impl<T: Drop> Window<T> {
-    ghost use Rattle.rid_window.specs.PlainWindow.{PlainWindow, new_window, PlaceSays, after_place, reach, ready, after_ready};
+    ghost use Rattle.rid_window.specs.PlainWindow.{PlainWindow, new_window, PlaceSays, IsClear, after_place, first_item, reach, ready, after_ready};
     ghost use Rattle.rid_window.specs.StandsFor.{StandsFor};
 
     /// An empty window of `width` ids from `first` on.
@@ -91,6 +93,25 @@ impl<T: Drop> Window<T> {
         self.next
     }
 
+    /// The item of the lowest id not taken, which stays where it is: `None` exactly where its place is empty, or no id
+    /// is left.
+    pub fn first(&self) -> Option<&T>
+        ensures { (plain : PlainWindow T) → StandsFor self.now plain
+            → option_copied result ≡ first_item plain }
+    {
+        if self.next.is_none() {
+            return None;
+        }
+        item_at(&self.places, 0)
+    }
+
+    /// Whether no item stands in it: each that was placed was taken.
+    pub fn is_clear(&self) -> bool
+        ensures { (plain : PlainWindow T) → StandsFor self.now plain → IsTrue result ↔ IsClear plain }
+    {
+        self.next.is_none() || are_empty(&self.places)
+    }
+
     // How many ids have a place.
     fn reach(&self, extra: bool) -> usize
         ensures { result ≡ reach (vec_len self.now.places - 1) extra }
@@ -103,9 +124,39 @@ impl<T: Drop> Window<T> {
     fn is_filled(&self, ahead: usize) -> bool
         ensures { result ≡ is_some (slice_index_or self.now.places.items ahead None) }
     {
-        match self.places.get(ahead) {
-            Some(place) => place.is_some(),
-            None => false,
-        }
+        item_at(&self.places, ahead).is_some()
     }
+}
+
+impl<T: CopyIn> Window<T> {
+    ghost use Rattle.rid_window.specs.PlainWindow.{PlainWindow};
+    ghost use Rattle.rid_window.specs.StandsFor.{StandsFor};
+
+    /// A second window with copies of the items, which stands for all that this one stands for.
+    pub fn copied(&self, alloc: Global) -> Result<Self, AllocError>
+        ensures { (plain : PlainWindow T) → StandsFor self.now plain
+            → IfOk result (λ window. StandsFor window plain) }
+    {
+        Ok(Window {
+            next: self.next,
+            places: copy_items(alloc, &self.places)?,
+        })
+    }
+}
+
+// The item of a place, if it has one.
+fn item_at<T>(places: &[Option<T>], place: usize) -> Option<&T>
+    ensures { option_copied result ≡ slice_index_or places.now place None }
+{
+    match places.get(place) {
+        Some(item) => item.as_ref(),
+        None => None,
+    }
+}
+
+// Whether no place has an item.
+fn are_empty<T>(places: &[Option<T>]) -> bool
+    ensures { result ≡ list_all is_none places.now }
+{
+    places.iter().all(|place| place.is_none())
 }

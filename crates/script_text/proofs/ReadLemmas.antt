@@ -5,7 +5,8 @@ use Rattle.std.proofs.lemmas.Bool.Decides.{nat_tests}
 use Rattle.std.proofs.Math.Dec.{eqb-suc-zero}
 use Rattle.std.specs.Io.KnownBytes.{Keeps, IsAtEnd, prepend_known}
 use Rattle.script_text.specs.declared.lines.NextLine.TheVariants.{Line, TooLong, NoLine}
-use Rattle.script_text.specs.Lines.{line_feed, lines_of, longest_line, Reads, IsFirstLonger, IsUnbroken, MovesPiece, ended_line_of, last_line_of}
+use Rattle.bosh_types.specs.Limits.{longest_line}
+use Rattle.script_text.specs.Lines.{line_feed, lines_of, Reads, IsFirstLonger, IsUnbroken, MovesPiece, ended_line_of, last_line_of}
 use Rattle.script_text.proofs.LinesLemmas.{IsUnbroken-append, lines_of-ended, lines_of-last, lines_of-long}
 
 -- this much of the next line has been read, and it has no LF

@@ -19,9 +19,10 @@ use Rattle.script_text.specs.declared.run.Run.{Run}
 use Rattle.script_text.specs.declared.run.Run.TheVariants.{Beginning, Arrivals, Creations}
 use Rattle.script_text.specs.Creation.{Step}
 use Rattle.script_text.specs.Line.{line_of}
-use Rattle.script_text.specs.Lines.{lines_of, longest_line, IsFirstLonger, Reads}
+use Rattle.script_text.specs.Lines.{lines_of, IsFirstLonger, Reads}
 use Rattle.script_text.specs.Report.{report_text}
-use Rattle.script_text.specs.Script.{Drive, most_lines, kind_in, step_by, within_length, said, ended_with, after_step, bad_at, drive_on, drive_of, Reports}
+use Rattle.bosh_types.specs.Limits.{longest_line, most_lines}
+use Rattle.script_text.specs.Script.{Drive, kind_in, step_by, within_length, said, ended_with, after_step, bad_at, drive_on, drive_of, Reports}
 use Rattle.script_text.specs.Step.{read_of}
 use Rattle.script_text.proofs.GivenLemmas.{HasReported, nothing_reported, more_reported, front_reported, so_far_reported, all_reported}
 

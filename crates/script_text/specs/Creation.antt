@@ -3,6 +3,7 @@ use Rattle.std.specs.Prelude.{◌≡◌, ℕ, ◌+◌, ◌&&◌, Bool, true, not
 use Rattle.std.specs.Fmt.{decimal}
 use Rattle.std.specs.List.{list_any}
 use Rattle.std.specs.Str.{bytes_eq}
+use Rattle.bosh_types.specs.Limits.{most_sessions}
 use Rattle.bosh_types.specs.declared.condition.Condition.{Condition}
 use Rattle.bosh_types.specs.declared.condition.Condition.TheVariants.{BadRequest, HostUnknown, ImproperAddressing, UndefinedCondition}
 use Rattle.bosh_types.specs.declared.hosts.HostName.{HostName}
@@ -117,7 +118,7 @@ opened_step m number conn o = record {
 abbrev pub at_host : Manager → ℕ → List ℕ → Request → Creation → Option HostName → Step
 at_host m conn body request creation None = refused_step m conn HostUnknown
 at_host m conn body request creation (Some host) =
-    if nat_lt m.opened 256 then opened_step m (m.opened + 1) conn (opening_by host (m.opened + 1) body request creation)
+    if nat_lt m.opened most_sessions then opened_step m (m.opened + 1) conn (opening_by host (m.opened + 1) body request creation)
     else refused_step m conn UndefinedCondition
 
 abbrev pub admitted_step : Manager → ℕ → List ℕ → Request → Creation → Admitted → Step

@@ -1,15 +1,12 @@
 -- The lines of a text. A line ends with LF, and a last line without LF counts.
 use Rattle.std.specs.Prelude.{ℕ, ◌≡◌, ◌<◌, ◌≤◌, ◌==◌, List, [], ◌∷◌, ◌++◌, Bool, true, false, nat_lt, Option, None, Some, length, if◌then◌else◌}
+use Rattle.bosh_types.specs.Limits.{longest_line}
 use Rattle.script_text.specs.declared.lines.NextLine.{NextLine}
 use Rattle.script_text.specs.declared.lines.NextLine.TheVariants.{Line, TooLong, NoLine}
 
 -- LF
 abbrev pub line_feed : ℕ
 line_feed = 10
-
--- the most bytes that a line may have, without its LF
-abbrev pub longest_line : ℕ
-longest_line = 2097152
 
 -- the lines where this byte comes before them: LF ends an empty line, and any other byte begins the first
 abbrev pub onto_lines : ℕ → List (List ℕ) → List (List ℕ)

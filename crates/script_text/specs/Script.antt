@@ -1,11 +1,13 @@
 -- What a script gives: its outcome, its report, and what it leaves.
 use Rattle.std.specs.Prelude.{ℕ, ◌+◌, ◌≡◌, List, [], ◌∷◌, ◌++◌, Option, None, Some, false, length, drop, map, nat_lt, if◌then◌else◌}
 use Rattle.std.specs.Io.KnownBytes.{Appends}
+use Rattle.bosh_types.specs.Limits.{longest_line, most_lines}
 use Rattle.bosh_types.specs.declared.ending.Ending.{Ending}
 use Rattle.session_core.specs.Bare.{BareSession, inward_of}
 use Rattle.session_core.specs.BareEnding.{over_at, session_after}
 use Rattle.session_core.specs.BareRun.{IsLongestRun}
-use Rattle.session_core.specs.Copy.{Copy, stanzas_of}
+use Rattle.session_core.specs.declared.copy.RequestCopy.{RequestCopy}
+use Rattle.session_core.specs.Copy.{stanzas_of}
 use Rattle.session_core.specs.Machine.{Opening}
 use Rattle.session_core.specs.Run.{run_of}
 use Rattle.script_text.specs.declared.line.BadKind.{BadKind}
@@ -24,12 +26,8 @@ use Rattle.script_text.specs.declared.run.Run.{Run}
 use Rattle.script_text.specs.declared.run.Run.TheVariants.{Beginning, Arrivals, Creations}
 use Rattle.script_text.specs.Creation.{Step, bad_step, done_step, manager_step}
 use Rattle.script_text.specs.Line.{line_of}
-use Rattle.script_text.specs.Lines.{lines_of, longest_line}
+use Rattle.script_text.specs.Lines.{lines_of}
 use Rattle.script_text.specs.Report.{report_text, inward_in}
-
--- the most lines that a script may have
-abbrev pub most_lines : ℕ
-most_lines = 1000000
 
 -- what a script gives: how it ended, its report, what it was run over at its end, and the sessions that it created
 pub record Drive : Type 0 where
@@ -139,7 +137,7 @@ abbrev pub Reports : Drive → Driven → Option (List ℕ) → Option (List ℕ
 Reports drive outcome old new = (outcome ≡ drive.outcome) × Appends old new (report_text drive.report)
 
 -- the stanzas of a run of copies
-abbrev pub stanzas_in : List Copy → List (List ℕ)
+abbrev pub stanzas_in : List RequestCopy → List (List ℕ)
 stanzas_in [] = []
 stanzas_in (copy ∷ copies) = stanzas_of copy ++ stanzas_in copies
 
@@ -154,6 +152,10 @@ IsInwardOf Beginning openings inward = inward ≡ []
 IsInwardOf (Arrivals session) openings inward = IsLongestRun session.first session.arrivals inward
 IsInwardOf (Creations manager) openings inward = inward ≡ created_inward openings
 
--- it is so of what a report says
+-- the sink was given a report, and what this says went inward is the longest run of what arrived
+abbrev pub GivesLongestRun : Drive → Option (List ℕ) → Option (List ℕ) → Type 0
+GivesLongestRun drive old new = (report : List ReportLine) × Appends old new (report_text report) × IsInwardOf drive.last drive.openings (inward_in report)
+
+-- it is so of a script's report
 abbrev pub InwardIsLongestRun : Drive → Type 0
 InwardIsLongestRun drive = IsInwardOf drive.last drive.openings (inward_in drive.report)

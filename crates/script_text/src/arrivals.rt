@@ -62,7 +62,7 @@ pub(crate) fn inward_lines(
 ) -> Result<Vec<ReportLine>, AllocError>
     ensures { IfOk result (λ lines. lines.items ≡ map (In session 0) stanzas) }
 {
-    let stream = StreamNo::new(0);
+    let stream = StreamNo::unnamed();
     let mut lines = Vec::new(alloc);
     for stanza in stanzas.into_vec() {
         lines.push(ReportLine::In {

@@ -15,6 +15,7 @@ use crate::run::{Effect, Manager, Next, Run};
 use crate::stanza::{parts_of, slices_of};
 use crate::text::push_number;
 use body_writer::{AnswerKind, AnswerParts, Created, write_answer};
+use bosh_types::limits::MOST_SESSIONS;
 use bosh_types::{Condition, HostName, HostNames, Stanzas, Text};
 use session_attrs::{
     Admitted, Creation, Kind, Request, RequestError, admit, negotiate, read_request,
@@ -22,8 +23,6 @@ use session_attrs::{
 use std::alloc::{AllocError, Global};
 
 const MOST_HOSTS: usize = 16;
-
-const MOST_SESSIONS: u32 = 256;
 
 // What a line does to the manager.
 pub(crate) fn manager_effect(

@@ -1,15 +1,14 @@
 // Reading a source line by line.
-ghost use Rattle.std.specs.Prelude.{◌≡◌, ◌≤◌, ◌<◌, ◌++◌, ℕ, List, [], Option, IfOk, OnErr, IfErr, IsTrue, IsErrOf, false, length, position, ◌==◌};
+ghost use Rattle.std.specs.Prelude.{◌≡◌, ◌≤◌, ◌<◌, ◌++◌, ℕ, List, [], Option, IfOk, OnOk, OnErr, IfErr, IsTrue, IsErrOf, false, length, position, ◌==◌};
 ghost use Rattle.script_text.specs.Lines.{ended_line_of, last_line_of};
 
 use bosh_ports::{Got, Source};
 use bosh_types::Text;
+use bosh_types::limits::LONGEST_LINE;
 use std::alloc::{AllocError, Global};
 use std::marker::Model;
 
 const ROOM: usize = 8192;
-
-const LONGEST: usize = 2097152;
 
 // What reading the next line gives.
 #[derive(Debug, Drop)]
@@ -83,10 +82,12 @@ impl LineReader {
     ) -> Result<NextLine, ReadError>
         ensures reads { IfOk result (λ read. Reads (prepend_known self.old (S.left source.old)) (prepend_known self.new (S.left source.new)) read) }
         ensures read_fault { IsErrOf result ReadError.ReadFault → HasRisen (S.faults source.old) (S.faults source.new) }
+        ensures counts { OnOk result (S.faults source.new ≡ S.faults source.old) }
+        ensures no_memory { IsErrOf result ReadError.NoMemory → S.faults source.new ≡ S.faults source.old }
         ensures faults { S.faults source.old ≤ S.faults source.new }
     {
         let mut line = Vec::new(alloc);
-        while line.len() <= LONGEST {
+        while line.len() <= LONGEST_LINE {
             if !self.fill(source)? {
                 return Ok(last_line(line));
             }
@@ -104,6 +105,7 @@ impl LineReader {
         ensures end { IfOk result (λ more. more ≡ false → IsAtEnd (prepend_known self.old (S.left source.old))) }
         ensures fault { IfErr result (λ error. error ≡ ReadError.ReadFault) }
         ensures read_fault { OnErr result (HasRisen (S.faults source.old) (S.faults source.new)) }
+        ensures counts { OnOk result (S.faults source.new ≡ S.faults source.old) }
         ensures faults { S.faults source.old ≤ S.faults source.new }
     {
         if self.start < self.end {
@@ -152,7 +154,7 @@ fn line_feed(bytes: &[u8]) -> Option<usize>
 fn ended_line(line: Vec<u8>) -> NextLine
     ensures { result ≡ ended_line_of line.items }
 {
-    if line.len() > LONGEST {
+    if line.len() > LONGEST_LINE {
         return NextLine::TooLong;
     }
     NextLine::Line(Text::from_vec(line))

@@ -1,4 +1,4 @@
--- Both views of a session agree on the rows: what a search of the whole journal finds is what the calls did.
+-- What a journal tells agrees with what its calls did on the rows.
 use Rattle.std.proofs.Common.{◌≡◌, refl}
 use Rattle.std.specs.Prelude.{ℕ, ◌+◌, ◌*◌, true, false, List, [], ◌∷◌, ◌++◌, map, take, Some, None, codes}
 use Rattle.bosh_types.specs.declared.ending.Closing.TheVariants as closings
@@ -9,18 +9,19 @@ use Rattle.session_core.specs.declared.replies.Arrived.TheVariants.{Answer, Park
 use Rattle.session_core.specs.declared.replies.Collected.TheVariants as collections
 use Rattle.session_core.specs.Copy.{id_of}
 use Rattle.session_core.specs.Journal.{Collect, Back, BackClosed, Tick, TakeInward, Journal, ToArrive, ToCollect, state_of}
-use Rattle.session_core.specs.Laws.{items_taken, is_acknowledged}
+use Rattle.session_core.specs.Laws.{items_taken}
 use Rattle.session_core.specs.Machine.{opened, is_full}
 use Rattle.session_core.specs.Passed.{passed_of, given_in}
 use Rattle.session_core.specs.Run.{run_of}
-use Rattle.session_core.specs.State.{Outward, Stanza, Close, inward, waiting}
+use Rattle.session_core.specs.declared.outward.Outward.{Outward}
+use Rattle.session_core.specs.declared.outward.Outward.TheVariants.{Stanza, Close}
+use Rattle.session_core.specs.State.{inward, waiting, answers}
 use Rattle.session_core.proofs.RowTools.{usual, opening, opening_with, empty, carrying, plain, outcome_after, journal_of, terminal_body, bodies_compute, keys_compute}
 
--- what the two views tell of a journal: the run's ids by searching and by the calls, what was passed on, what the server
--- gave by the entries and by the answers with what waits, and the counted bytes
+-- what the two views tell of a journal: the ids of the run; what was passed on; what the server gave, by the entries and by
+-- the answers with what waits
 pub record Views : Type 0 where
-  pub searched : List ℕ
-  pub processed : List ℕ
+  pub run : List ℕ
   pub passed : List Inward
   pub taken : List Inward
   pub given : List Outward
@@ -28,19 +29,17 @@ pub record Views : Type 0 where
 
 abbrev views : Journal → Views
 views journal = record {
-  searched = map id_of (run_of journal);
-  processed = map id_of (state_of journal).run;
+  run = map id_of (run_of journal);
   passed = passed_of journal;
-  taken = take (state_of journal).taken (inward (state_of journal));
+  taken = take (state_of journal).passed (inward (state_of journal));
   given = given_in journal;
-  delivered = items_taken (state_of journal).answers ++ waiting (state_of journal);
+  delivered = items_taken (answers (state_of journal)) ++ waiting (state_of journal);
 }
 
 held_until_an_item_waits :
     views (journal_of opening (carrying (empty 1001) (codes "<message/>") 0 ∷ Back 0 (codes "<iq/>") 0 ∷ Collect 1 ∷ TakeInward ∷ TakeInward ∷ []))
     ≡ record {
-      searched = 1000 ∷ 1001 ∷ [];
-      processed = 1000 ∷ 1001 ∷ [];
+      run = 1000 ∷ 1001 ∷ [];
       passed = Item 0 (codes "<message/>") ∷ [];
       taken = Item 0 (codes "<message/>") ∷ [];
       given = Stanza 0 (codes "<stream:features/>") ∷ Stanza 0 (codes "<iq/>") ∷ [];
@@ -52,8 +51,7 @@ held_until_an_item_waits = refl
 order_of_ids :
     views (journal_of opening (carrying (empty 1002) (codes "<presence/>") 0 ∷ carrying (empty 1001) (codes "<message/>") 0 ∷ Collect 1 ∷ []))
     ≡ record {
-      searched = 1000 ∷ 1001 ∷ 1002 ∷ [];
-      processed = 1000 ∷ 1001 ∷ 1002 ∷ [];
+      run = 1000 ∷ 1001 ∷ 1002 ∷ [];
       passed = [];
       taken = [];
       given = Stanza 0 (codes "<stream:features/>") ∷ [];
@@ -65,8 +63,7 @@ order_of_ids = refl
 same_bytes_again :
     views (journal_of opening (carrying (empty 1001) (codes "<message/>") 0 ∷ Back 0 (codes "<iq/>") 0 ∷ Collect 1 ∷ Back 0 (codes "<presence/>") 0 ∷ carrying (empty 1001) (codes "<message/>") 0 ∷ carrying (empty 1002) (codes "<message id='2'/>") 0 ∷ []))
     ≡ record {
-      searched = 1000 ∷ 1001 ∷ 1002 ∷ [];
-      processed = 1000 ∷ 1001 ∷ 1002 ∷ [];
+      run = 1000 ∷ 1001 ∷ 1002 ∷ [];
       passed = [];
       taken = [];
       given = Stanza 0 (codes "<stream:features/>") ∷ Stanza 0 (codes "<iq/>") ∷ Stanza 0 (codes "<presence/>") ∷ [];
@@ -78,8 +75,7 @@ same_bytes_again = refl
 later_copy_waits_instead :
     views (journal_of opening (carrying (empty 1001) (codes "<message/>") 0 ∷ carrying (empty 1001) (codes "<presence/>") 0 ∷ Collect 1 ∷ Back 0 (codes "<iq/>") 0 ∷ Collect 2 ∷ []))
     ≡ record {
-      searched = 1000 ∷ 1001 ∷ [];
-      processed = 1000 ∷ 1001 ∷ [];
+      run = 1000 ∷ 1001 ∷ [];
       passed = [];
       taken = [];
       given = Stanza 0 (codes "<stream:features/>") ∷ Stanza 0 (codes "<iq/>") ∷ [];
@@ -91,8 +87,7 @@ later_copy_waits_instead = refl
 no_longer_kept :
     views (journal_of opening (carrying (empty 1001) (codes "<a/>") 0 ∷ carrying (empty 1002) (codes "<b/>") 0 ∷ carrying (empty 1003) (codes "<c/>") 0 ∷ carrying (empty 1004) (codes "<d/>") 0 ∷ carrying (empty 1005) (codes "<e/>") 0 ∷ carrying (empty 1001) (codes "<a/>") 0 ∷ Collect 1 ∷ Collect 5 ∷ []))
     ≡ record {
-      searched = 1000 ∷ 1001 ∷ 1002 ∷ 1003 ∷ 1004 ∷ 1005 ∷ [];
-      processed = 1000 ∷ 1001 ∷ 1002 ∷ 1003 ∷ 1004 ∷ 1005 ∷ [];
+      run = 1000 ∷ 1001 ∷ 1002 ∷ 1003 ∷ 1004 ∷ 1005 ∷ [];
       passed = [];
       taken = [];
       given = Stanza 0 (codes "<stream:features/>") ∷ [];
@@ -104,8 +99,7 @@ no_longer_kept = refl
 beyond_the_window :
     views (journal_of opening (carrying (empty 1001) (codes "<a/>") 0 ∷ carrying (empty 1004) (codes "<b/>") 0 ∷ Collect 1 ∷ []))
     ≡ record {
-      searched = 1000 ∷ 1001 ∷ [];
-      processed = 1000 ∷ 1001 ∷ [];
+      run = 1000 ∷ 1001 ∷ [];
       passed = [];
       taken = [];
       given = Stanza 0 (codes "<stream:features/>") ∷ [];
@@ -117,8 +111,7 @@ beyond_the_window = refl
 one_more_for_a_pause :
     views (journal_of opening (carrying (empty 1001) (codes "<a/>") 0 ∷ plain (record (empty 1004) { pause = Some 60 }) 0 ∷ carrying (empty 1002) (codes "<b/>") 0 ∷ carrying (empty 1003) (codes "<c/>") 0 ∷ Collect 1 ∷ Collect 2 ∷ Collect 3 ∷ []))
     ≡ record {
-      searched = 1000 ∷ 1001 ∷ 1002 ∷ 1003 ∷ 1004 ∷ [];
-      processed = 1000 ∷ 1001 ∷ 1002 ∷ 1003 ∷ 1004 ∷ [];
+      run = 1000 ∷ 1001 ∷ 1002 ∷ 1003 ∷ 1004 ∷ [];
       passed = [];
       taken = [];
       given = Stanza 0 (codes "<stream:features/>") ∷ [];
@@ -130,8 +123,7 @@ one_more_for_a_pause = refl
 keys_are_tested_in_the_order_of_ids :
     views (journal_of (opening_with usual (Some (codes "a9993e364706816aba3e25717850c26c9cd0d89d")) 1000) (carrying (record (empty 1002) { key = Some (codes "x") }) (codes "<b/>") 0 ∷ carrying (record (empty 1001) { key = Some (codes "abc") }) (codes "<a/>") 0 ∷ Collect 1 ∷ []))
     ≡ record {
-      searched = 1000 ∷ 1001 ∷ [];
-      processed = 1000 ∷ 1001 ∷ [];
+      run = 1000 ∷ 1001 ∷ [];
       passed = [];
       taken = [];
       given = Stanza 0 (codes "<stream:features/>") ∷ [];
@@ -143,8 +135,7 @@ keys_are_tested_in_the_order_of_ids = refl
 pause_too_long :
     views (journal_of opening (carrying (empty 1001) (codes "<a/>") 0 ∷ plain (record (empty 1002) { pause = Some 121 }) 0 ∷ Collect 1 ∷ []))
     ≡ record {
-      searched = 1000 ∷ 1001 ∷ [];
-      processed = 1000 ∷ 1001 ∷ [];
+      run = 1000 ∷ 1001 ∷ [];
       passed = [];
       taken = [];
       given = Stanza 0 (codes "<stream:features/>") ∷ [];
@@ -156,8 +147,7 @@ pause_too_long = refl
 empty_requests_too_often :
     views (journal_of opening (carrying (empty 1001) (codes "<a/>") 1000 ∷ plain (empty 1002) 5999 ∷ Collect 1 ∷ []))
     ≡ record {
-      searched = 1000 ∷ 1001 ∷ [];
-      processed = 1000 ∷ 1001 ∷ [];
+      run = 1000 ∷ 1001 ∷ [];
       passed = [];
       taken = [];
       given = Stanza 0 (codes "<stream:features/>") ∷ [];
@@ -169,8 +159,7 @@ empty_requests_too_often = refl
 empty_requests_in_time :
     views (journal_of opening (carrying (empty 1001) (codes "<a/>") 1000 ∷ plain (empty 1002) 6000 ∷ Collect 1 ∷ []))
     ≡ record {
-      searched = 1000 ∷ 1001 ∷ 1002 ∷ [];
-      processed = 1000 ∷ 1001 ∷ 1002 ∷ [];
+      run = 1000 ∷ 1001 ∷ 1002 ∷ [];
       passed = [];
       taken = [];
       given = Stanza 0 (codes "<stream:features/>") ∷ [];
@@ -182,8 +171,7 @@ empty_requests_in_time = refl
 polls_too_often :
     views (journal_of (opening_with (record usual { hold = Some 0 }) None 1000) (plain (empty 1001) 10000 ∷ plain (empty 1002) 13000 ∷ []))
     ≡ record {
-      searched = 1000 ∷ 1001 ∷ [];
-      processed = 1000 ∷ 1001 ∷ [];
+      run = 1000 ∷ 1001 ∷ [];
       passed = [];
       taken = [];
       given = Stanza 0 (codes "<stream:features/>") ∷ [];
@@ -195,8 +183,7 @@ polls_too_often = refl
 polls_in_time :
     views (journal_of (opening_with (record usual { hold = Some 0 }) None 1000) (plain (empty 1001) 10000 ∷ plain (empty 1002) 15000 ∷ []))
     ≡ record {
-      searched = 1000 ∷ 1001 ∷ 1002 ∷ [];
-      processed = 1000 ∷ 1001 ∷ 1002 ∷ [];
+      run = 1000 ∷ 1001 ∷ 1002 ∷ [];
       passed = [];
       taken = [];
       given = Stanza 0 (codes "<stream:features/>") ∷ [];
@@ -208,8 +195,7 @@ polls_in_time = refl
 terminate_passes_its_stanzas :
     views (journal_of opening (carrying (empty 1001) (codes "<a/>") 0 ∷ carrying (record (empty 1002) { terminate = true }) (codes "<presence type='unavailable'/>") 0 ∷ Collect 1 ∷ Back 0 (codes "<iq/>") 0 ∷ []))
     ≡ record {
-      searched = 1000 ∷ 1001 ∷ 1002 ∷ [];
-      processed = 1000 ∷ 1001 ∷ 1002 ∷ [];
+      run = 1000 ∷ 1001 ∷ 1002 ∷ [];
       passed = [];
       taken = [];
       given = Stanza 0 (codes "<stream:features/>") ∷ [];
@@ -221,8 +207,7 @@ terminate_passes_its_stanzas = refl
 closing_waits_for_the_items :
     views (journal_of opening (Back 0 (codes "<a/>") 0 ∷ BackClosed 0 closings.Plain 0 ∷ Back 0 (codes "<b/>") 0 ∷ plain (empty 1001) 0 ∷ plain (empty 1002) 0 ∷ []))
     ≡ record {
-      searched = 1000 ∷ 1001 ∷ 1002 ∷ [];
-      processed = 1000 ∷ 1001 ∷ 1002 ∷ [];
+      run = 1000 ∷ 1001 ∷ 1002 ∷ [];
       passed = [];
       taken = [];
       given = Stanza 0 (codes "<stream:features/>") ∷ Stanza 0 (codes "<a/>") ∷ Close 0 closings.Plain ∷ [];
@@ -234,8 +219,7 @@ closing_waits_for_the_items = refl
 reports_a_lost_answer :
     views (journal_of (opening_with (record usual { asks_ack = true }) None 1000) (carrying (empty 1001) (codes "<a/>") 0 ∷ Back 0 (codes "<x/>") 0 ∷ Collect 1 ∷ carrying (record (empty 1002) { ack = Some 1000 }) (codes "<b/>") 1500 ∷ plain (empty 1000) 1500 ∷ []))
     ≡ record {
-      searched = 1000 ∷ 1001 ∷ 1002 ∷ [];
-      processed = 1000 ∷ 1001 ∷ 1002 ∷ [];
+      run = 1000 ∷ 1001 ∷ 1002 ∷ [];
       passed = [];
       taken = [];
       given = Stanza 0 (codes "<stream:features/>") ∷ Stanza 0 (codes "<x/>") ∷ [];
@@ -247,8 +231,7 @@ reports_a_lost_answer = refl
 silence_beyond_a_gap :
     views (journal_of opening (carrying (empty 1002) (codes "<b/>") 20000 ∷ Tick 50000 ∷ Tick 50001 ∷ Collect 1 ∷ []))
     ≡ record {
-      searched = 1000 ∷ [];
-      processed = 1000 ∷ [];
+      run = 1000 ∷ [];
       passed = [];
       taken = [];
       given = Stanza 0 (codes "<stream:features/>") ∷ [];
@@ -260,8 +243,7 @@ silence_beyond_a_gap = refl
 stream_that_is_not_open :
     views (journal_of opening (carrying (record (empty 1001) { stream = Some (codes "x") }) (codes "<a/>") 0 ∷ []))
     ≡ record {
-      searched = 1000 ∷ [];
-      processed = 1000 ∷ [];
+      run = 1000 ∷ [];
       passed = [];
       taken = [];
       given = Stanza 0 (codes "<stream:features/>") ∷ [];
@@ -269,11 +251,6 @@ stream_that_is_not_open :
     }
 unfolding bodies_compute
 stream_that_is_not_open = refl
-
--- the acknowledgement of 1002 reaches the creation's answer, and not that of 1001
-acknowledged : (is_acknowledged (journal_of (opening_with (record usual { asks_ack = true }) None 1000) (carrying (empty 1001) (codes "<a/>") 0 ∷ Back 0 (codes "<x/>") 0 ∷ Collect 1 ∷ carrying (record (empty 1002) { ack = Some 1000 }) (codes "<b/>") 1500 ∷ plain (empty 1000) 1500 ∷ [])) 1000 ≡ true) × (is_acknowledged (journal_of (opening_with (record usual { asks_ack = true }) None 1000) (carrying (empty 1001) (codes "<a/>") 0 ∷ Back 0 (codes "<x/>") 0 ∷ Collect 1 ∷ carrying (record (empty 1002) { ack = Some 1000 }) (codes "<b/>") 1500 ∷ plain (empty 1000) 1500 ∷ [])) 1001 ≡ false)
-unfolding bodies_compute
-acknowledged = (refl, refl)
 
 -- a creation of 108 bytes and fifteen bodies of 1,048,576 bytes with a child fit into a journal, and no sixteenth
 journal_limit : (128 + 108 + 15 * (128 + 1048576 + 64) ≡ 15731756)

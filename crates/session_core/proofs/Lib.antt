@@ -1,11 +1,11 @@
 pub mod BareLemmas
-pub mod EndingRows
-pub mod FactRows
-pub mod JournalRows
 pub mod RowTools
 pub mod RunLemmas
-pub mod SessionRows
 pub mod NamedValues
 pub mod ReadBackRows
 pub mod WrittenNumbers
 pub mod WrittenRequests
+pub mod EndingRows
+pub mod FactRows
+pub mod JournalRows
+pub mod SessionRows

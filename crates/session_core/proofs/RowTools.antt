@@ -14,7 +14,8 @@ use Rattle.session_attrs.specs.declared.request.Request.{Request}
 use Rattle.session_attrs.specs.Terms.{terms_of}
 use Rattle.session_core.specs.Journal.{Call, Arrive, Reply, Entered, Entry, Journal, step, entered_by}
 use Rattle.session_core.specs.Machine.{Opening, opened}
-use Rattle.session_core.specs.State.{PlainSession, Outward, last_of, answered_of, inward, waiting}
+use Rattle.session_core.specs.declared.outward.Outward.{Outward}
+use Rattle.session_core.specs.State.{PlainSession, last_of, answered_of, inward, waiting}
 
 -- what a creation asks for where nothing else is said
 abbrev pub usual : Creation

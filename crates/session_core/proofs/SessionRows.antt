@@ -10,7 +10,7 @@ use Rattle.session_core.specs.declared.replies.Taken.TheVariants as takings
 use Rattle.session_core.specs.declared.replies.Ticked.TheVariants.{Changed, Quiet}
 use Rattle.session_core.specs.Journal.{Collect, Back, Tick, TakeInward, ToArrive, ToCollect, ToBack, ToTick, ToTakeInward}
 use Rattle.session_core.specs.Machine.{created_parts}
-use Rattle.session_core.specs.State.{Stanza}
+use Rattle.session_core.specs.declared.outward.Outward.TheVariants.{Stanza}
 use Rattle.session_core.proofs.RowTools.{usual, opening, opening_with, empty, carrying, plain, outcome, empty_body, ack_body, payload_body, terminal_body, bodies_compute, keys_compute}
 
 -- the answer to a creation

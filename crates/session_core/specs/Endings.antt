@@ -1,5 +1,5 @@
 -- What the ending of a session gives to the requests that are open then, XEP-0124 sections 13 and 17.
-use Rattle.std.specs.Prelude.{ℕ, ◌+◌, ◌==◌, Bool, false, List, [], ◌++◌, map, Option, Some, None, if◌then◌else◌}
+use Rattle.std.specs.Prelude.{ℕ, ◌+◌, ◌==◌, List, [], Option, Some, None, if◌then◌else◌}
 use Rattle.bosh_types.specs.declared.condition.Condition.{Condition}
 use Rattle.bosh_types.specs.declared.condition.Condition.TheVariants as conditions
 use Rattle.bosh_types.specs.declared.ending.Closing.{Closing}
@@ -9,8 +9,7 @@ use Rattle.bosh_types.specs.declared.ending.Ending.TheVariants.{Terminated, Stal
 use Rattle.body_writer.specs.declared.answer.AnswerKind.TheVariants.{Usual, Terminate}
 use Rattle.body_writer.specs.declared.answer.AnswerParts.{AnswerParts}
 use Rattle.body_writer.specs.Answer.{answer_text}
-use Rattle.session_core.specs.Copy.{Copy, id_of}
-use Rattle.session_core.specs.State.{PlainSession, answered_of, held, beyond}
+use Rattle.session_core.specs.State.{PlainSession, answered_of}
 
 -- a terminal body, with its condition if there is one
 abbrev pub terminal : Option Condition → AnswerParts
@@ -27,56 +26,37 @@ closing_condition RemoteConnectionFailed = Some conditions.RemoteConnectionFaile
 closing_condition RemoteStreamError = Some conditions.RemoteStreamError
 closing_condition SystemShutdown = Some conditions.SystemShutdown
 
--- what the copy that broke the session is given; at a terminate, what the oldest held request is given
-abbrev pub breaker_word : Ending → AnswerParts
-breaker_word (Terminated rid) = terminal None
-breaker_word (Stale rid lowest) = terminal (Some conditions.ItemNotFound)
-breaker_word (Above rid last requests) = terminal (Some conditions.ItemNotFound)
-breaker_word (WrongKey rid) = terminal (Some conditions.ItemNotFound)
-breaker_word (UnknownStream rid) = terminal (Some conditions.ItemNotFound)
-breaker_word (PauseTooLong rid pause maxpause) = terminal (Some conditions.PolicyViolation)
-breaker_word (Overactive rid apart) = terminal (Some conditions.PolicyViolation)
-breaker_word (Silent since now) = terminal (Some conditions.ItemNotFound)
-breaker_word (Closed closing rid) = terminal (closing_condition closing)
-breaker_word (JournalFull counted cost) = terminal (Some conditions.UndefinedCondition)
+-- another request broke the session
+abbrev pub other_request : AnswerParts
+other_request = terminal (Some conditions.OtherRequest)
 
--- what the other open requests are given after a closing
+-- what the open requests are given after a closing
 abbrev pub word_at_closing : Closing → AnswerParts
 word_at_closing Plain = nothing
-word_at_closing RemoteConnectionFailed = terminal (Some conditions.OtherRequest)
-word_at_closing RemoteStreamError = terminal (Some conditions.OtherRequest)
-word_at_closing SystemShutdown = terminal (Some conditions.OtherRequest)
+word_at_closing RemoteConnectionFailed = other_request
+word_at_closing RemoteStreamError = other_request
+word_at_closing SystemShutdown = other_request
 
--- what the other open requests are given
-abbrev pub other_word : Ending → AnswerParts
-other_word (Terminated rid) = nothing
-other_word (Stale rid lowest) = terminal (Some conditions.OtherRequest)
-other_word (Above rid last requests) = terminal (Some conditions.OtherRequest)
-other_word (WrongKey rid) = terminal (Some conditions.OtherRequest)
-other_word (UnknownStream rid) = terminal (Some conditions.OtherRequest)
-other_word (PauseTooLong rid pause maxpause) = terminal (Some conditions.OtherRequest)
-other_word (Overactive rid apart) = terminal (Some conditions.OtherRequest)
-other_word (Silent since now) = terminal (Some conditions.ItemNotFound)
-other_word (Closed closing rid) = word_at_closing closing
-other_word (JournalFull counted cost) = terminal (Some conditions.OtherRequest)
+-- what the copy that broke the session is given, where it is the open request with this id, and what any other one is
+abbrev pub word_if_breaker : ℕ → ℕ → Condition → AnswerParts
+word_if_breaker breaker id condition = if id == breaker then terminal (Some condition) else other_request
 
--- the open request with this id broke the session; at a terminate, it is the oldest held one
-abbrev pub is_breaker : PlainSession → Ending → ℕ → Bool
-is_breaker s (Terminated rid) id = id == answered_of s + 1
-is_breaker s (Stale rid lowest) id = false
-is_breaker s (Above rid last requests) id = false
-is_breaker s (WrongKey rid) id = id == rid
-is_breaker s (UnknownStream rid) id = id == rid
-is_breaker s (PauseTooLong rid pause maxpause) id = id == rid
-is_breaker s (Overactive rid apart) id = id == rid
-is_breaker s (Silent since now) id = false
-is_breaker s (Closed closing rid) id = false
-is_breaker s (JournalFull counted cost) id = false
+-- what the ending gives to the open request with this id; a terminate is told to the oldest held one
+abbrev pub word_for : PlainSession → Ending → ℕ → AnswerParts
+word_for s (Terminated rid) id = if id == answered_of s + 1 then terminal None else nothing
+word_for s (Stale rid lowest) id = other_request
+word_for s (Above rid last requests) id = other_request
+word_for s (WrongKey rid) id = word_if_breaker rid id conditions.ItemNotFound
+word_for s (UnknownStream rid) id = word_if_breaker rid id conditions.ItemNotFound
+word_for s (PauseTooLong rid pause maxpause) id = word_if_breaker rid id conditions.PolicyViolation
+word_for s (Overactive rid apart) id = word_if_breaker rid id conditions.PolicyViolation
+word_for s (Silent since now) id = terminal (Some conditions.ItemNotFound)
+word_for s (Closed closing rid) id = word_at_closing closing
+word_for s (JournalFull counted cost) id = other_request
 
-abbrev pub last_word : PlainSession → Ending → Copy → ℕ × List ℕ
-last_word s ending copy =
-    (id_of copy, answer_text (if is_breaker s ending (id_of copy) then breaker_word ending else other_word ending))
+abbrev pub last_word : PlainSession → Ending → ℕ → List ℕ
+last_word s ending id = answer_text (word_for s ending id)
 
--- the session ends: every request that is open is answered, and nothing is answered later
+-- the session ends: each request that is open has its last word, and nothing is answered later
 abbrev pub ended : Ending → PlainSession → PlainSession
-ended ending s = record s { ending = Some ending; last_words = map (last_word s ending) (held s ++ beyond s) }
+ended ending s = record s { ending = Some ending }

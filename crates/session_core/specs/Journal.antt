@@ -1,20 +1,22 @@
 -- The journal of a session: every call that changed it or might have, in order, and what the session is after them.
-use Rattle.std.specs.Prelude.{◌≡◌, ℕ, ◌≤◌, ⊤, IsTrue, length, ◌+◌, List, [], ◌∷◌, Option, Some, None, is_some, sum_by, if◌then◌else◌}
+use Rattle.std.specs.Prelude.{◌≡◌, ℕ, ◌≤◌, ⊤, All, length, ◌+◌, List, [], ◌∷◌, Option, Some, None, Ok, is_some, sum_by, if◌then◌else◌}
 use Rattle.bosh_types.specs.declared.ending.Closing.{Closing}
 use Rattle.bosh_types.specs.declared.inward.Inward.{Inward}
-use Rattle.bosh_types.specs.Rid.{IsRid}
-use Rattle.body_cutter.specs.BodyText.{IsStanza}
+use Rattle.body_cutter.specs.declared.parts.Cut.{Cut}
+use Rattle.body_cutter.specs.BodyText.{IsBody, IsStanza, IsText}
 use Rattle.session_attrs.specs.declared.request.Creation.{Creation}
 use Rattle.session_attrs.specs.declared.request.Kind.TheVariants as kinds
 use Rattle.session_attrs.specs.declared.request.Request.{Request}
+use Rattle.session_attrs.specs.Reading.{request_of}
 use Rattle.session_attrs.specs.Terms.{terms_of}
-use Rattle.session_core.specs.Answers.{fits}
+use Rattle.session_attrs.specs.Values.{values_of}
 use Rattle.session_core.specs.declared.replies.Arrived.{Arrived}
 use Rattle.session_core.specs.declared.replies.Collected.{Collected}
 use Rattle.session_core.specs.declared.replies.Collected.TheVariants as collections
 use Rattle.session_core.specs.declared.replies.Taken.{Taken}
 use Rattle.session_core.specs.declared.replies.Ticked.{Ticked}
 use Rattle.session_core.specs.Machine.{Opening, opened, greeting_of, arrive, collect, back, back_closed, tick, take_inward, body_cost, stanza_cost, plain_cost, is_full, full_with}
+use Rattle.session_core.specs.Outward.{size_of_all}
 use Rattle.session_core.specs.State.{PlainSession, is_over}
 use Rattle.session_core.specs.Time.{is_due}
 
@@ -125,15 +127,22 @@ state_of journal = after_entries (opened journal.opening) journal.entries
 abbrev pub reply_of : Journal → Call → Reply
 reply_of journal call = (step (state_of journal) call).1
 
--- a session is opened by a creation with its own terms, and with a greeting that one answer may take, XEP-0124 section 7
-pub record IsOpening (o : Opening) : Type 0 where
-  pub rid : IsRid o.request.rid
-  pub creation : (creation : Creation) × (o.request.kind ≡ kinds.Creation creation) × (o.terms ≡ terms_of creation)
-  pub greeting : IsTrue (fits (greeting_of o)) × (length o.greeting ≤ 1024)
+-- the request is what reading gives for what this body is cut into
+abbrev pub IsReadFrom : List ℕ → Request → Type 0
+IsReadFrom body request = (cut : Cut) × IsBody body cut × (request_of (values_of body cut.attrs) cut.children ≡ Ok request)
 
--- what a session is asked of each call: a copy is a request for a session, and the server gives stanzas
+-- a session is opened by a creation with its own terms, under a name and for a host that can stand in an answer, and with a
+-- greeting that one answer may take, XEP-0124 section 7
+pub record IsOpening (o : Opening) : Type 0 where
+  pub read : IsReadFrom o.body o.request
+  pub creation : (creation : Creation) × (o.request.kind ≡ kinds.Creation creation) × (o.terms ≡ terms_of creation)
+  pub sid : IsText o.sid × (1 ≤ length o.sid) × (length o.sid ≤ 64)
+  pub host : IsText o.host × (1 ≤ length o.host) × (length o.host ≤ 1023)
+  pub greeting : All IsStanza o.greeting × (length o.greeting ≤ 1024) × (size_of_all (greeting_of o) ≤ 1000000)
+
+-- what a session is asked of each call: a copy is a later request and is read from its body, and the server gives stanzas
 abbrev pub IsAllowed : Call → Type 0
-IsAllowed (Arrive request body now) = IsRid request.rid × ((sid : List ℕ) × (request.kind ≡ kinds.Later sid))
+IsAllowed (Arrive request body now) = IsReadFrom body request × ((sid : List ℕ) × (request.kind ≡ kinds.Later sid))
 IsAllowed (Collect ticket) = ⊤
 IsAllowed (Back stream stanza now) = IsStanza stanza
 IsAllowed (BackClosed stream closing now) = ⊤

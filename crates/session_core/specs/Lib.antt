@@ -9,7 +9,9 @@ pub mod Journal
 pub mod Kept
 pub mod Laws
 pub mod Machine
+pub mod Outward
 pub mod Passed
+pub mod Points
 pub mod ReadBack
 pub mod Run
 pub mod Rules

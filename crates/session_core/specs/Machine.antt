@@ -1,9 +1,10 @@
 -- The calls of a session: from the state and the call's arguments to the state after it and the reply.
-use Rattle.std.specs.Prelude.{ℕ, zero, suc, ◌+◌, ◌-◌, ◌*◌, ◌==◌, ◌&&◌, ◌||◌, Bool, true, false, not, nat_lt, nat_le, List, [], ◌∷◌, ◌++◌, map, length, sum_by, slice_get, slice_set, Option, Some, None, unwrap_or, if◌then◌else◌}
+use Rattle.std.specs.Prelude.{ℕ, zero, suc, ◌+◌, ◌-◌, ◌*◌, ◌==◌, ◌&&◌, Bool, false, not, nat_lt, nat_le, List, [], ◌∷◌, ◌++◌, map, length, slice_get, slice_set, Option, Some, None, unwrap_or, if◌then◌else◌}
 use Rattle.std.specs.List.{list_any}
 use Rattle.std.specs.Option.{option_map, option_or}
-use Rattle.bosh_types.specs.ById.{at_id}
-use Rattle.bosh_types.specs.declared.condition.Condition.TheVariants.{ItemNotFound}
+use Rattle.bosh_types.specs.Rid.{greatest_rid}
+use Rattle.bosh_types.specs.declared.condition.Condition.{Condition}
+use Rattle.bosh_types.specs.declared.condition.Condition.TheVariants.{ItemNotFound, UndefinedCondition}
 use Rattle.bosh_types.specs.declared.ending.Closing.{Closing}
 use Rattle.bosh_types.specs.declared.ending.Ending.{Ending}
 use Rattle.bosh_types.specs.declared.ending.Ending.TheVariants.{Terminated, Stale, Above, JournalFull}
@@ -18,6 +19,11 @@ use Rattle.session_attrs.specs.declared.request.Kind.TheVariants as kinds
 use Rattle.session_attrs.specs.declared.request.Request.{Request}
 use Rattle.ack_report.specs.Report.{after_request, keep_after}
 use Rattle.key_sequence.specs.Current.{current_after}
+use Rattle.session_core.specs.declared.copy.RequestCopy.{RequestCopy}
+use Rattle.session_core.specs.declared.outward.Outward.{Outward}
+use Rattle.session_core.specs.declared.outward.Outward.TheVariants.{Stanza, Close}
+use Rattle.session_core.specs.declared.place.Place.{Place}
+use Rattle.session_core.specs.declared.place.Place.TheVariants as places
 use Rattle.session_core.specs.declared.replies.Arrived.{Arrived}
 use Rattle.session_core.specs.declared.replies.Arrived.TheVariants as arrivals
 use Rattle.session_core.specs.declared.replies.Collected.{Collected}
@@ -26,14 +32,15 @@ use Rattle.session_core.specs.declared.replies.Taken.{Taken}
 use Rattle.session_core.specs.declared.replies.Taken.TheVariants as takings
 use Rattle.session_core.specs.declared.replies.Ticked.{Ticked}
 use Rattle.session_core.specs.declared.replies.Ticked.TheVariants.{Changed, Quiet}
-use Rattle.session_core.specs.Answers.{settled, size_of}
-use Rattle.session_core.specs.Copy.{Copy, id_of, is_pause, unnamed}
-use Rattle.session_core.specs.Endings.{terminal, breaker_word, ended}
+use Rattle.session_core.specs.Answers.{settled}
+use Rattle.session_core.specs.Copy.{id_of, is_pause, unnamed}
+use Rattle.session_core.specs.Endings.{terminal, last_word, ended}
 use Rattle.session_core.specs.Kept.{answer_at, keep_of, kept_of, lowest_kept}
-use Rattle.session_core.specs.Rules.{broken_rule}
-use Rattle.session_core.specs.State.{PlainSession, Answered, Outward, Stanza, Close, Parked, last_of, answered_of, beyond, standing_at, waiting, inward, is_over}
+use Rattle.session_core.specs.Outward.{OfStanzas, is_close, size_of_all}
+use Rattle.session_core.specs.Rules.{broken_rule, asked_of}
+use Rattle.session_core.specs.State.{PlainSession, Answered, Issued, TicketState, Waits, Replaced, UsedUp, last_of, answered_of, standing_at, waiting, inward, is_over}
 use Rattle.session_core.specs.Time.{time_applied, is_due}
-use Rattle.session_core.specs.Window.{Place, WasAnswered, IsOpen, IsAbove, IsNew, place_of}
+use Rattle.session_core.specs.Window.{place_of}
 
 -- The limit of a journal.
 
@@ -55,8 +62,8 @@ is_full s cost = nat_lt 16777216 (s.counted + cost)
 abbrev pub full_with : ℕ → PlainSession → PlainSession
 full_with cost s = ended (JournalFull s.counted cost) s
 
-abbrev pub count : ℕ → PlainSession → PlainSession
-count cost s = record s { counted = s.counted + cost }
+abbrev pub with_cost : ℕ → PlainSession → PlainSession
+with_cost cost s = record s { counted = s.counted + cost }
 
 -- The opening.
 
@@ -85,32 +92,33 @@ created_parts o = record {
   payloads = o.greeting;
 }
 
-abbrev pub creation_of : Opening → Copy
+abbrev pub creation_of : Opening → RequestCopy
 creation_of o = record { request = o.request; body = o.body; arrived = o.now }
 
 abbrev pub greeting_of : Opening → List Outward
 greeting_of o = map (Stanza unnamed) o.greeting
 
 abbrev pub first_answer : Opening → Answered
-first_answer o = record { rid = o.request.rid; bytes = answer_text (created_parts o); given = o.now; items = greeting_of o }
+first_answer o =
+    record { rid = o.request.rid; bytes = answer_text (created_parts o); moment = o.now; front = OfStanzas (greeting_of o) }
 
 abbrev pub opened : Opening → PlainSession
 opened o = record {
-  first = o.request.rid;
+  creation = creation_of o;
   terms = o.terms;
-  standing = creation_of o ∷ [];
-  run = creation_of o ∷ [];
+  standing = [];
+  processed = [];
   key = o.request.newkey;
   period = o.terms.inactivity;
-  answers = first_answer o ∷ [];
+  created = first_answer o;
+  answered = [];
   acknowledged = 0;
   reporting = record { on = asks_ack o.request.kind; due = None };
-  last_words = [];
   given = greeting_of o;
   tickets = [];
   now = o.now;
   last_arrival = o.now;
-  taken = 0;
+  passed = 0;
   counted = body_cost o.request o.body;
   ending = None;
 }
@@ -118,13 +126,13 @@ opened o = record {
 -- Processing in the order of ids.
 
 -- the silence that is allowed until the next copy is processed: a pause is for its seconds
-abbrev pub period_after : PlainSession → Copy → ℕ
+abbrev pub period_after : PlainSession → RequestCopy → ℕ
 period_after s copy = if is_pause copy then unwrap_or copy.request.pause s.terms.inactivity else s.terms.inactivity
 
 -- a copy that breaks no rule is processed
-abbrev pub processed : PlainSession → Copy → PlainSession
-processed s copy = record s {
-  run = s.run ++ copy ∷ [];
+abbrev pub with_copy : PlainSession → RequestCopy → PlainSession
+with_copy s copy = record s {
+  processed = s.processed ++ copy ∷ [];
   key = current_after s.key copy.request.key copy.request.newkey;
   period = period_after s copy;
   acknowledged = (keep_after s.reporting (keep_of s) copy.request.ack).acknowledged;
@@ -132,112 +140,116 @@ processed s copy = record s {
 }
 
 -- a terminate ends the session after its stanzas, XEP-0124 section 13
-abbrev pub after_processing : PlainSession → Copy → PlainSession
-after_processing s copy =
-    if copy.request.terminate then ended (Terminated (id_of copy)) (processed s copy) else processed s copy
+abbrev pub unless_terminate : PlainSession → RequestCopy → PlainSession
+unless_terminate s copy = if copy.request.terminate then ended (Terminated (id_of copy)) s else s
 
 -- the copy is processed, or ends the session by the first rule that it breaks
-abbrev pub process : PlainSession → Copy → PlainSession
-process s copy = elim (broken_rule s copy) [ Some ending ↦ ended ending s | None ↦ after_processing s copy ]
+abbrev pub process : PlainSession → RequestCopy → PlainSession
+process s copy =
+    elim (broken_rule (asked_of s) copy) [ Some ending ↦ ended ending s | None ↦ unless_terminate (with_copy s copy) copy ]
 
 -- the copy that follows the last one processed
-abbrev pub ready : PlainSession → Option Copy
-ready s = if is_over s then None else standing_at s (last_of s + 1)
+abbrev pub next_copy : PlainSession → Option RequestCopy
+next_copy s = if is_over s then None else standing_at s (last_of s + 1)
 
--- the copies that are ready are processed one after the other, at most so many
+-- the copies that follow are processed one after the other; so many ids are left
 abbrev pub advanced_in : ℕ → PlainSession → PlainSession
 advanced_in zero s = s
-advanced_in (suc count) s = elim (ready s) [ None ↦ s | Some copy ↦ advanced_in count (process s copy) ]
+advanced_in (suc ids) s = elim (next_copy s) [ None ↦ s | Some copy ↦ advanced_in ids (process s copy) ]
 
 abbrev pub advanced : PlainSession → PlainSession
-advanced s = advanced_in (length (beyond s)) s
+advanced s = advanced_in (greatest_rid - last_of s) s
 
 -- An arriving copy.
 
+-- what becomes of a ticket where a later copy comes
+abbrev pub replaced : TicketState → TicketState
+replaced Waits = Replaced
+replaced Replaced = Replaced
+replaced UsedUp = UsedUp
+
 -- older copies of the id wait no longer
-abbrev pub superseded : ℕ → Parked → Parked
-superseded rid ticket = record ticket { superseded = ticket.superseded || (ticket.rid == rid) }
+abbrev pub replace : ℕ → Issued → Issued
+replace rid ticket = if ticket.rid == rid then record ticket { state = replaced ticket.state } else ticket
 
 -- tickets count from 1
 abbrev pub wait_at : PlainSession → ℕ → PlainSession × Arrived
-wait_at s rid = (
-  record s { tickets = s.tickets ++ record { rid = rid; superseded = false; collected = false } ∷ [] },
-  arrivals.Parked (length s.tickets + 1),
-)
+wait_at s rid =
+    (record s { tickets = s.tickets ++ record { rid = rid; state = Waits } ∷ [] }, arrivals.Parked (suc (length s.tickets)))
 
 -- what the id was given, as an answer or at the ending
 abbrev pub bytes_for : PlainSession → ℕ → Option (List ℕ)
-bytes_for s rid = option_or (option_map (λ answer. answer.bytes) (answer_at s rid)) (at_id s.last_words rid)
+bytes_for s rid =
+    option_or (option_map (λ answer. answer.bytes) (answer_at s rid)) (option_map (λ ending. last_word s ending rid) s.ending)
 
 -- a copy is answered where its id is answered in this call, and waits otherwise
 abbrev pub replied : PlainSession → ℕ → PlainSession × Arrived
 replied s rid = elim (bytes_for s rid) [ Some bytes ↦ (s, arrivals.Answer bytes) | None ↦ wait_at s rid ]
 
--- a copy that isn't open ends the session
-abbrev pub refused : Ending → PlainSession → PlainSession × Arrived
-refused ending s = (ended ending s, arrivals.Answer (answer_text (breaker_word ending)))
+-- a copy that finds no place ends the session, and is told this condition
+abbrev pub refused : Condition → Ending → PlainSession → PlainSession × Arrived
+refused condition ending s = (ended ending s, arrivals.Answer (answer_text (terminal (Some condition))))
 
 -- an answered id gets the same bytes again while they are kept
 abbrev pub repeated : PlainSession → ℕ → Option KeptAnswer → PlainSession × Arrived
 repeated s rid (Some answer) = (s, arrivals.Answer answer.bytes)
-repeated s rid None = refused (Stale rid (lowest_kept s)) s
+repeated s rid None = refused ItemNotFound (Stale rid (lowest_kept s)) s
 
 -- an open id has its copy already, and this one only takes the place of the request that waits
 abbrev pub reopened : PlainSession → ℕ → PlainSession × Arrived
-reopened s rid = wait_at (record s { tickets = map (superseded rid) s.tickets; last_arrival = s.now }) rid
+reopened s rid = wait_at (record s { tickets = map (replace rid) s.tickets; last_arrival = s.now }) rid
 
 -- the copy stands for its id from now on
-abbrev pub placed : PlainSession → Copy → PlainSession
+abbrev pub placed : PlainSession → RequestCopy → PlainSession
 placed s copy = record s { standing = s.standing ++ copy ∷ []; last_arrival = s.now }
 
-abbrev pub arrived_at : PlainSession → Copy → Place → PlainSession × Arrived
-arrived_at s copy WasAnswered = repeated s (id_of copy) (kept_of s (id_of copy))
-arrived_at s copy IsOpen = reopened s (id_of copy)
-arrived_at s copy IsAbove = refused (Above (id_of copy) (last_of s) s.terms.requests) s
-arrived_at s copy IsNew = replied (settled (advanced (placed s copy))) (id_of copy)
+abbrev pub arrived_at : PlainSession → RequestCopy → Place → PlainSession × Arrived
+arrived_at s copy places.Answered = repeated s (id_of copy) (kept_of s (id_of copy))
+arrived_at s copy places.Open = reopened s (id_of copy)
+arrived_at s copy places.Above = refused ItemNotFound (Above (id_of copy) (last_of s) s.terms.requests) s
+arrived_at s copy places.New = replied (settled (advanced (placed s copy))) (id_of copy)
+
+-- the copy that arrives now
+abbrev pub copy_now : PlainSession → Request → List ℕ → RequestCopy
+copy_now s request body = record { request = request; body = body; arrived = s.now }
 
 -- once time was applied; where that ended the session, the copy is told so
 abbrev pub arrived_in_time : PlainSession → Request → List ℕ → PlainSession × Arrived
 arrived_in_time s request body =
     if is_over s then (s, arrivals.Answer (answer_text (terminal (Some ItemNotFound))))
-    else arrived_at s (record { request = request; body = body; arrived = s.now })
-    (place_of s (record { request = request; body = body; arrived = s.now }))
+    else arrived_at s (copy_now s request body) (place_of s (copy_now s request body))
 
 abbrev pub arrive : PlainSession → Request → List ℕ → ℕ → PlainSession × Arrived
 arrive s request body now =
     if is_over s then (s, arrivals.Over)
-    else if is_full s (body_cost request body) then refused (JournalFull s.counted (body_cost request body)) s
-    else arrived_in_time (count (body_cost request body) (time_applied s now)) request body
+    else if is_full s (body_cost request body) then refused UndefinedCondition (JournalFull s.counted (body_cost request body)) s
+    else arrived_in_time (with_cost (body_cost request body) (time_applied s now)) request body
 
 -- Collecting.
 
-abbrev pub mark_collected : PlainSession → ℕ → Parked → PlainSession
-mark_collected s ticket parked = record s { tickets = slice_set s.tickets (ticket - 1) (record parked { collected = true }) }
+abbrev pub use_up : PlainSession → ℕ → Issued → PlainSession
+use_up s index ticket = record s { tickets = slice_set s.tickets index (record ticket { state = UsedUp }) }
 
-abbrev pub collected_bytes : PlainSession → ℕ → Parked → Option (List ℕ) → PlainSession × Collected
-collected_bytes s ticket parked None = (s, collections.NotYet)
-collected_bytes s ticket parked (Some bytes) = (mark_collected s ticket parked, collections.Answer bytes)
+abbrev pub collected_bytes : PlainSession → ℕ → Issued → Option (List ℕ) → PlainSession × Collected
+collected_bytes s index ticket None = (s, collections.NotYet)
+collected_bytes s index ticket (Some bytes) = (use_up s index ticket, collections.Answer bytes)
 
 -- a copy whose place was taken is told so, even where its id was answered since
-abbrev pub collected_from : PlainSession → ℕ → Option Parked → PlainSession × Collected
-collected_from s ticket None = (s, collections.UnknownTicket)
-collected_from s ticket (Some parked) =
-    if parked.collected then (s, collections.UnknownTicket)
-    else if parked.superseded then (mark_collected s ticket parked, collections.Superseded)
-    else collected_bytes s ticket parked (bytes_for s parked.rid)
+abbrev pub collected_by : PlainSession → ℕ → Issued → TicketState → PlainSession × Collected
+collected_by s index ticket Waits = collected_bytes s index ticket (bytes_for s ticket.rid)
+collected_by s index ticket Replaced = (use_up s index ticket, collections.Superseded)
+collected_by s index ticket UsedUp = (s, collections.UnknownTicket)
 
-abbrev pub ticket_at : PlainSession → ℕ → Option Parked
-ticket_at s zero = None
-ticket_at s (suc number) = slice_get s.tickets number
+abbrev pub collected_from : PlainSession → ℕ → Option Issued → PlainSession × Collected
+collected_from s index None = (s, collections.UnknownTicket)
+collected_from s index (Some ticket) = collected_by s index ticket ticket.state
 
+-- ticket 1 is the first that was handed out, and none is ticket 0
 abbrev pub collect : PlainSession → ℕ → PlainSession × Collected
-collect s ticket = collected_from s ticket (ticket_at s ticket)
+collect s zero = (s, collections.UnknownTicket)
+collect s (suc index) = collected_from s index (slice_get s.tickets index)
 
 -- The server's side.
-
-abbrev pub is_close : Outward → Bool
-is_close (Stanza stream bytes) = false
-is_close (Close stream closing) = true
 
 -- the stream is the session's, and the server didn't close it
 abbrev pub takes_items : PlainSession → ℕ → Bool
@@ -246,15 +258,15 @@ takes_items s stream = (not (is_over s) && (stream == unnamed)) && not (list_any
 -- 1024 items or 4,194,304 bytes may wait
 abbrev pub has_room : PlainSession → List ℕ → Bool
 has_room s stanza =
-    nat_lt (length (waiting s)) 1024 && nat_le (sum_by size_of (waiting s) + length stanza) 4194304
+    nat_lt (length (waiting s)) 1024 && nat_le (size_of_all (waiting s) + length stanza) 4194304
 
-abbrev pub taken_item : PlainSession → Outward → PlainSession × Taken
-taken_item s item = (settled (record s { given = s.given ++ item ∷ [] }), takings.Done)
+abbrev pub with_item : PlainSession → Outward → PlainSession × Taken
+with_item s item = (settled (record s { given = s.given ++ item ∷ [] }), takings.Done)
 
 abbrev pub back_in_time : PlainSession → ℕ → List ℕ → PlainSession × Taken
 back_in_time s stream stanza =
     if not (takes_items s stream) then (s, takings.Over)
-    else if has_room s stanza then taken_item s (Stanza stream stanza)
+    else if has_room s stanza then with_item s (Stanza stream stanza)
     else (s, takings.Full)
 
 -- a stanza of the server
@@ -262,30 +274,30 @@ abbrev pub back : PlainSession → ℕ → List ℕ → ℕ → PlainSession × 
 back s stream stanza now =
     if is_over s then (s, takings.Over)
     else if is_full s (stanza_cost stanza) then (full_with (stanza_cost stanza) s, takings.Over)
-    else back_in_time (count (stanza_cost stanza) (time_applied s now)) stream stanza
+    else back_in_time (with_cost (stanza_cost stanza) (time_applied s now)) stream stanza
 
 abbrev pub closed_in_time : PlainSession → ℕ → Closing → PlainSession × Taken
 closed_in_time s stream closing =
-    if takes_items s stream then taken_item s (Close stream closing) else (s, takings.Over)
+    if takes_items s stream then with_item s (Close stream closing) else (s, takings.Over)
 
 -- the server closes a stream
 abbrev pub back_closed : PlainSession → ℕ → Closing → ℕ → PlainSession × Taken
 back_closed s stream closing now =
     if is_over s then (s, takings.Over)
     else if is_full s plain_cost then (full_with plain_cost s, takings.Over)
-    else closed_in_time (count plain_cost (time_applied s now)) stream closing
+    else closed_in_time (with_cost plain_cost (time_applied s now)) stream closing
 
 -- time passes; a moment at which nothing is due changes nothing
 abbrev pub tick : PlainSession → ℕ → PlainSession × Ticked
 tick s now =
     if not (is_due s now) then (s, Quiet)
     else if is_full s plain_cost then (full_with plain_cost s, Changed)
-    else (count plain_cost (time_applied s now), Changed)
+    else (with_cost plain_cost (time_applied s now), Changed)
 
-abbrev pub taken_inward : PlainSession → Option Inward → PlainSession × Option Inward
-taken_inward s None = (s, None)
-taken_inward s (Some item) = (record s { taken = s.taken + 1 }, Some item)
+abbrev pub passed_on : PlainSession → Option Inward → PlainSession × Option Inward
+passed_on s None = (s, None)
+passed_on s (Some item) = (record s { passed = s.passed + 1 }, Some item)
 
 -- the next inward item
 abbrev pub take_inward : PlainSession → PlainSession × Option Inward
-take_inward s = taken_inward s (slice_get (inward s) s.taken)
+take_inward s = passed_on s (slice_get (inward s) s.passed)

@@ -8,8 +8,11 @@ use Rattle.session_core.specs.declared.replies.Taken.TheVariants as takings
 use Rattle.session_core.specs.Copy.{unnamed}
 use Rattle.session_core.specs.Journal.{Arrive, Collect, Back, BackClosed, Tick, TakeInward, Entered, Made, Limit, Journal}
 use Rattle.session_core.specs.Machine.{back, back_closed}
-use Rattle.session_core.specs.Run.{points_of, run_of}
-use Rattle.session_core.specs.State.{PlainSession, Outward, Stanza, Close, items_of_all}
+use Rattle.session_core.specs.declared.outward.Outward.{Outward}
+use Rattle.session_core.specs.declared.outward.Outward.TheVariants.{Stanza, Close}
+use Rattle.session_core.specs.Points.{points_of}
+use Rattle.session_core.specs.Run.{run_of}
+use Rattle.session_core.specs.State.{PlainSession, items_of_all}
 
 abbrev pub stream_of : Inward → ℕ
 stream_of (Item stream stanza) = stream
@@ -19,18 +22,19 @@ stream_of (Restart stream) = stream
 abbrev pub inward_of : Journal → ℕ → List Inward
 inward_of journal stream = filter (λ item. stream_of item == stream) (items_of_all (run_of journal))
 
-abbrev pub takes : Entered → ℕ
-takes (Made (Arrive request body now)) = 0
-takes (Made (Collect ticket)) = 0
-takes (Made (Back stream stanza now)) = 0
-takes (Made (BackClosed stream closing now)) = 0
-takes (Made (Tick now)) = 0
-takes (Made TakeInward) = 1
-takes (Limit kind cost now) = 0
+-- whether an inward item is passed on
+abbrev pub passes : Entered → ℕ
+passes (Made (Arrive request body now)) = 0
+passes (Made (Collect ticket)) = 0
+passes (Made (Back stream stanza now)) = 0
+passes (Made (BackClosed stream closing now)) = 0
+passes (Made (Tick now)) = 0
+passes (Made TakeInward) = 1
+passes (Limit kind cost now) = 0
 
--- what was passed on to the server: as many inward items from the front as were taken
+-- what was passed on to the server: one inward item from the front with each entry that took one
 abbrev pub passed_of : Journal → List Inward
-passed_of journal = take (sum_by (λ entry. takes entry.entered) journal.entries) (items_of_all (run_of journal))
+passed_of journal = take (sum_by (λ entry. passes entry.entered) journal.entries) (items_of_all (run_of journal))
 
 abbrev pub if_done : Outward → Taken → Option Outward
 if_done item takings.Done = Some item

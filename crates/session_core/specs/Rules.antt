@@ -1,15 +1,15 @@
 -- What a copy breaks when it is processed, once it and all lower ids have come.
-use Rattle.std.specs.Prelude.{ℕ, ◌&&◌, ◌==◌, Bool, false, nat_lt, List, [], ◌∷◌, length, Option, Some, None, is_some, if◌then◌else◌}
-use Rattle.std.specs.List.{last_or}
-use Rattle.std.specs.Option.{option_map_or}
+use Rattle.std.specs.Prelude.{ℕ, ◌&&◌, ◌==◌, Bool, false, nat_lt, List, [], ◌∷◌, length, drop, Option, Some, None, is_some, if◌then◌else◌}
 use Rattle.bosh_types.specs.declared.ending.Ending.{Ending}
 use Rattle.bosh_types.specs.declared.ending.Ending.TheVariants.{WrongKey, UnknownStream, PauseTooLong, Overactive}
+use Rattle.bosh_types.specs.declared.terms.Terms.{Terms}
 use Rattle.key_sequence.specs.Current.{fits}
 use Rattle.pause_rules.specs.declared.mark.Mark.{Mark}
 use Rattle.pause_rules.specs.Overactive.{apart, is_overactive}
-use Rattle.session_core.specs.Copy.{Copy, id_of, is_empty, is_pause}
-use Rattle.session_core.specs.Kept.{answer_at, bytes_in}
-use Rattle.session_core.specs.State.{PlainSession, held}
+use Rattle.session_core.specs.declared.copy.RequestCopy.{RequestCopy}
+use Rattle.session_core.specs.Copy.{id_of, is_empty, is_pause}
+use Rattle.session_core.specs.Outward.{items_in, stanzas_in}
+use Rattle.session_core.specs.State.{PlainSession, Answered, last_from, last_answer}
 
 pub data Rule : Type 0 where
   Keys : Rule
@@ -17,40 +17,60 @@ pub data Rule : Type 0 where
   Pauses : Rule
   Activity : Rule
 
--- the answer of the id was given, and took nothing
-abbrev pub is_bare : PlainSession → ℕ → Bool
-is_bare s rid = option_map_or (λ answer. length (bytes_in answer.items) == 0) (answer_at s rid) false
+-- what the rules ask of a session: the current key, the terms, how many requests are held, and what is to be known of the
+-- copy with the id before
+pub record Asks : Type 0 where
+  pub key : Option (List ℕ)
+  pub terms : Terms
+  pub held : ℕ
+  pub prior : Mark
 
--- what the rule on activity asks of a copy
-abbrev pub mark_of : PlainSession → Copy → Mark
-mark_of s copy = record {
-  arrived = copy.arrived;
-  empty = is_empty copy;
-  creation = id_of copy == s.first;
-  bare = is_bare s (id_of copy);
+-- the answer took nothing
+abbrev pub is_bare : Answered → Bool
+is_bare answer = length (stanzas_in (items_in answer.front)) == 0
+
+-- what the rule on activity asks of the copy that is tested
+abbrev pub mark_of : RequestCopy → Mark
+mark_of copy = record { arrived = copy.arrived; empty = is_empty copy; creation = false; bare = false }
+
+-- what it asks of the last of the copies that were processed, of which these are not answered
+abbrev pub prior_mark : PlainSession → List RequestCopy → List RequestCopy → Mark
+prior_mark s processed held = record {
+  arrived = (last_from s.creation processed).arrived;
+  empty = is_empty (last_from s.creation processed);
+  creation = length processed == 0;
+  bare = (length held == 0) && is_bare (last_answer s);
 }
 
--- the copy with the id before the next one
-abbrev pub prior_of : PlainSession → Copy → Copy
-prior_of s copy = option_map_or (λ prior. prior) (last_or None s.run) copy
+-- what is asked where this key is the current one and these copies were processed
+abbrev pub asked_with : PlainSession → Option (List ℕ) → List RequestCopy → Asks
+asked_with s key processed = record {
+  key = key;
+  terms = s.terms;
+  held = length (drop (length s.answered) processed);
+  prior = prior_mark s processed (drop (length s.answered) processed);
+}
+
+abbrev pub asked_of : PlainSession → Asks
+asked_of s = asked_with s s.key s.processed
 
 -- a pause of more seconds than the session allows
-abbrev pub pause_breaks : PlainSession → Copy → Option ℕ → Option Ending
-pause_breaks s copy None = None
-pause_breaks s copy (Some seconds) =
-    if is_pause copy && nat_lt s.terms.maxpause seconds
-    then Some (PauseTooLong (id_of copy) seconds s.terms.maxpause)
+abbrev pub pause_breaks : Asks → RequestCopy → Option ℕ → Option Ending
+pause_breaks asks copy None = None
+pause_breaks asks copy (Some seconds) =
+    if is_pause copy && nat_lt asks.terms.maxpause seconds
+    then Some (PauseTooLong (id_of copy) seconds asks.terms.maxpause)
     else None
 
 -- how it breaks each rule: a key that doesn't lead to the current one (XEP-0124 section 15.4), a stream that isn't open
 -- (section 16), a pause that is too long (section 10), an empty request too soon after the one before it (sections 11, 12)
-abbrev pub breaks : PlainSession → Copy → Rule → Option Ending
-breaks s copy Keys = if fits s.key copy.request.key then None else Some (WrongKey (id_of copy))
-breaks s copy Streams = if is_some copy.request.stream then Some (UnknownStream (id_of copy)) else None
-breaks s copy Pauses = pause_breaks s copy copy.request.pause
-breaks s copy Activity =
-    if is_overactive s.terms (length (held s)) (mark_of s copy) (mark_of s (prior_of s copy))
-    then Some (Overactive (id_of copy) (apart (mark_of s copy) (mark_of s (prior_of s copy))))
+abbrev pub breaks : Asks → RequestCopy → Rule → Option Ending
+breaks asks copy Keys = if fits asks.key copy.request.key then None else Some (WrongKey (id_of copy))
+breaks asks copy Streams = if is_some copy.request.stream then Some (UnknownStream (id_of copy)) else None
+breaks asks copy Pauses = pause_breaks asks copy copy.request.pause
+breaks asks copy Activity =
+    if is_overactive asks.terms asks.held (mark_of copy) asks.prior
+    then Some (Overactive (id_of copy) (apart (mark_of copy) asks.prior))
     else None
 
 -- the rules in their order
@@ -58,9 +78,10 @@ abbrev pub rules : List Rule
 rules = Keys ∷ Streams ∷ Pauses ∷ Activity ∷ []
 
 -- the ending by the first rule that the copy breaks
-abbrev pub first_broken : PlainSession → Copy → List Rule → Option Ending
-first_broken s copy [] = None
-first_broken s copy (rule ∷ others) = elim (breaks s copy rule) [ Some ending ↦ Some ending | None ↦ first_broken s copy others ]
+abbrev pub first_broken : Asks → RequestCopy → List Rule → Option Ending
+first_broken asks copy [] = None
+first_broken asks copy (rule ∷ others) =
+    elim (breaks asks copy rule) [ Some ending ↦ Some ending | None ↦ first_broken asks copy others ]
 
-abbrev pub broken_rule : PlainSession → Copy → Option Ending
-broken_rule s copy = first_broken s copy rules
+abbrev pub broken_rule : Asks → RequestCopy → Option Ending
+broken_rule asks copy = first_broken asks copy rules

@@ -1,114 +1,128 @@
+<<<<<<< HEAD
+-- The run of a journal in the subject's own words (XEP-0124 section 14.1): of which copies it is made, and where it stops. It
+-- knows no window, no buffer and no order of processing.
+use Rattle.std.specs.Prelude.{◌≡◌, ◌≢◌, ℕ, ◌+◌, ◌≤◌, true, false, max, List, [], ◌∷◌, ◌++◌, All, length, take, Option, Some, None, slice_get}
+use Rattle.bosh_types.specs.declared.ending.Ending.{Ending}
+=======
 -- The run, as a search of the whole journal: which copy stands for each id, and how far they go on without a gap
--- (XEP-0124 section 14.1). It knows no window, no buffer and no order of processing.
+-- (XEP-0124 section 14.2). It knows no window, no buffer and no order of processing.
 use Rattle.std.specs.Prelude.{ℕ, zero, suc, ◌+◌, ◌==◌, Bool, List, [], ◌∷◌, ◌++◌, length, drop, Option, Some, None, is_some, if◌then◌else◌}
 use Rattle.std.specs.List.{find, filter_map, list_all, range_with_len}
+>>>>>>> h1
 use Rattle.key_sequence.specs.Current.{current_after}
-use Rattle.session_core.specs.Copy.{Copy, id_of}
-use Rattle.session_core.specs.Journal.{Arrive, Collect, Back, BackClosed, Tick, TakeInward, Entered, Made, Limit, Entry, Journal, after_entry}
-use Rattle.session_core.specs.Machine.{opened, creation_of}
-use Rattle.session_core.specs.Rules.{broken_rule}
-use Rattle.session_core.specs.State.{PlainSession, is_over}
-use Rattle.session_core.specs.Time.{time_applied}
-use Rattle.session_core.specs.Window.{Place, WasAnswered, IsOpen, IsAbove, IsNew, place_of}
+use Rattle.session_core.specs.declared.copy.RequestCopy.{RequestCopy}
+use Rattle.session_core.specs.Copy.{id_of}
+use Rattle.session_core.specs.Journal.{Arrive, Collect, Back, BackClosed, Tick, TakeInward, Entered, Made, Limit, Entry, Journal, after_entries, state_of}
+use Rattle.session_core.specs.Machine.{Opening, opened, creation_of}
+use Rattle.session_core.specs.Points.{tested_at}
+use Rattle.session_core.specs.Rules.{asked_with, broken_rule}
+use Rattle.session_core.specs.State.{PlainSession, run, is_over}
 
--- an entry, and the state at its place: that after the entries before it
-pub record Point : Type 0 where
-  pub before : PlainSession
-  pub entered : Entered
+-- the greatest moment once this was entered
+abbrev pub moment_after : ℕ → Entered → ℕ
+moment_after moment (Made (Arrive request body now)) = max moment now
+moment_after moment (Made (Collect ticket)) = moment
+moment_after moment (Made (Back stream stanza now)) = max moment now
+moment_after moment (Made (BackClosed stream closing now)) = max moment now
+moment_after moment (Made (Tick now)) = max moment now
+moment_after moment (Made TakeInward) = moment
+moment_after moment (Limit kind cost now) = moment
 
-abbrev pub points_from : PlainSession → List Entry → List Point
-points_from s [] = []
-points_from s (entry ∷ entries) = record { before = s; entered = entry.entered } ∷ points_from (after_entry s entry.entered) entries
+-- what arrived with an entry, at that moment
+abbrev pub arrival_in : ℕ → Entered → List RequestCopy
+arrival_in moment (Made (Arrive request body now)) = record { request = request; body = body; arrived = max moment now } ∷ []
+arrival_in moment (Made (Collect ticket)) = []
+arrival_in moment (Made (Back stream stanza now)) = []
+arrival_in moment (Made (BackClosed stream closing now)) = []
+arrival_in moment (Made (Tick now)) = []
+arrival_in moment (Made TakeInward) = []
+arrival_in moment (Limit kind cost now) = []
 
-abbrev pub points_of : Journal → List Point
-points_of journal = points_from (opened journal.opening) journal.entries
+abbrev pub arrivals_from : ℕ → List Entry → List RequestCopy
+arrivals_from moment [] = []
+arrivals_from moment (entry ∷ entries) =
+    arrival_in moment entry.entered ++ arrivals_from (moment_after moment entry.entered) entries
 
--- the state that tests the call of a point: that before it, once time was applied
-abbrev pub tested_at : PlainSession → Entered → PlainSession
-tested_at s (Made (Arrive request body now)) = time_applied s now
-tested_at s (Made (Collect ticket)) = s
-tested_at s (Made (Back stream stanza now)) = time_applied s now
-tested_at s (Made (BackClosed stream closing now)) = time_applied s now
-tested_at s (Made (Tick now)) = time_applied s now
-tested_at s (Made TakeInward) = s
-tested_at s (Limit kind cost now) = s
+-- the run of a journal's session
+abbrev pub run_of : Journal → List RequestCopy
+run_of journal = run (state_of journal)
 
-abbrev pub tested : Point → PlainSession
-tested point = tested_at point.before point.entered
+-- everything that arrived, in that order: the creation, and each copy after it
+abbrev pub arrivals_with : Opening → List Entry → List RequestCopy
+arrivals_with o entries = creation_of o ∷ arrivals_from o.now entries
 
--- the copy stands where its id is new there, and the session goes on
-abbrev pub if_new : PlainSession → Copy → Place → Option Copy
-if_new s copy WasAnswered = None
-if_new s copy IsOpen = None
-if_new s copy IsAbove = None
-if_new s copy IsNew = if is_over s then None else Some copy
+abbrev pub arrivals_of : Journal → List RequestCopy
+arrivals_of journal = arrivals_with journal.opening journal.entries
 
-abbrev pub copy_of : PlainSession → Entered → Option Copy
-copy_of s (Made (Arrive request body now)) =
-    if_new s (record { request = request; body = body; arrived = s.now }) (place_of s (record { request = request; body = body; arrived = s.now }))
-copy_of s (Made (Collect ticket)) = None
-copy_of s (Made (Back stream stanza now)) = None
-copy_of s (Made (BackClosed stream closing now)) = None
-copy_of s (Made (Tick now)) = None
-copy_of s (Made TakeInward) = None
-copy_of s (Limit kind cost now) = None
+-- the copy arrived with this id, and nothing had arrived with it before
+abbrev pub IsFirstCopy : List RequestCopy → ℕ → RequestCopy → Type 0
+IsFirstCopy arrivals rid copy =
+    (id_of copy ≡ rid) × (before : List RequestCopy) × (after : List RequestCopy)
+    × (arrivals ≡ before ++ copy ∷ after) × All (λ other. id_of other ≢ rid) before
 
--- the copy that a point brought, where it passed each test of an arriving copy at its place
-abbrev pub brought : Point → Option Copy
-brought point = copy_of (tested point) point.entered
+-- the copies have the ids from the first one on, and each is the first that arrived with its id
+abbrev pub IsRun : ℕ → List RequestCopy → List RequestCopy → Type 0
+IsRun first arrivals run =
+    (k : ℕ) (copy : RequestCopy) → slice_get run k ≡ Some copy → IsFirstCopy arrivals (first + k) copy
 
--- all copies that stand after these points, the creation first
-abbrev pub standing_after : Journal → List Point → List Copy
-standing_after journal points = creation_of journal.opening ∷ filter_map brought points
+abbrev pub HasNot : List RequestCopy → ℕ → Type 0
+HasNot arrivals rid = All (λ copy. id_of copy ≢ rid) arrivals
 
--- the copy that stands for an id
-abbrev pub stands_in : List Copy → ℕ → Option Copy
-stands_in copies rid = find (λ copy. id_of copy == rid) copies
+-- the longest unbroken run of the ids that arrived: it is the run of a session that goes on
+pub record IsLongestRun (first : ℕ) (arrivals run : List RequestCopy) : Type 0 where
+  pub each : IsRun first arrivals run
+  pub ends : HasNot arrivals (first + length run)
 
-abbrev pub stands : Journal → ℕ → Option Copy
-stands journal rid = stands_in (standing_after journal (points_of journal)) rid
-
--- so many ids from the first one on have their copies
-abbrev pub all_stand : List Copy → ℕ → ℕ → Bool
-all_stand copies first count = list_all (λ rid. is_some (stands_in copies rid)) (range_with_len first count)
-
--- the state at the first point after which so many ids have their copies: it tests the last of them
-abbrev pub first_with : Journal → ℕ → List Point → List Point → PlainSession
-first_with journal count before [] = opened journal.opening
-first_with journal count before (point ∷ points) =
-    if all_stand (standing_after journal (before ++ point ∷ [])) journal.opening.request.rid count then tested point
-    else first_with journal count (before ++ point ∷ []) points
-
-abbrev pub tester : Journal → ℕ → PlainSession
-tester journal count = first_with journal count [] (points_of journal)
+-- The run of a session that has ended: it stops before a copy that broke a rule, and after a terminate.
 
 -- the key that these copies leave as the current one
-abbrev pub key_after : Option (List ℕ) → List Copy → Option (List ℕ)
+abbrev pub key_after : Option (List ℕ) → List RequestCopy → Option (List ℕ)
 key_after key [] = key
 key_after key (copy ∷ copies) = key_after (current_after key copy.request.key copy.request.newkey) copies
 
--- the state that tests a copy, once all of lower ids were processed
-abbrev pub tester_after : Journal → List Copy → PlainSession
-tester_after journal lower =
-    record (tester journal (length lower + 1)) { run = lower; key = key_after journal.opening.request.newkey (drop 1 lower) }
+-- with this entry the session had every id of these copies and the next one, and before it not
+pub record Completes (o : Opening) (before : List Entry) (entry : Entry) (lower : List RequestCopy) : Type 0 where
+  pub arrived : (k : ℕ) → k ≤ length lower → HasNot (arrivals_with o (before ++ entry ∷ [])) (o.request.rid + 1 + k) → ⊥
+  pub not_yet : (k : ℕ) × (k ≤ length lower) × HasNot (arrivals_with o before) (o.request.rid + 1 + k)
 
--- the copy breaks a rule where it follows these
-abbrev pub breaks_after : Journal → List Copy → Copy → Bool
-breaks_after journal lower copy = is_some (broken_rule (tester_after journal lower) copy)
+-- the state at which an entry's call is tested
+abbrev pub state_testing : Opening → List Entry → Entry → PlainSession
+state_testing o before entry = tested_at (after_entries (opened o) before) entry.entered
 
--- the run, once these copies are in it: it ends before an id without a copy, before a copy that breaks a rule, and after a
--- terminate; so many ids are left
-abbrev pub run_with : ℕ → Journal → List Copy → List Copy
-run_with zero journal lower = lower
-run_with (suc ids) journal lower =
-    elim (stands journal (journal.opening.request.rid + length lower)) [
-      | None ↦ lower
-      | Some copy ↦
-          if breaks_after journal lower copy then lower
-          else if copy.request.terminate then lower ++ copy ∷ []
-          else run_with ids journal (lower ++ copy ∷ [])
-    ]
+-- what the rules make of the copy that follows these, which follow the creation: it is tested with the entry by which it and
+-- all lower ids had come
+abbrev pub IsJudged : Journal → List RequestCopy → RequestCopy → Option Ending → Type 0
+IsJudged journal lower copy verdict =
+    (before : List Entry) × (entry : Entry) × (after : List Entry) × (journal.entries ≡ before ++ entry ∷ after)
+    × Completes journal.opening before entry lower
+    × (broken_rule (asked_with (state_testing journal.opening before entry) (key_after journal.opening.request.newkey lower) lower) copy ≡ verdict)
 
--- the longest list of standing copies of consecutive ids, from the creation on
-abbrev pub run_of : Journal → List Copy
-run_of journal = run_with (length journal.entries) journal (creation_of journal.opening ∷ [])
+-- each copy after the creation broke no rule, and only the last may be a terminate
+pub record KeepsRules (journal : Journal) (later : List RequestCopy) : Type 0 where
+  pub judged : (k : ℕ) (copy : RequestCopy) → slice_get later k ≡ Some copy → IsJudged journal (take k later) copy None
+  pub terminate : (k : ℕ) (copy : RequestCopy) → slice_get later k ≡ Some copy → copy.request.terminate ≡ true → k + 1 ≡ length later
+
+-- the entry that ended the session
+pub record IsLast (o : Opening) (before : List Entry) (entry : Entry) : Type 0 where
+  pub goes_on : is_over (after_entries (opened o) before) ≡ false
+  pub ends : is_over (after_entries (opened o) (before ++ entry ∷ [])) ≡ true
+
+-- why the run of a session that has ended goes no further than these copies, which follow the creation
+pub data Stops (journal : Journal) (later : List RequestCopy) : Type 0 where
+  -- the last of them is a terminate
+  AtTerminate : (before : List RequestCopy) (copy : RequestCopy) → later ≡ before ++ copy ∷ [] → copy.request.terminate ≡ true → Stops journal later
+  -- the copy that follows them broke a rule
+  AtBreaker : (copy : RequestCopy) (ending : Ending) → IsFirstCopy (arrivals_of journal) (journal.opening.request.rid + 1 + length later) copy
+      → IsJudged journal later copy (Some ending) → Stops journal later
+  -- nothing came with the id that follows them, before the session ended
+  AtEnd : (before : List Entry) (entry : Entry) (after : List Entry) → journal.entries ≡ before ++ entry ∷ after
+      → IsLast journal.opening before entry → HasNot (arrivals_with journal.opening before) (journal.opening.request.rid + 1 + length later)
+      → (is_over (state_testing journal.opening before entry) ≡ false
+      → HasNot (arrivals_with journal.opening (before ++ entry ∷ [])) (journal.opening.request.rid + 1 + length later))
+      → Stops journal later
+
+-- the run of a session that has ended, from the creation on
+pub record IsRunAtEnd (journal : Journal) (later : List RequestCopy) : Type 0 where
+  pub each : IsRun journal.opening.request.rid (arrivals_of journal) (creation_of journal.opening ∷ later)
+  pub rules : KeepsRules journal later
+  pub stops : Stops journal later

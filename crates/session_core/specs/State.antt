@@ -1,94 +1,122 @@
 -- The plain state of a session: full lists, from which nothing is ever taken.
-use Rattle.std.specs.Prelude.{ℕ, ◌+◌, ◌-◌, ◌==◌, Bool, nat_lt, List, [], ◌∷◌, ◌++◌, length, drop, sum_by, Option, filter, is_some}
-use Rattle.std.specs.List.{find}
-use Rattle.bosh_types.specs.declared.ending.Closing.{Closing}
+use Rattle.std.specs.Prelude.{ℕ, ◌+◌, Bool, nat_lt, List, [], ◌∷◌, ◌++◌, map, length, drop, sum_by, Option, filter, is_some}
+use Rattle.bosh_types.specs.ById.{at_id}
 use Rattle.bosh_types.specs.declared.ending.Ending.{Ending}
 use Rattle.bosh_types.specs.declared.inward.Inward.{Inward}
 use Rattle.bosh_types.specs.declared.terms.Terms.{Terms}
 use Rattle.ack_report.specs.Reporting.{Reporting}
-use Rattle.session_core.specs.Copy.{Copy, id_of, items_of}
+use Rattle.session_core.specs.declared.copy.RequestCopy.{RequestCopy}
+use Rattle.session_core.specs.declared.outward.Outward.{Outward}
+use Rattle.session_core.specs.declared.replies.Waiting.{Waiting}
+use Rattle.session_core.specs.Copy.{id_of, with_id, items_of}
+use Rattle.session_core.specs.Outward.{Front, items_in, size_of_all}
 
--- what the server gives on a stream: a stanza, or that it closed the stream
-pub data Outward : Type 0 where
-  Stanza : ℕ → List ℕ → Outward
-  Close : ℕ → Closing → Outward
-
--- an answer that was given: its id and bytes, when it was given, and the server's items that it took
+-- an answer that was given: its id and bytes, when it was given, and what it took of the server's items
 pub record Answered : Type 0 where
   pub rid : ℕ
   pub bytes : List ℕ
-  pub given : ℕ
-  pub items : List Outward
+  pub moment : ℕ
+  pub front : Front
 
--- what was handed out for a request that waits: its id, whether a later copy took its place, whether it was collected
-pub record Parked : Type 0 where
+-- its request waits for the answer; a later copy took its place; it was used up
+pub data TicketState : Type 0 where
+  Waits : TicketState
+  Replaced : TicketState
+  UsedUp : TicketState
+
+-- a ticket that was handed out, with the id of its request
+pub record Issued : Type 0 where
   pub rid : ℕ
-  pub superseded : Bool
-  pub collected : Bool
+  pub state : TicketState
 
 pub record PlainSession : Type 0 where
-  -- the id of the creation, and what was agreed
-  pub first : ℕ
+  -- the request that created the session, and what was agreed
+  pub creation : RequestCopy
   pub terms : Terms
-  -- the copy that stands for each id, in the order of arrival, and those that were processed, in the order of ids: the
-  -- creation is the first in both
-  pub standing : List Copy
-  pub run : List Copy
+  -- the copy that stands for each later id, in the order of arrival, and those that were processed, in the order of ids
+  pub standing : List RequestCopy
+  pub processed : List RequestCopy
   -- what the next key has to lead to, and the seconds of silence that are allowed now
   pub key : Option (List ℕ)
   pub period : ℕ
-  -- the answers in the order of ids, that of the creation first; up to which id they were acknowledged; the due report
-  pub answers : List Answered
+  -- the creation's answer, and the others in the order of ids; up to which id they were acknowledged; the due report
+  pub created : Answered
+  pub answered : List Answered
   pub acknowledged : ℕ
   pub reporting : Reporting
-  -- what the ending gave to each request that was open
-  pub last_words : List (ℕ × List ℕ)
   -- all that the server gave
   pub given : List Outward
-  pub tickets : List Parked
+  pub tickets : List Issued
   -- the greatest moment so far, and that of the last arrival
   pub now : ℕ
   pub last_arrival : ℕ
-  -- how many inward items were taken, and the counted bytes of the journal
-  pub taken : ℕ
+  -- how many inward items were passed on, and the counted bytes of the journal
+  pub passed : ℕ
   pub counted : ℕ
   pub ending : Option Ending
 
+-- the last of x and these
+abbrev pub last_from : {X : Type 0} → X → List X → X
+last_from x [] = x
+last_from x (y ∷ ys) = last_from y ys
+
+-- the id of the creation
+abbrev pub first_of : PlainSession → ℕ
+first_of s = id_of s.creation
+
+-- what was processed, the creation first, and the answers, that of the creation first
+abbrev pub run : PlainSession → List RequestCopy
+run s = s.creation ∷ s.processed
+
+abbrev pub answers : PlainSession → List Answered
+answers s = s.created ∷ s.answered
+
+-- the copy that was processed last, and the answer that was given last
+abbrev pub last_copy : PlainSession → RequestCopy
+last_copy s = last_from s.creation s.processed
+
+abbrev pub last_answer : PlainSession → Answered
+last_answer s = last_from s.created s.answered
+
 -- the highest id that was processed in order
 abbrev pub last_of : PlainSession → ℕ
-last_of s = s.first + length s.run - 1
+last_of s = first_of s + length s.processed
 
 -- the highest id that was answered
 abbrev pub answered_of : PlainSession → ℕ
-answered_of s = s.first + length s.answers - 1
+answered_of s = first_of s + length s.answered
 
 -- processed and not answered, the oldest first
-abbrev pub held : PlainSession → List Copy
-held s = drop (length s.answers) s.run
+abbrev pub held : PlainSession → List RequestCopy
+held s = drop (length s.answered) s.processed
 
 -- beyond a gap
-abbrev pub beyond : PlainSession → List Copy
+abbrev pub beyond : PlainSession → List RequestCopy
 beyond s = filter (λ copy. nat_lt (last_of s) (id_of copy)) s.standing
 
--- the copy that stands for an id
-abbrev pub standing_at : PlainSession → ℕ → Option Copy
-standing_at s rid = find (λ copy. id_of copy == rid) s.standing
+-- the copy that stands for an id after the creation's
+abbrev pub standing_at : PlainSession → ℕ → Option RequestCopy
+standing_at s rid = at_id (map with_id s.standing) rid
 
--- how many of the server's items the answers took
-abbrev pub delivered : PlainSession → ℕ
-delivered s = sum_by (λ answer. length answer.items) s.answers
+-- how many of the server's items these answers took
+abbrev pub taken_by_answers : List Answered → ℕ
+taken_by_answers answers = sum_by (λ answer. length (items_in answer.front)) answers
 
 -- the server's items that no answer took yet
 abbrev pub waiting : PlainSession → List Outward
-waiting s = drop (delivered s) s.given
+waiting s = drop (taken_by_answers (answers s)) s.given
+
+-- how many they are, closings among them, and the bytes of the stanzas among them
+abbrev pub waiting_counts : PlainSession → Waiting
+waiting_counts s = record { items = length (waiting s); bytes = size_of_all (waiting s) }
 
 abbrev pub is_over : PlainSession → Bool
 is_over s = is_some s.ending
 
--- what went inward: the items of the run
-abbrev pub items_of_all : List Copy → List Inward
+abbrev pub items_of_all : List RequestCopy → List Inward
 items_of_all [] = []
 items_of_all (copy ∷ copies) = items_of copy ++ items_of_all copies
 
+-- what may go inward: the items of the run
 abbrev pub inward : PlainSession → List Inward
-inward s = items_of_all s.run
+inward s = items_of_all (run s)

@@ -1,24 +1,18 @@
 -- What time alone does: it comes first in each call that has a moment, XEP-0124 sections 7.1 and 10.
-use Rattle.std.specs.Prelude.{ℕ, ◌==◌, ◌&&◌, ◌||◌, Bool, not, max, length, None, if◌then◌else◌}
-use Rattle.std.specs.List.{last_or}
-use Rattle.std.specs.Option.{option_map_or}
+use Rattle.std.specs.Prelude.{ℕ, ◌==◌, ◌&&◌, ◌||◌, Bool, not, max, length, if◌then◌else◌}
 use Rattle.bosh_types.specs.declared.ending.Ending.TheVariants.{Silent}
 use Rattle.pause_rules.specs.Due.{is_silent_due}
 use Rattle.session_core.specs.Answers.{has_reason, settled}
 use Rattle.session_core.specs.Endings.{ended}
-use Rattle.session_core.specs.State.{PlainSession, held, beyond, is_over}
+use Rattle.session_core.specs.State.{PlainSession, held, beyond, last_answer, is_over}
 
 -- a moment that is earlier than one before it counts as that one
 abbrev pub at_moment : PlainSession → ℕ → PlainSession
 at_moment s now = record s { now = max s.now now }
 
--- the moment of the last answer
-abbrev pub last_given : PlainSession → ℕ
-last_given s = option_map_or (λ answer. answer.given) (last_or None s.answers) 0
-
 -- since when it has been quiet: since the last answer, and while copies stand beyond a gap, since the last arrival
 abbrev pub quiet_of : PlainSession → ℕ
-quiet_of s = if length (beyond s) == 0 then last_given s else max (last_given s) s.last_arrival
+quiet_of s = if length (beyond s) == 0 then (last_answer s).moment else max (last_answer s).moment s.last_arrival
 
 -- no request is held, and it has been quiet for longer than allowed
 abbrev pub is_silent : PlainSession → Bool

@@ -4,11 +4,17 @@
 
 mod arrival;
 mod bare;
+mod copy;
 mod laws;
+mod outward;
+mod place;
 mod replies;
 mod search;
 
 pub use arrival::Arrival;
 pub use bare::{Bare, BareSeen};
+pub use copy::RequestCopy;
 pub use laws::written_requests_read_back;
-pub use replies::{Arrived, Collected, Taken, Ticked};
+pub use outward::Outward;
+pub use place::Place;
+pub use replies::{Arrived, Collected, Taken, Ticked, Waiting};

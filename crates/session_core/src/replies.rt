@@ -43,3 +43,12 @@ pub enum Ticked {
     /// Nothing was due, and nothing changed.
     Quiet,
 }
+
+/// What waits for the client.
+#[derive(Clone, Copy, Debug, PartialEq, Eq)]
+pub struct Waiting {
+    /// How many of the server's items no answer took yet, closings among them.
+    pub items: u32,
+    /// The bytes of the stanzas among them.
+    pub bytes: u32,
+}

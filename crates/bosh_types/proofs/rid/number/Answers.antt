@@ -1,4 +1,4 @@
-use Rattle.std.proofs.Common.{sym, ◌∙◌, ap, arith, drop, ◌+◌, ◌*◌}
+use Rattle.std.proofs.Common.{sym, ◌∙◌, arith, drop, ◌+◌, ◌*◌}
 use Rattle.bosh_types.proofs.RidLemmas.{rid_after-begin, rid_after-digit, rid_after-other, rid_after-beyond, rid_after-end}
 use Rattle.bosh_types.proofs.rid.number.Goals as goal
 

@@ -9,7 +9,7 @@ loop-number-init c = (c.digest_of-newkey.ensures, rw c.in_ok-keys.ensures.items 
 
 pub loop-number-preserved : goal.loop-number-preserved
 loop-number-preserved c = (
-  c.digest_of-newkey-in-loop-number.ensures ∙ ap hex_digest (c.as_slice.ensures ∙ c.loop-number.invariant.0)
+  c.digest_of-newkey-in-loop-number.ensures ∙ ap hex_digest (c.as_slice.ensures.value ∙ c.loop-number.invariant.0)
       ∙ sym (key_of-next c.args.seed.now c.loop-number._number),
   ap reverse c.in_ok-push.ensures.items ∙ reverse-append c.loop-number.keys.items (c.loop-number.newkey ∷ [])
       ∙ ap (λ key. key ∷ reverse c.loop-number.keys.items) c.loop-number.invariant.0
