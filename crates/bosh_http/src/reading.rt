@@ -1,5 +1,5 @@
 // Reading requests off a link.
-ghost use Rattle.std.specs.Prelude.{◌≡◌, ◌==◌, ◌<◌, ◌≤◌, [], length, take, IfOk, IfSome, OnErr, Ok, Some, None, if◌then◌else◌};
+ghost use Rattle.std.specs.Prelude.{◌≡◌, ◌≢◌, ◌==◌, ◌<◌, ◌≤◌, [], length, take, IfOk, IfSome, OnErr, Ok, Some, None, if◌then◌else◌};
 
 use crate::judging::{Judged, judge};
 use crate::refusal::HttpRefusal;
@@ -77,6 +77,7 @@ impl RequestReader {
 
         ensures given { Keeps (L.given link.old) (L.given link.new) }
         ensures fault { result ≡ Ok HttpIn.ReadFault → HasRisen (L.faults link.old) (L.faults link.new) }
+        ensures quiet { result ≢ Ok HttpIn.ReadFault → L.faults link.new ≡ L.faults link.old }
         ensures faults { L.faults link.old ≤ L.faults link.new }
     {
         self.read(alloc, link)
@@ -96,6 +97,7 @@ impl RequestReader {
         ensures kept { OnErr result (TakesMore (L.left link.old) (L.left link.new) self.old self.new) }
         ensures given { Keeps (L.given link.old) (L.given link.new) }
         ensures fault { result ≡ Ok HttpIn.ReadFault → HasRisen (L.faults link.old) (L.faults link.new) }
+        ensures quiet { result ≢ Ok HttpIn.ReadFault → L.faults link.new ≡ L.faults link.old }
         ensures faults { L.faults link.old ≤ L.faults link.new }
     {
         let count = start + content;
@@ -129,6 +131,7 @@ impl RequestReader {
         ensures kept { OnErr result (TakesMore (L.left link.old) (L.left link.new) self.old self.new) }
         ensures given { Keeps (L.given link.old) (L.given link.new) }
         ensures fault { result ≡ Ok (Some HttpIn.ReadFault) → HasRisen (L.faults link.old) (L.faults link.new) }
+        ensures quiet { result ≢ Ok (Some HttpIn.ReadFault) → L.faults link.new ≡ L.faults link.old }
         ensures faults { L.faults link.old ≤ L.faults link.new }
     {
         match judge(alloc, self.taken.as_slice())? {
@@ -159,6 +162,7 @@ impl RequestReader {
         ensures kept { OnErr result (TakesMore (L.left link.old) (L.left link.new) self.old self.new) }
         ensures given { Keeps (L.given link.old) (L.given link.new) }
         ensures fault { result ≡ Ok (Some HttpIn.ReadFault) → HasRisen (L.faults link.old) (L.faults link.new) }
+        ensures quiet { result ≢ Ok (Some HttpIn.ReadFault) → L.faults link.new ≡ L.faults link.old }
         ensures faults { L.faults link.old ≤ L.faults link.new }
     {
         if !scan.is_due(self.taken.as_slice()) {
@@ -173,6 +177,7 @@ impl RequestReader {
         ensures kept { OnErr result (TakesMore (L.left link.old) (L.left link.new) self.old self.new) }
         ensures given { Keeps (L.given link.old) (L.given link.new) }
         ensures fault { result ≡ Ok HttpIn.ReadFault → HasRisen (L.faults link.old) (L.faults link.new) }
+        ensures quiet { result ≢ Ok HttpIn.ReadFault → L.faults link.new ≡ L.faults link.old }
         ensures faults { L.faults link.old ≤ L.faults link.new }
     {
         let mut scan = Scan::request();

@@ -1,5 +1,5 @@
 // Reading responses off a link.
-ghost use Rattle.std.specs.Prelude.{◌≡◌, ◌<◌, ◌≤◌, [], length, take, IfOk, IfSome, OnErr, Ok, Some, None};
+ghost use Rattle.std.specs.Prelude.{◌≡◌, ◌≢◌, ◌<◌, ◌≤◌, [], length, take, IfOk, IfSome, OnErr, Ok, Some, None};
 
 use crate::heading::{Headed, head_of};
 use crate::reading::{HEAD_PIECE, LARGEST_PIECE};
@@ -75,6 +75,7 @@ impl ResponseReader {
 
         ensures given { Keeps (L.given link.old) (L.given link.new) }
         ensures fault { result ≡ Ok ResponseIn.ReadFault → HasRisen (L.faults link.old) (L.faults link.new) }
+        ensures quiet { result ≢ Ok ResponseIn.ReadFault → L.faults link.new ≡ L.faults link.old }
         ensures faults { L.faults link.old ≤ L.faults link.new }
     {
         self.read(alloc, link)
@@ -94,6 +95,7 @@ impl ResponseReader {
         ensures kept { OnErr result (TakesMore (L.left link.old) (L.left link.new) self.old self.new) }
         ensures given { Keeps (L.given link.old) (L.given link.new) }
         ensures fault { result ≡ Ok ResponseIn.ReadFault → HasRisen (L.faults link.old) (L.faults link.new) }
+        ensures quiet { result ≢ Ok ResponseIn.ReadFault → L.faults link.new ≡ L.faults link.old }
         ensures faults { L.faults link.old ≤ L.faults link.new }
     {
         let count = start + content;
@@ -124,6 +126,7 @@ impl ResponseReader {
         ensures kept { OnErr result (TakesMore (L.left link.old) (L.left link.new) self.old self.new) }
         ensures given { Keeps (L.given link.old) (L.given link.new) }
         ensures fault { result ≡ Ok (Some ResponseIn.ReadFault) → HasRisen (L.faults link.old) (L.faults link.new) }
+        ensures quiet { result ≢ Ok (Some ResponseIn.ReadFault) → L.faults link.new ≡ L.faults link.old }
         ensures faults { L.faults link.old ≤ L.faults link.new }
     {
         match head_of(alloc, self.taken.as_slice())? {
@@ -154,6 +157,7 @@ impl ResponseReader {
         ensures kept { OnErr result (TakesMore (L.left link.old) (L.left link.new) self.old self.new) }
         ensures given { Keeps (L.given link.old) (L.given link.new) }
         ensures fault { result ≡ Ok (Some ResponseIn.ReadFault) → HasRisen (L.faults link.old) (L.faults link.new) }
+        ensures quiet { result ≢ Ok (Some ResponseIn.ReadFault) → L.faults link.new ≡ L.faults link.old }
         ensures faults { L.faults link.old ≤ L.faults link.new }
     {
         if !scan.is_due(self.taken.as_slice()) {
@@ -168,6 +172,7 @@ impl ResponseReader {
         ensures kept { OnErr result (TakesMore (L.left link.old) (L.left link.new) self.old self.new) }
         ensures given { Keeps (L.given link.old) (L.given link.new) }
         ensures fault { result ≡ Ok ResponseIn.ReadFault → HasRisen (L.faults link.old) (L.faults link.new) }
+        ensures quiet { result ≢ Ok ResponseIn.ReadFault → L.faults link.new ≡ L.faults link.old }
         ensures faults { L.faults link.old ≤ L.faults link.new }
     {
         let mut scan = Scan::response();

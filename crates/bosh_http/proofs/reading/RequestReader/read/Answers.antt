@@ -60,7 +60,7 @@ loop-answer-init g c = record {
   given = Keeps-refl (g.L.Link.given c.args.link.now);
   scans = c.request-scan.ensures.scans c.args.self.now;
   none = subst (λ n. HasNoRequest (take n c.args.self.now)) (sym c.request-scan.ensures.none) no_request_at_all;
-  faults = omega arith;
+  faults = refl;
 }
 
 pub returns-in_err-fill-clause-kept : goal.returns-in_err-fill-clause-kept
@@ -92,7 +92,7 @@ loop-answer-preserved g c =
       scans = subst (Scans seen c.told_if_due.new.scan.place) (sym more.2) (scans_more seen c.told_if_due.new.scan.place now more.0 scans);
       none = subst (λ bytes. HasNoRequest (take seen bytes)) (sym more.2)
           (subst HasNoRequest (sym (take-append-le seen now more.0 scans.within)) (no_request_before seen now nothing));
-      faults = search (rules, arith);
+      faults = search rules;
     }
 
 pub returns-in_err-answer-in-End-clause-kept : goal.returns-in_err-answer-in-End-clause-kept

@@ -1,6 +1,6 @@
 use Rattle.httparse.specs.Grammar.{HasNoResponse}
 use Rattle.bosh_http.specs.Scanning.{Scans}
-use Rattle.std.proofs.Common.{◌≤◌, ◌-◌, length, take}
+use Rattle.std.proofs.Common.{◌≡◌, ◌≤◌, ◌-◌, length, take}
 use Rattle.std.specs.Io.KnownBytes.{Keeps}
 use Rattle.bosh_http.specs.Message.{longest_head}
 use Rattle.bosh_http.specs.Taking.{TakesMore}
@@ -12,7 +12,7 @@ invariant-loop-answer g l = record {
   given : Keeps (g.L.Link.given l.fn.link) (g.L.Link.given l.link);
   scans : Scans l.scan.seen l.scan.place l.self;
   none : HasNoResponse (take l.scan.seen l.self);
-  faults : g.L.Link.faults l.fn.link ≤ g.L.Link.faults l.link;
+  faults : g.L.Link.faults l.link ≡ g.L.Link.faults l.fn.link;
 }
 
 abbrev pub decreases-loop-answer : goal.decreases-loop-answer
