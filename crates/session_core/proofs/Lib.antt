@@ -13,3 +13,11 @@ pub mod Fronts
 pub mod InPlace
 pub mod OutTickets
 pub mod AreOut
+pub mod RuleLemmas
+pub mod WindowLemmas
+pub mod RunningLemmas
+pub mod TakenUp
+pub mod TicketsApart
+pub mod StandingLemmas
+pub mod EndedLemmas
+pub mod AnsweredLemmas

@@ -14,10 +14,13 @@ pub mod Passed
 pub mod Points
 pub mod Queue
 pub mod ReadBack
-pub mod Run
 pub mod Rules
+pub mod Run
+pub mod StandsFor
 pub mod State
+pub mod Steps
 pub mod Tickets
 pub mod TicketsOut
 pub mod Time
 pub mod Window
+pub mod Words

@@ -2,6 +2,7 @@
 // the session ends. Here so far is the plain session, which keeps all that arrived and searches it each time.
 #![tactic(auto)]
 
+mod answering;
 mod arrival;
 mod bare;
 mod copy;
@@ -11,9 +12,16 @@ mod laws;
 mod outbox;
 mod outward;
 mod place;
+mod processing;
+mod reasons;
 mod replies;
+mod rules;
 mod search;
+mod session;
 mod tickets;
+mod timing;
+mod words;
+mod written;
 
 pub use arrival::Arrival;
 pub use bare::{Bare, BareSeen};
@@ -25,6 +33,7 @@ pub use outbox::Outbox;
 pub use outward::{Front, Outward};
 pub use place::Place;
 pub use replies::{Arrived, Collected, Taken, Ticked, Waiting};
+pub use session::Session;
 pub use tickets::{OpenTicket, Tickets};
 
 #[cfg(test)]
