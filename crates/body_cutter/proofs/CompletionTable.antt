@@ -10,7 +10,7 @@ use Rattle.body_cutter.specs.declared.parts.CutError.TheVariants.{Memory, Refuse
 use Rattle.body_cutter.specs.declared.parts.CutRefusal.{CutRefusal}
 use Rattle.body_cutter.specs.Reader.{State, first_state}
 use Rattle.body_cutter.specs.Refusal.{Ended, reading, text_answer, is_before_body, is_forbidden, unit_result}
-use Rattle.body_cutter.specs.Cutting.{Answers, body_cut_of, stanza_read_of}
+use Rattle.body_cutter.specs.Cutting.{Answers}
 use Rattle.body_cutter.specs.BodyText.{IsBodyText, IsElementText}
 use Rattle.body_cutter.specs.Viable.{NamesBody, Anything, IsForbiddenAfter, Row, TellsRow, is_for_place}
 use Rattle.body_cutter.proofs.Leads.{ctl}

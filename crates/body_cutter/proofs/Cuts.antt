@@ -1,15 +1,15 @@
 -- What a text is cut into is the grammar's and the table's, both ways.
-use Rattle.std.proofs.Common.{◌≡◌, ◌∙◌, ◌<◌, ◌≤◌, ℕ, Bool, true, false, List, ◌∷◌, ◌++◌, length, take, refl, sym, ap, subst, arith, inl, inr}
-use Rattle.std.specs.Prelude.{◌↔◌, Option, None, Some, Result, Ok, Err, nat_lt, is_ok, IsTrue, if◌then◌else◌}
+use Rattle.std.proofs.Common.{◌≡◌, ◌∙◌, ◌<◌, ◌≤◌, ℕ, true, false, List, ◌∷◌, ◌++◌, length, take, refl, sym, ap, subst, arith, inl, inr}
+use Rattle.std.specs.Prelude.{◌↔◌, None, Some, Result, Ok, Err, nat_lt, is_ok, IsTrue}
 use Rattle.std.specs.Str.{IsUtf8}
 use Rattle.std.proofs.lemmas.Bool.{lt-ltb, cases_order}
 use Rattle.std.proofs.lemmas.Bool.Decides.{nat_tests}
 use Rattle.body_cutter.specs.declared.parts.Cut.{Cut}
 use Rattle.body_cutter.specs.declared.parts.CutRefusal.{CutRefusal}
 use Rattle.body_cutter.specs.declared.parts.CutRefusal.TheVariants.{TooLong, NotUtf8, NotBody, Forbidden, Malformed, TooManyAttributes, TooManyChildren, TooDeep}
-use Rattle.body_cutter.specs.Refusal.{refusal_or, unit_answer}
+use Rattle.body_cutter.specs.Refusal.{unit_answer}
 use Rattle.body_cutter.specs.Parts.{Parts}
-use Rattle.body_cutter.specs.BodyText.{IsBodyText, IsElementText, HasBodyParts, HasElementParts, IsWithinLimits, IsBody, IsStanza, IsReadable, RefusalTells, limit_passed, cut_with, answer_of}
+use Rattle.body_cutter.specs.BodyText.{IsBodyText, IsElementText, HasBodyParts, HasElementParts, IsWithinLimits, IsBody, IsStanza, IsReadable, RefusalTells, limit_passed}
 use Rattle.body_cutter.specs.Viable.{IsLongestViable, IsForbiddenAfter, Row, NamesBody, Anything, is_for_place}
 use Rattle.body_cutter.specs.Cutting.{body_cut_of, stanza_read_of, is_stanza}
 use Rattle.body_cutter.specs.Table.{IsRefusedWith, IsBodyRefusal, IsStanzaRefusal}

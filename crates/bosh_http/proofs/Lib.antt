@@ -8,4 +8,7 @@ pub mod TakenLemmas
 pub mod TargetLemmas
 pub mod TextLemmas
 pub mod UniqueLemmas
+pub mod ResponseUniqueLemmas
 pub mod WordLemmas
+pub mod ScanLemmas
+pub mod HeadEndLemmas

@@ -8,7 +8,7 @@ use Rattle.std.proofs.KnownBytes.{Consumes-kept, Consumes-whole, Consumes-trans}
 use Rattle.std.specs.Io.KnownBytes.{Consumes, Keeps, IsAtEnd, prepend_known}
 use Rattle.httparse.specs.Grammar.{RequestHead, print_request, print_section, print_end}
 use Rattle.bosh_http.specs.Judging.{IsServed}
-use Rattle.bosh_http.specs.Message.{longest_head, content_length, IsHeadBegun, IsRequestMessage, IsRefused}
+use Rattle.bosh_http.specs.Message.{longest_head, content_length, EndsInContent, IsHeadBegun, IsRequestMessage, IsRefused}
 use Rattle.bosh_http.specs.Reading.{IsAllOf, AnswersBy, Answers, Reads}
 use Rattle.bosh_http.specs.Taking.{TakesMore}
 use Rattle.bosh_http.specs.declared.reading.HttpIn.{HttpIn}
@@ -59,6 +59,12 @@ content_cut bytes start content count closing served short count_is =
       omega (arith, count_is, rest.1, served.start_is, some),
       inr (served.head, served.rest, served.begins, served.served, omega (arith, short, rest.1, served.content_is)),
     )
+
+-- some of it is to come
+pub content_to_come : (bytes : List ℕ) (start content : ℕ) (closing : Bool) → IsServed bytes start content closing → length bytes < start + content → EndsInContent bytes
+content_to_come bytes start content closing served short =
+    let rest = rest_of bytes start content closing served in
+    (served.head, served.rest, served.begins, served.served, omega (arith, short, rest.1, served.content_is))
 
 -- ---- answers
 
@@ -129,7 +135,7 @@ reads_told seen kept' rest (Refused refusal) (refused, inl settled, kept) = ((Is
 reads_told seen kept' rest (Refused refusal) (refused, inr none, kept) =
     (subst (λ s. IsRefused s refusal) (sym (append-nil seen) ∙ ap (λ r. seen ++ r) (sym none)) refused, ap (λ k. k ++ rest) kept)
 reads_told seen kept' rest End (nothing, none, kept) = (ap₂ (λ s r. s ++ r) nothing none, ap₂ (λ s r. s ++ r) kept none)
-reads_told seen kept' rest ReadFault kept = ap (λ k. k ++ rest) kept
+reads_told seen kept' rest ReadFault (nothing, kept) = ap (λ k. k ++ rest) kept
 
 pub reads_by : (left left' : Option (List ℕ)) (kept kept' : List ℕ) (answer : HttpIn) → Answers left left' kept kept' answer → Reads (prepend_known kept left) (prepend_known kept' left') answer
 reads_by None left' kept kept' answer by = tt

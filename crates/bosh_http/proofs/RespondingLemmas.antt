@@ -98,7 +98,7 @@ reads_told seen kept' rest (Status status) (other, count, content, message, kept
 reads_told seen kept' rest Bad (bad, kept) = (IsBadStream-append seen rest bad, ap (λ k. k ++ rest) kept)
 reads_told seen kept' rest End (early, none, kept) =
     (subst EndsEarly (sym (append-nil seen) ∙ ap (λ r. seen ++ r) (sym none)) early, ap (λ k. k ++ rest) kept)
-reads_told seen kept' rest ReadFault kept = ap (λ k. k ++ rest) kept
+reads_told seen kept' rest ReadFault (nothing, kept) = ap (λ k. k ++ rest) kept
 
 pub reads_back : (left left' : Option (List ℕ)) (kept kept' : List ℕ) (answer : ResponseIn) → Responds left left' kept kept' answer → ReadsBack (prepend_known kept left) (prepend_known kept' left') answer
 reads_back None left' kept kept' answer by = tt

@@ -3,6 +3,7 @@ use Rattle.std.proofs.Common.{◌≡◌, ℕ, ◌+◌, List, [], ◌++◌, Optio
 use Rattle.std.proofs.lemmas.List.{take-append-drop, take-take, drop-take}
 use Rattle.std.proofs.lemmas.Grind.{common_steps}
 use Rattle.std.proofs.KnownBytes.{Consumes-nil, Consumes-trans, Consumes-kept}
+use Rattle.std.specs.Prelude.{Result, Ok, Err, OnErr}
 use Rattle.std.specs.Io.KnownBytes.{Consumes, Keeps}
 use Rattle.bosh_http.specs.Taking.{TakesMore}
 
@@ -35,3 +36,8 @@ filled_more left left' kept zeros grown room whole new first most n first_is gro
 pub takes_through : {L : Type 0} → (left : L → Option (List ℕ)) (first mid last : L) (kept now kept' : List ℕ) → TakesMore (left first) (left mid) kept now → kept' ≡ now → last ≡ mid → TakesMore (left first) (left last) kept kept'
 takes_through left first mid last kept now kept' takes same link =
     subst (λ l. TakesMore (left first) (left l) kept kept') (sym link) (subst (TakesMore (left first) (left mid) kept) (sym same) takes)
+
+-- a fact holds where there is an error
+pub on_err_here : {T E P : Type 0} (r : Result T E) → P → OnErr r P
+on_err_here (Ok x) p = tt
+on_err_here (Err e) p = p

@@ -91,7 +91,7 @@ no_begun front rest never outside (none, inr ends) = cases (target_front front r
 -- ---- the facts of which two never hold of one stream
 
 -- the front of a stream within the limit
-short_front : (front rest : List ℕ) → length front ≤ longest_head → (more : List ℕ) × (take longest_head (front ++ rest) ≡ front ++ more)
+pub short_front : (front rest : List ℕ) → length front ≤ longest_head → (more : List ℕ) × (take longest_head (front ++ rest) ≡ front ++ more)
 short_front front rest short = (
   take (longest_head - length front) rest,
   ap (λ n. take n (front ++ rest)) parts ∙ front_more front rest (longest_head - length front),

@@ -5,6 +5,7 @@ pub mod Reading
 pub mod Refusal
 pub mod Responding
 pub mod Response
+pub mod Scanning
 pub mod Taking
 pub mod Target
 pub mod Texts

@@ -1,8 +1,9 @@
 -- What reading the next request answers.
-use Rattle.std.specs.Prelude.{◌≡◌, ℕ, ◌⊎◌, List, [], ◌++◌, drop, Option, None, Some, IfSome}
+use Rattle.std.specs.Prelude.{◌≡◌, ℕ, ◌<◌, ◌⊎◌, List, [], ◌++◌, length, drop, Option, None, Some, IfSome}
 use Rattle.std.specs.Io.KnownBytes.{Consumes}
 use Rattle.bosh_http.specs.Judging.{IsSettled}
-use Rattle.bosh_http.specs.Message.{IsRequestMessage, IsRefused}
+use Rattle.httparse.specs.Grammar.{HasNoRequest}
+use Rattle.bosh_http.specs.Message.{longest_head, EndsInContent, IsRequestMessage, IsRefused}
 use Rattle.bosh_http.specs.declared.reading.HttpIn.{HttpIn}
 use Rattle.bosh_http.specs.declared.reading.HttpIn.TheVariants.{Request, Refused, End, ReadFault}
 
@@ -10,12 +11,16 @@ use Rattle.bosh_http.specs.declared.reading.HttpIn.TheVariants.{Request, Refused
 abbrev pub IsAllOf : Option (List ℕ) → List ℕ → Type 0
 IsAllOf left taken = IfSome left (λ bytes. taken ≡ bytes)
 
+-- these bytes give no message yet: no head is whole in them, or some of the content of a request that is served is to come
+abbrev pub GivesNothing : List ℕ → Type 0
+GivesNothing bytes = ((length bytes < longest_head) × HasNoRequest bytes) ⊎ EndsInContent bytes
+
 -- the answer by the bytes that have been seen, and what is kept of them: a refusal needs no more bytes, or these were all
 abbrev pub AnswersBy : List ℕ → List ℕ → Type 0 → HttpIn → Type 0
 AnswersBy seen kept all (Request body closing) = (count : ℕ) × IsRequestMessage seen count body closing × (kept ≡ drop count seen)
 AnswersBy seen kept all (Refused refusal) = IsRefused seen refusal × (IsSettled refusal ⊎ all) × (kept ≡ seen)
 AnswersBy seen kept all End = (seen ≡ []) × all × (kept ≡ [])
-AnswersBy seen kept all ReadFault = kept ≡ seen
+AnswersBy seen kept all ReadFault = GivesNothing seen × (kept ≡ seen)
 
 -- some bytes were taken off the link, and the answer is by those that had been kept and these
 abbrev pub Answers : Option (List ℕ) → Option (List ℕ) → List ℕ → List ℕ → HttpIn → Type 0

@@ -1,9 +1,10 @@
 -- What reading the next response answers.
-use Rattle.std.specs.Prelude.{◌≡◌, ◌≢◌, ℕ, false, List, ◌++◌, length, drop, Option, None, Some}
+use Rattle.std.specs.Prelude.{◌≡◌, ◌≢◌, ℕ, ◌<◌, ◌⊎◌, false, List, ◌++◌, length, drop, Option, None, Some}
 use Rattle.std.specs.Io.KnownBytes.{Consumes}
-use Rattle.httparse.specs.Grammar.{ResponseHead, print_response, status_code}
+use Rattle.httparse.specs.Grammar.{ResponseHead, print_response, status_code, HasNoResponse}
+use Rattle.bosh_http.specs.Message.{longest_head}
 use Rattle.bosh_http.specs.Reading.{IsAllOf}
-use Rattle.bosh_http.specs.Response.{BeginsWithResponse, is_bad, response_fields, response_length, IsResponseMessage, IsBadStream, IsResponseBegun, EndsEarly}
+use Rattle.bosh_http.specs.Response.{BeginsWithResponse, is_bad, response_fields, response_length, IsResponseMessage, IsBadStream, IsResponseBegun, EndsInResponse, EndsEarly}
 use Rattle.bosh_http.specs.declared.heading.Headed.{Headed}
 use Rattle.bosh_http.specs.declared.heading.Headed.TheVariants.{Whole, Wrong, Unfinished}
 use Rattle.bosh_http.specs.declared.responding.ResponseIn.{ResponseIn}
@@ -25,13 +26,17 @@ TellsResponse bytes (Whole start content status) = IsHeaded bytes start content 
 TellsResponse bytes Wrong = IsBadStream bytes
 TellsResponse bytes Unfinished = IsResponseBegun bytes
 
+-- these bytes give no response yet: no head is whole in them, or some of the content is to come
+abbrev pub GivesNoResponse : List ℕ → Type 0
+GivesNoResponse bytes = ((length bytes < longest_head) × HasNoResponse bytes) ⊎ EndsInResponse bytes
+
 -- the answer by the bytes that have been seen, and what is kept of them; where the stream ended these were all
 abbrev pub RespondsBy : List ℕ → List ℕ → Type 0 → ResponseIn → Type 0
 RespondsBy seen kept all (Body body) = (count : ℕ) × IsResponseMessage seen count 200 body × (kept ≡ drop count seen)
 RespondsBy seen kept all (Status status) = (status ≢ 200) × (count : ℕ) × (content : List ℕ) × IsResponseMessage seen count status content × (kept ≡ drop count seen)
 RespondsBy seen kept all Bad = IsBadStream seen × (kept ≡ seen)
 RespondsBy seen kept all End = EndsEarly seen × all × (kept ≡ seen)
-RespondsBy seen kept all ReadFault = kept ≡ seen
+RespondsBy seen kept all ReadFault = GivesNoResponse seen × (kept ≡ seen)
 
 -- some bytes were taken off the link, and the answer is by those that had been kept and these
 abbrev pub Responds : Option (List ℕ) → Option (List ℕ) → List ℕ → List ℕ → ResponseIn → Type 0

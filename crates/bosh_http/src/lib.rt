@@ -18,7 +18,7 @@ mod words;
 mod writing;
 
 pub use bosh_ports::WriteFault;
-pub use laws::streams_are_cut_in_one_way;
+pub use laws::{responses_are_cut_in_one_way, streams_are_cut_in_one_way};
 pub use reading::{HttpIn, RequestReader};
 pub use refusal::HttpRefusal;
 pub use responding::{ResponseIn, ResponseReader};

@@ -1,5 +1,5 @@
 // Reading requests off a link.
-ghost use Rattle.std.specs.Prelude.{◌≡◌, ◌==◌, ◌<◌, ◌≤◌, [], length, IfOk, IfSome, OnErr, Ok, Some, None, if◌then◌else◌};
+ghost use Rattle.std.specs.Prelude.{◌≡◌, ◌≢◌, ◌==◌, ◌<◌, ◌≤◌, [], length, take, IfOk, IfSome, OnErr, Ok, Some, None, if◌then◌else◌};
 
 use crate::judging::{Judged, judge};
 use crate::refusal::HttpRefusal;
@@ -50,7 +50,9 @@ impl RequestReader {
     ghost use Rattle.bosh_http.specs.Judging.{IsServed};
     ghost use Rattle.bosh_http.specs.Message.{IsHeadBegun, longest_head};
     ghost use Rattle.bosh_http.specs.Reading.{Answers, Reads};
+    ghost use Rattle.bosh_http.specs.Scanning.{Scans};
     ghost use Rattle.bosh_http.specs.Taking.{TakesMore};
+    ghost use Rattle.httparse.specs.Grammar.{HasNoRequest};
 
     /// Takes no memory.
     pub fn new(alloc: Global) -> Self
@@ -70,11 +72,12 @@ impl RequestReader {
         // By any link, the answer is by the bytes that had come: a refusal needs no more of them, or the stream has ended.
         ensures answers { IfOk result (Answers (L.left link.old) (L.left link.new) self.old self.new) }
 
-        // Want of memory loses nothing.
-        ensures kept { OnErr result (Keeps (prepend_known self.old (L.left link.old)) (prepend_known self.new (L.left link.new))) }
+        // Want of memory loses nothing: what was taken stands after what was kept.
+        ensures kept { OnErr result (TakesMore (L.left link.old) (L.left link.new) self.old self.new) }
 
         ensures given { Keeps (L.given link.old) (L.given link.new) }
         ensures fault { result ≡ Ok HttpIn.ReadFault → HasRisen (L.faults link.old) (L.faults link.new) }
+        ensures quiet { result ≢ Ok HttpIn.ReadFault → L.faults link.new ≡ L.faults link.old }
         ensures faults { L.faults link.old ≤ L.faults link.new }
     {
         self.read(alloc, link)
@@ -94,6 +97,7 @@ impl RequestReader {
         ensures kept { OnErr result (TakesMore (L.left link.old) (L.left link.new) self.old self.new) }
         ensures given { Keeps (L.given link.old) (L.given link.new) }
         ensures fault { result ≡ Ok HttpIn.ReadFault → HasRisen (L.faults link.old) (L.faults link.new) }
+        ensures quiet { result ≢ Ok HttpIn.ReadFault → L.faults link.new ≡ L.faults link.old }
         ensures faults { L.faults link.old ≤ L.faults link.new }
     {
         let count = start + content;
@@ -127,6 +131,7 @@ impl RequestReader {
         ensures kept { OnErr result (TakesMore (L.left link.old) (L.left link.new) self.old self.new) }
         ensures given { Keeps (L.given link.old) (L.given link.new) }
         ensures fault { result ≡ Ok (Some HttpIn.ReadFault) → HasRisen (L.faults link.old) (L.faults link.new) }
+        ensures quiet { result ≢ Ok (Some HttpIn.ReadFault) → L.faults link.new ≡ L.faults link.old }
         ensures faults { L.faults link.old ≤ L.faults link.new }
     {
         match judge(alloc, self.taken.as_slice())? {
@@ -147,12 +152,17 @@ impl RequestReader {
         link: &mut L,
         scan: &mut Scan,
     ) -> Result<Option<HttpIn>, AllocError>
+        requires scans { Scans scan.old.seen scan.old.place self.old }
+        requires none { HasNoRequest (take scan.old.seen self.old) }
         ensures some { IfOk result (λ told. IfSome told (Answers (L.left link.old) (L.left link.new) self.old self.new)) }
         ensures short { result ≡ Ok None → length self.old < longest_head }
+        ensures scans { result ≡ Ok None → Scans scan.new.seen scan.new.place self.old }
+        ensures none { result ≡ Ok None → HasNoRequest self.old }
         ensures same { result ≡ Ok None → (self.new ≡ self.old) × (link.new ≡ link.old) }
         ensures kept { OnErr result (TakesMore (L.left link.old) (L.left link.new) self.old self.new) }
         ensures given { Keeps (L.given link.old) (L.given link.new) }
         ensures fault { result ≡ Ok (Some HttpIn.ReadFault) → HasRisen (L.faults link.old) (L.faults link.new) }
+        ensures quiet { result ≢ Ok (Some HttpIn.ReadFault) → L.faults link.new ≡ L.faults link.old }
         ensures faults { L.faults link.old ≤ L.faults link.new }
     {
         if !scan.is_due(self.taken.as_slice()) {
@@ -167,6 +177,7 @@ impl RequestReader {
         ensures kept { OnErr result (TakesMore (L.left link.old) (L.left link.new) self.old self.new) }
         ensures given { Keeps (L.given link.old) (L.given link.new) }
         ensures fault { result ≡ Ok HttpIn.ReadFault → HasRisen (L.faults link.old) (L.faults link.new) }
+        ensures quiet { result ≢ Ok HttpIn.ReadFault → L.faults link.new ≡ L.faults link.old }
         ensures faults { L.faults link.old ≤ L.faults link.new }
     {
         let mut scan = Scan::request();

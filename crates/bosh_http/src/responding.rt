@@ -1,5 +1,5 @@
 // Reading responses off a link.
-ghost use Rattle.std.specs.Prelude.{◌≡◌, ◌<◌, ◌≤◌, [], length, IfOk, IfSome, OnErr, Ok, Some, None};
+ghost use Rattle.std.specs.Prelude.{◌≡◌, ◌≢◌, ◌<◌, ◌≤◌, [], length, take, IfOk, IfSome, OnErr, Ok, Some, None};
 
 use crate::heading::{Headed, head_of};
 use crate::reading::{HEAD_PIECE, LARGEST_PIECE};
@@ -48,7 +48,9 @@ impl ResponseReader {
     ghost use Rattle.bosh_http.specs.Message.{longest_head};
     ghost use Rattle.bosh_http.specs.Response.{IsResponseBegun};
     ghost use Rattle.bosh_http.specs.Responding.{IsHeaded, Responds, ReadsBack};
+    ghost use Rattle.bosh_http.specs.Scanning.{Scans};
     ghost use Rattle.bosh_http.specs.Taking.{TakesMore};
+    ghost use Rattle.httparse.specs.Grammar.{HasNoResponse};
 
     /// Takes no memory.
     pub fn new(alloc: Global) -> Self
@@ -68,11 +70,12 @@ impl ResponseReader {
         // By any link, the answer is by the bytes that had come.
         ensures answers { IfOk result (Responds (L.left link.old) (L.left link.new) self.old self.new) }
 
-        // Want of memory loses nothing.
-        ensures kept { OnErr result (Keeps (prepend_known self.old (L.left link.old)) (prepend_known self.new (L.left link.new))) }
+        // Want of memory loses nothing: what was taken stands after what was kept.
+        ensures kept { OnErr result (TakesMore (L.left link.old) (L.left link.new) self.old self.new) }
 
         ensures given { Keeps (L.given link.old) (L.given link.new) }
         ensures fault { result ≡ Ok ResponseIn.ReadFault → HasRisen (L.faults link.old) (L.faults link.new) }
+        ensures quiet { result ≢ Ok ResponseIn.ReadFault → L.faults link.new ≡ L.faults link.old }
         ensures faults { L.faults link.old ≤ L.faults link.new }
     {
         self.read(alloc, link)
@@ -92,6 +95,7 @@ impl ResponseReader {
         ensures kept { OnErr result (TakesMore (L.left link.old) (L.left link.new) self.old self.new) }
         ensures given { Keeps (L.given link.old) (L.given link.new) }
         ensures fault { result ≡ Ok ResponseIn.ReadFault → HasRisen (L.faults link.old) (L.faults link.new) }
+        ensures quiet { result ≢ Ok ResponseIn.ReadFault → L.faults link.new ≡ L.faults link.old }
         ensures faults { L.faults link.old ≤ L.faults link.new }
     {
         let count = start + content;
@@ -122,6 +126,7 @@ impl ResponseReader {
         ensures kept { OnErr result (TakesMore (L.left link.old) (L.left link.new) self.old self.new) }
         ensures given { Keeps (L.given link.old) (L.given link.new) }
         ensures fault { result ≡ Ok (Some ResponseIn.ReadFault) → HasRisen (L.faults link.old) (L.faults link.new) }
+        ensures quiet { result ≢ Ok (Some ResponseIn.ReadFault) → L.faults link.new ≡ L.faults link.old }
         ensures faults { L.faults link.old ≤ L.faults link.new }
     {
         match head_of(alloc, self.taken.as_slice())? {
@@ -142,12 +147,17 @@ impl ResponseReader {
         link: &mut L,
         scan: &mut Scan,
     ) -> Result<Option<ResponseIn>, AllocError>
+        requires scans { Scans scan.old.seen scan.old.place self.old }
+        requires none { HasNoResponse (take scan.old.seen self.old) }
         ensures some { IfOk result (λ told. IfSome told (Responds (L.left link.old) (L.left link.new) self.old self.new)) }
         ensures short { result ≡ Ok None → length self.old < longest_head }
+        ensures scans { result ≡ Ok None → Scans scan.new.seen scan.new.place self.old }
+        ensures none { result ≡ Ok None → HasNoResponse self.old }
         ensures same { result ≡ Ok None → (self.new ≡ self.old) × (link.new ≡ link.old) }
         ensures kept { OnErr result (TakesMore (L.left link.old) (L.left link.new) self.old self.new) }
         ensures given { Keeps (L.given link.old) (L.given link.new) }
         ensures fault { result ≡ Ok (Some ResponseIn.ReadFault) → HasRisen (L.faults link.old) (L.faults link.new) }
+        ensures quiet { result ≢ Ok (Some ResponseIn.ReadFault) → L.faults link.new ≡ L.faults link.old }
         ensures faults { L.faults link.old ≤ L.faults link.new }
     {
         if !scan.is_due(self.taken.as_slice()) {
@@ -162,6 +172,7 @@ impl ResponseReader {
         ensures kept { OnErr result (TakesMore (L.left link.old) (L.left link.new) self.old self.new) }
         ensures given { Keeps (L.given link.old) (L.given link.new) }
         ensures fault { result ≡ Ok ResponseIn.ReadFault → HasRisen (L.faults link.old) (L.faults link.new) }
+        ensures quiet { result ≢ Ok ResponseIn.ReadFault → L.faults link.new ≡ L.faults link.old }
         ensures faults { L.faults link.old ≤ L.faults link.new }
     {
         let mut scan = Scan::response();

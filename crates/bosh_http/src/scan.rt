@@ -1,6 +1,7 @@
 // Which bytes of a head may tell something new. A head that comes byte by byte isn't parsed anew at each of them.
-ghost use Rattle.std.specs.Prelude.{◌≡◌, ◌<◌, false, length};
+ghost use Rattle.std.specs.Prelude.{◌≡◌, ◌<◌, ℕ, List, false, length};
 ghost use Rattle.bosh_http.specs.Message.{longest_head};
+ghost use Rattle.bosh_http.specs.Scanning.{NoHeadEnds, Scans, fine, line_step, step_of, value_step, within_step};
 
 use crate::judging::LONGEST_HEAD;
 use httparse::{is_header_name_token, is_header_value_token, is_method_token, is_uri_token};
@@ -41,7 +42,10 @@ pub(crate) struct Scan {
 }
 
 impl Scan {
-    pub(crate) fn request() -> Self {
+    pub(crate) fn request() -> Self
+        ensures scans { (bytes : List ℕ) → Scans result.seen result.place bytes }
+        ensures none { result.seen ≡ 0 }
+    {
         Scan {
             first: Place::MethodStart,
             place: Place::Before,
@@ -49,7 +53,10 @@ impl Scan {
         }
     }
 
-    pub(crate) fn response() -> Self {
+    pub(crate) fn response() -> Self
+        ensures scans { (bytes : List ℕ) → Scans result.seen result.place bytes }
+        ensures none { result.seen ≡ 0 }
+    {
         Scan {
             first: Place::Line(BEFORE_PHRASE),
             place: Place::Before,
@@ -60,7 +67,11 @@ impl Scan {
     // Whether one of the bytes that weren't scanned yet may tell something. The scan goes no further than that byte, since the
     // parser then sees all of them.
     pub(crate) fn is_due(&mut self, bytes: &[u8]) -> bool
-        ensures { result ≡ false → length bytes.now < longest_head }
+        requires { Scans self.old.seen self.old.place bytes.now }
+        ensures scans { Scans self.new.seen self.new.place bytes.now }
+        ensures short { result ≡ false → length bytes.now < longest_head }
+        // Where it is not due, no head ends in the bytes that weren't scanned yet.
+        ensures none { result ≡ false → NoHeadEnds self.old.seen (length bytes.now) bytes.now }
     {
         while self.seen < bytes.len() {
             let (place, is_due) = self.step(bytes[self.seen]);
@@ -74,7 +85,10 @@ impl Scan {
     }
 
     // Where the byte after this one stands, and whether this one may tell something.
-    fn step(&self, byte: u8) -> (Place, bool) {
+    #[tactic(auto, unfolding(crate::specs::Scanning::step_of))]
+    fn step(&self, byte: u8) -> (Place, bool)
+        ensures { result ≡ step_of self.now.first self.now.place byte }
+    {
         match self.place {
             Place::Before => match byte {
                 b'\r' => (Place::BeforeReturn, false),
@@ -88,7 +102,10 @@ impl Scan {
 }
 
 // The same from the first line on.
-fn step_within(place: Place, byte: u8) -> (Place, bool) {
+#[tactic(auto, unfolding(crate::specs::Scanning::within_step))]
+fn step_within(place: Place, byte: u8) -> (Place, bool)
+    ensures { result ≡ within_step place byte }
+{
     match place {
         Place::MethodStart => fine(is_method_token(byte), Place::Method),
         Place::Method => match byte {
@@ -112,7 +129,10 @@ fn step_within(place: Place, byte: u8) -> (Place, bool) {
 }
 
 // The same in the first line.
-fn step_in_line(left: u8, byte: u8) -> (Place, bool) {
+#[tactic(auto, unfolding(crate::specs::Scanning::line_step))]
+fn step_in_line(left: u8, byte: u8) -> (Place, bool)
+    ensures { result ≡ line_step left byte }
+{
     if byte == b'\n' {
         return (Place::LineStart, true);
     }
@@ -123,7 +143,10 @@ fn step_in_line(left: u8, byte: u8) -> (Place, bool) {
 }
 
 // The same in a value.
-fn step_in_value(byte: u8) -> (Place, bool) {
+#[tactic(auto, unfolding(crate::specs::Scanning::value_step))]
+fn step_in_value(byte: u8) -> (Place, bool)
+    ensures { result ≡ value_step byte }
+{
     match byte {
         b'\r' => (Place::Return, false),
         b'\n' => (Place::LineStart, false),
@@ -132,7 +155,10 @@ fn step_in_value(byte: u8) -> (Place, bool) {
 }
 
 // A byte that goes on as it may tells nothing.
-fn fine(goes_on: bool, place: Place) -> (Place, bool) {
+#[tactic(auto, unfolding(crate::specs::Scanning::fine))]
+fn fine(goes_on: bool, place: Place) -> (Place, bool)
+    ensures { result ≡ fine goes_on place }
+{
     if goes_on {
         return (place, false);
     }

@@ -1,8 +1,8 @@
 // The bytes that have been taken off a link.
-ghost use Rattle.std.specs.Prelude.{◌≡◌, ◌<◌, ◌≤◌, ◌+◌, ◌-◌, ◌^◌, ℕ, List, [], length, take, drop, IfOk, OnOk, OnErr, Ok, ◌==◌};
+ghost use Rattle.std.specs.Prelude.{◌≡◌, ◌≢◌, ◌<◌, ◌≤◌, ◌+◌, ◌-◌, ◌^◌, ℕ, List, [], length, take, drop, IfOk, OnOk, OnErr, Ok, ◌==◌};
 ghost use Rattle.std.specs.Io.KnownBytes.{Keeps, IsAtEnd};
 ghost use Rattle.bosh_ports.specs.Faults.{HasRisen};
-ghost use Rattle.bosh_ports.specs.Source.{Takes};
+ghost use Rattle.bosh_ports.specs.Source.{CountsTake, Takes};
 
 use bosh_ports::{Got, Link};
 use std::alloc::{AllocError, Global};
@@ -17,6 +17,7 @@ fn take_after<L: Link>(link: &mut L, room: &mut [u8], first: usize) -> Got
     ensures takes { Takes (L.left link.old) (L.left link.new) (drop first room.new) result }
     ensures given { Keeps (L.given link.old) (L.given link.new) }
     ensures failed { result ≡ Got.Failed → HasRisen (L.faults link.old) (L.faults link.new) }
+    ensures counts { CountsTake (L.faults link.old) (L.faults link.new) result }
     ensures faults { L.faults link.old ≤ L.faults link.new }
 {
     link.take(&mut room[first..])
@@ -83,8 +84,10 @@ impl Taken {
         ensures none { result ≡ Ok Filled.End → self.new ≡ self.old }
         ensures end { result ≡ Ok Filled.End → IsAtEnd (L.left link.old) }
         ensures same { result ≡ Ok Filled.End → Keeps (L.left link.old) (L.left link.new) }
+        ensures unchanged { result ≡ Ok Filled.Failed → self.new ≡ self.old }
         ensures given { Keeps (L.given link.old) (L.given link.new) }
         ensures failed { result ≡ Ok Filled.Failed → HasRisen (L.faults link.old) (L.faults link.new) }
+        ensures quiet { result ≢ Ok Filled.Failed → L.faults link.new ≡ L.faults link.old }
         ensures faults { L.faults link.old ≤ L.faults link.new }
     {
         let len = self.bytes.len();

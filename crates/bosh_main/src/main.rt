@@ -1,11 +1,11 @@
-// The program: it looks at its words, makes the real objects, and hands them to the top call.
+// The program: it hands its words and the real streams to the top call.
 #![tactic(auto)]
 
 mod run;
 #[cfg(test)]
 mod tests;
 
-use crate::run::{NO_MEMORY, WRONG_WORDS, run_local};
+use crate::run::{run_local, status_without_words};
 use bosh_ports::{ReadSource, WriteSink};
 use std::process::ExitCode;
 use std::{env, io};
@@ -17,9 +17,7 @@ fn main(rt: HostRuntime) -> ExitCode {
             let mut sink = WriteSink::new(io::writer(&rt));
             run_local(rt.alloc(), &words, &mut source, &mut sink)
         }
-        Err(error) if error.kind() == io::ErrorKind::OutOfMemory => NO_MEMORY,
-        // A word that is no UTF-8 is no command.
-        Err(_) => WRONG_WORDS,
+        Err(error) => status_without_words(error.kind()),
     };
     ExitCode::from(status)
 }

@@ -1,15 +1,15 @@
 // What the program does over what it is handed.
-ghost use Rattle.std.specs.Prelude.{◌≡◌, ◌↔◌, ◌≤◌, List, [], ◌∷◌, IfSome, IsTrue, Contains};
-ghost use Rattle.std.specs.Io.KnownBytes.{Keeps};
+ghost use Rattle.std.specs.Prelude.{◌≡◌, ◌≢◌, ◌↔◌, List, [], ◌∷◌, IfSome, IsTrue, Contains};
 ghost use Rattle.bosh_ports.specs.Faults.{HasRisen};
 ghost use Rattle.bosh_ports.specs.Sink.{AppendsFront};
 ghost use Rattle.script_text.specs.Report.{report_text};
-ghost use Rattle.script_text.specs.Script.{drive_of, InwardIsLongestRun};
+ghost use Rattle.script_text.specs.Script.{drive_of, GivesLongestRun};
 ghost use Rattle.bosh_main.specs.Run.{IsDrive, ReportsStatus};
 
 use bosh_ports::{Sink, Source};
 use script_text::{DriveError, Driven, run_drive};
 use std::alloc::Global;
+use std::io::ErrorKind;
 
 /// The script was read to its end, and its whole report was given.
 pub const DONE: u8 = 0;
@@ -32,23 +32,30 @@ pub fn run_local<S: Source, K: Sink>(
     source: &mut S,
     sink: &mut K,
 ) -> u8
-    ensures statuses { Contains (DONE ∷ WRONG_WORDS ∷ BAD_SCRIPT ∷ READ_FAULT ∷ WRITE_FAULT ∷ NO_MEMORY ∷ []) result }
+    ensures statuses { Contains (0 ∷ 2 ∷ 3 ∷ 4 ∷ 5 ∷ 6 ∷ []) result }
 
-    // Other words, and these alone, have this status, and nothing is given.
-    ensures wrong_words { (result ≡ WRONG_WORDS) ↔ (IsDrive words.now → ⊥) }
-    ensures unused { result ≡ WRONG_WORDS → Keeps (K.given sink.old) (K.given sink.new) }
+    // Other words, and these alone, have this status, and then neither the source nor the sink is touched.
+    ensures wrong_words { (result ≡ 2) ↔ (IsDrive words.now → ⊥) }
+    ensures unread { result ≡ 2 → source.new ≡ source.old }
+    ensures unwritten { result ≡ 2 → sink.new ≡ sink.old }
 
     // Where the source tells its bytes, these statuses are the script's, and what was given is its report and nothing
     // else; with the others it is a front of it.
-    ensures done { result ≡ DONE → IfSome (S.left source.old) (λ script. ReportsStatus (drive_of script) DONE (K.given sink.old) (K.given sink.new)) }
-    ensures bad { result ≡ BAD_SCRIPT → IfSome (S.left source.old) (λ script. ReportsStatus (drive_of script) BAD_SCRIPT (K.given sink.old) (K.given sink.new)) }
-    ensures part { READ_FAULT ≤ result → IfSome (S.left source.old) (λ script. AppendsFront (K.given sink.old) (K.given sink.new) (report_text (drive_of script).report)) }
+    ensures done { result ≡ 0 → IfSome (S.left source.old) (λ script. ReportsStatus (drive_of script) 0 (K.given sink.old) (K.given sink.new)) }
+    ensures bad { result ≡ 3 → IfSome (S.left source.old) (λ script. ReportsStatus (drive_of script) 3 (K.given sink.old) (K.given sink.new)) }
+    ensures part_read { result ≡ 4 → IfSome (S.left source.old) (λ script. AppendsFront (K.given sink.old) (K.given sink.new) (report_text (drive_of script).report)) }
+    ensures part_written { result ≡ 5 → IfSome (S.left source.old) (λ script. AppendsFront (K.given sink.old) (K.given sink.new) (report_text (drive_of script).report)) }
+    ensures part_in_memory { result ≡ 6 → IfSome (S.left source.old) (λ script. AppendsFront (K.given sink.old) (K.given sink.new) (report_text (drive_of script).report)) }
 
-    // What a report says went inward is the longest unbroken run of the request ids that arrived.
-    ensures longest { IsDrive words.now → IfSome (S.left source.old) (λ script. InwardIsLongestRun (drive_of script)) }
+    // What a whole report that was given says went inward is the longest unbroken run of the request ids that arrived.
+    ensures longest_done { result ≡ 0 → IfSome (S.left source.old) (λ script. GivesLongestRun (drive_of script) (K.given sink.old) (K.given sink.new)) }
+    ensures longest_bad { result ≡ 3 → IfSome (S.left source.old) (λ script. GivesLongestRun (drive_of script) (K.given sink.old) (K.given sink.new)) }
 
-    ensures read_fault { result ≡ READ_FAULT → HasRisen (S.faults source.old) (S.faults source.new) }
-    ensures write_fault { result ≡ WRITE_FAULT → HasRisen (K.faults sink.old) (K.faults sink.new) }
+    // A count of faults rises with the status that names it, and with no other.
+    ensures read_fault { result ≡ 4 → HasRisen (S.faults source.old) (S.faults source.new) }
+    ensures read_counts { result ≢ 4 → S.faults source.new ≡ S.faults source.old }
+    ensures write_fault { result ≡ 5 → HasRisen (K.faults sink.old) (K.faults sink.new) }
+    ensures write_counts { result ≢ 5 → K.faults sink.new ≡ K.faults sink.old }
 {
     if !is_drive(words) {
         return WRONG_WORDS;
@@ -69,4 +76,15 @@ fn is_drive(words: &[String]) -> bool
         [word] => word.as_str() == "drive",
         _ => false,
     }
+}
+
+/// The status where the program's words can't be had. A word that is no UTF-8 is no command.
+pub fn status_without_words(kind: ErrorKind) -> u8
+    ensures no_memory { (result ≡ 6) ↔ (kind ≡ ErrorKind.OutOfMemory) }
+    ensures wrong_words { (result ≡ 2) ↔ (kind ≢ ErrorKind.OutOfMemory) }
+{
+    if kind == ErrorKind::OutOfMemory {
+        return NO_MEMORY;
+    }
+    WRONG_WORDS
 }

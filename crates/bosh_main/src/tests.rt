@@ -159,6 +159,15 @@ fn a_fault_stops_the_script(rt: HostRuntime) -> Result<(), Fail> {
     Ok(())
 }
 
+// What follows the line `end` may lie in the piece that was taken, and no further one is asked for.
+#[test]
+fn nothing_is_asked_for_after_the_end(rt: HostRuntime) -> Result<(), Fail> {
+    let (status, given) = run(rt.alloc(), b"open 5\nend\nshort 6 <a/>\n", &[2], &[])?;
+    assert_eq!(rt; status, DONE);
+    assert_eq!(rt; given.as_slice(), b"done 2\n".as_slice());
+    Ok(())
+}
+
 #[test]
 fn other_words_are_no_command(rt: HostRuntime) -> Result<(), Fail> {
     let rows: [&[&str]; 4] = [&[], &["Drive"], &["drive", "now"], &["pair"]];

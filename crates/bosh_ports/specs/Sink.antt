@@ -9,6 +9,11 @@ abbrev pub Gives : Option (List ℕ) → Option (List ℕ) → List ℕ → Gave
 Gives old new bytes (Wrote n) = (1 ≤ n) × (n ≤ length bytes) × Appends old new (take n bytes)
 Gives old new bytes Failed = Keeps old new
 
+-- a give that didn't fail left the count of faults as it was
+abbrev pub CountsGive : ℕ → ℕ → Gave → Type 0
+CountsGive old new (Wrote n) = new ≡ old
+CountsGive old new Failed = Unit {0}
+
 -- the sink was given a front of these bytes and nothing else
 abbrev pub AppendsFront : Option (List ℕ) → Option (List ℕ) → List ℕ → Type 0
 AppendsFront old new bytes = (front : List ℕ) × (rest : List ℕ) × (bytes ≡ front ++ rest) × Appends old new front

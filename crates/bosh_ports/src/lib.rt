@@ -14,8 +14,9 @@ mod real_bell;
 mod sending;
 mod sink;
 mod source;
+mod stream_link;
 mod streams;
-mod tcp_link;
+mod tcp;
 #[cfg(test)]
 mod tests;
 
@@ -30,5 +31,6 @@ pub use real_bell::RealBell;
 pub use sending::{send_all, send_parts};
 pub use sink::{Gave, Sink};
 pub use source::{Got, Source};
+pub use stream_link::{HangUp, StreamLink};
 pub use streams::{ReadSource, WriteSink};
-pub use tcp_link::TcpLink;
+pub use tcp::{TcpLink, tcp_link};

@@ -47,7 +47,7 @@ impl MemorySource {
 }
 
 impl Source for MemorySource {
-    ghost use Rattle.bosh_ports.specs.Source.{Takes};
+    ghost use Rattle.bosh_ports.specs.Source.{Takes, CountsTake};
 
     ghost left = { λ s. Some s.bytes };
 
@@ -57,6 +57,7 @@ impl Source for MemorySource {
         requires { 0 < length into.old }
         ensures takes { Takes (Some self.old.bytes) (Some self.new.bytes) into.new result }
         ensures failed { result ≡ Got.Failed → HasRisen self.old.faults self.new.faults }
+        ensures counts { CountsTake self.old.faults self.new.faults result }
         ensures faults { self.old.faults ≤ self.new.faults }
 
         // It fails at the listed calls and at no others.
@@ -120,7 +121,7 @@ impl MemorySink {
 }
 
 impl Sink for MemorySink {
-    ghost use Rattle.bosh_ports.specs.Sink.{Gives};
+    ghost use Rattle.bosh_ports.specs.Sink.{Gives, CountsGive};
 
     ghost given = { λ s. Some s.bytes };
 
@@ -130,6 +131,7 @@ impl Sink for MemorySink {
         requires { 0 < length bytes.now }
         ensures gives { Gives (Some self.old.bytes) (Some self.new.bytes) bytes.now result }
         ensures failed { result ≡ Gave.Failed → HasRisen self.old.faults self.new.faults }
+        ensures counts { CountsGive self.old.faults self.new.faults result }
         ensures faults { self.old.faults ≤ self.new.faults }
 
         // It fails at the listed calls, and at others for want of memory alone.

@@ -2,7 +2,7 @@
 ghost use Rattle.std.specs.Prelude.{◌≡◌, ℕ, ◌<◌, ◌≤◌, ◌↔◌, ◌+◌, List, [], Some, length, true, drop};
 ghost use Rattle.bosh_ports.specs.Faults.{HasRisen};
 ghost use Rattle.bosh_ports.specs.Memory.{Memory, IsNextToFail, counted_up};
-ghost use Rattle.bosh_ports.specs.Link.{MemoryLink, next_piece};
+ghost use Rattle.bosh_ports.specs.Link.{MemoryLink, GivesAtMost, next_piece};
 
 use crate::link::Link;
 use crate::memory::{MemorySink, MemorySource};
@@ -84,12 +84,14 @@ impl MemoryLink {
 
 impl Link for MemoryLink {
     ghost use Rattle.std.specs.Io.KnownBytes.{Keeps};
-    ghost use Rattle.bosh_ports.specs.Source.{Takes};
-    ghost use Rattle.bosh_ports.specs.Sink.{Gives};
+    ghost use Rattle.bosh_ports.specs.Source.{Takes, CountsTake};
+    ghost use Rattle.bosh_ports.specs.Sink.{Gives, CountsGive};
 
     ghost left = { λ l. Some l.taking.bytes };
 
     ghost given = { λ l. Some l.giving.bytes };
+
+    ghost closed = { λ l. Some l.is_closed };
 
     ghost faults = { λ l. l.taking.faults + l.giving.faults };
 
@@ -97,11 +99,18 @@ impl Link for MemoryLink {
         requires { 0 < length into.old }
         ensures takes { Takes (Some self.old.taking.bytes) (Some self.new.taking.bytes) into.new result }
         ensures given { self.new.giving.bytes ≡ self.old.giving.bytes }
+        ensures closed { self.new.is_closed ≡ self.old.is_closed }
         ensures failed { result ≡ Got.Failed → HasRisen (self.old.taking.faults + self.old.giving.faults) (self.new.taking.faults + self.new.giving.faults) }
+        ensures counts { CountsTake (self.old.taking.faults + self.old.giving.faults) (self.new.taking.faults + self.new.giving.faults) result }
         ensures faults { self.old.taking.faults + self.old.giving.faults ≤ self.new.taking.faults + self.new.giving.faults }
 
         // It fails at the listed calls and at no others, and gives no more than the next piece has.
         ensures listed { (result ≡ Got.Failed) ↔ (IsNextToFail self.old.taking) }
+        ensures piece { GivesAtMost (next_piece self.old.pieces (length into.old)) result }
+
+        // A call more was made of the source, and one piece is spent; nothing else is changed.
+        ensures calls { self.new.taking.calls ≡ counted_up self.old.taking.calls }
+        ensures failing { self.new.taking.failing ≡ self.old.taking.failing }
         ensures pieces { self.new.pieces ≡ drop 1 self.old.pieces }
         ensures giving { self.new.giving ≡ self.old.giving }
     {
@@ -113,12 +122,18 @@ impl Link for MemoryLink {
         requires { 0 < length bytes.now }
         ensures gives { Gives (Some self.old.giving.bytes) (Some self.new.giving.bytes) bytes.now result }
         ensures left { self.new.taking.bytes ≡ self.old.taking.bytes }
+        ensures closed { self.new.is_closed ≡ self.old.is_closed }
         ensures failed { result ≡ Gave.Failed → HasRisen (self.old.taking.faults + self.old.giving.faults) (self.new.taking.faults + self.new.giving.faults) }
+        ensures counts { CountsGive (self.old.taking.faults + self.old.giving.faults) (self.new.taking.faults + self.new.giving.faults) result }
         ensures faults { self.old.taking.faults + self.old.giving.faults ≤ self.new.taking.faults + self.new.giving.faults }
 
         // It fails at the listed calls, and at others for want of memory alone.
         ensures listed { IsNextToFail self.old.giving → result ≡ Gave.Failed }
-        ensures taking { self.new.taking ≡ self.old.taking }
+
+        // A call more was made of the sink; nothing else is changed.
+        ensures calls { self.new.giving.calls ≡ counted_up self.old.giving.calls }
+        ensures failing { self.new.giving.failing ≡ self.old.giving.failing }
+        ensures others { self.new ≡ record self.old { giving = self.new.giving } }
     {
         self.sink.give(bytes)
     }

@@ -1,5 +1,5 @@
 // A link without faults: its count is constantly 0.
-ghost use Rattle.std.specs.Prelude.{◌≡◌, Some, None};
+ghost use Rattle.std.specs.Prelude.{◌≡◌, Some, None, false};
 
 use crate::link::Link;
 use crate::quiet::{Discard, QuietSource};
@@ -11,14 +11,17 @@ use crate::source::{Got, Source};
 #[derive(Debug, Drop)]
 pub struct QuietLink {
     pub source: QuietSource,
+    pub is_closed: bool,
 }
 
 impl QuietLink {
     pub fn new(bytes: Vec<u8>) -> Self
-        ensures { result.source ≡ bytes.items }
+        ensures source { result.source ≡ bytes.items }
+        ensures is_closed { result.is_closed ≡ false }
     {
         QuietLink {
             source: QuietSource::new(bytes),
+            is_closed: false,
         }
     }
 }
@@ -27,6 +30,8 @@ impl Link for QuietLink {
     ghost left = { λ l. Some l.source };
 
     ghost given = { λ _. None };
+
+    ghost closed = { λ l. Some l.is_closed };
 
     ghost faults = { λ _. 0 };
 
@@ -38,5 +43,7 @@ impl Link for QuietLink {
         Discard.give(bytes)
     }
 
-    fn close(&mut self) {}
+    fn close(&mut self) {
+        self.is_closed = true;
+    }
 }

@@ -1,5 +1,5 @@
 // Giving the whole of some bytes to a link.
-ghost use Rattle.std.specs.Prelude.{◌≤◌, OnErr, map};
+ghost use Rattle.std.specs.Prelude.{◌≡◌, ◌≤◌, OnErr, OnOk, map};
 ghost use Rattle.std.specs.List.{concat};
 ghost use Rattle.std.specs.Io.KnownBytes.{Keeps};
 ghost use Rattle.bosh_ports.specs.Faults.{HasRisen};
@@ -14,6 +14,7 @@ pub fn send_all<L: Link>(link: &mut L, bytes: &[u8]) -> Result<(), WriteFault>
     ensures given { GivesAll result (L.given link.old) (L.given link.new) bytes.now }
     ensures left { Keeps (L.left link.old) (L.left link.new) }
     ensures fault { OnErr result (HasRisen (L.faults link.old) (L.faults link.new)) }
+    ensures counts { OnOk result (L.faults link.new ≡ L.faults link.old) }
     ensures faults { L.faults link.old ≤ L.faults link.new }
 {
     let mut rest = bytes;
@@ -31,6 +32,7 @@ pub fn send_parts<L: Link>(link: &mut L, parts: &[&[u8]]) -> Result<(), WriteFau
     ensures given { GivesAll result (L.given link.old) (L.given link.new) (concat (map (λ part. part.now) parts.now)) }
     ensures left { Keeps (L.left link.old) (L.left link.new) }
     ensures fault { OnErr result (HasRisen (L.faults link.old) (L.faults link.new)) }
+    ensures counts { OnOk result (L.faults link.new ≡ L.faults link.old) }
     ensures faults { L.faults link.old ≤ L.faults link.new }
 {
     for part in parts {

@@ -12,7 +12,7 @@ pub enum Gave {
 /// A stream of bytes that is given in pieces, and how often giving failed.
 pub trait Sink {
     ghost use Rattle.bosh_ports.specs.Faults.{HasRisen};
-    ghost use Rattle.bosh_ports.specs.Sink.{Gives};
+    ghost use Rattle.bosh_ports.specs.Sink.{Gives, CountsGive};
 
     // The bytes that it was given, where the sink tells them.
     ghost given: { Self → Option (List ℕ) };
@@ -24,5 +24,6 @@ pub trait Sink {
         requires { 0 < length bytes.now }
         ensures gives { Gives (given self.old) (given self.new) bytes.now result }
         ensures failed { result ≡ Gave.Failed → HasRisen (faults self.old) (faults self.new) }
+        ensures counts { CountsGive (faults self.old) (faults self.new) result }
         ensures faults { faults self.old ≤ faults self.new };
 }

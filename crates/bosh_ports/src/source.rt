@@ -13,7 +13,7 @@ pub enum Got {
 /// A stream of bytes that is taken in pieces, and how often taking failed.
 pub trait Source {
     ghost use Rattle.bosh_ports.specs.Faults.{HasRisen};
-    ghost use Rattle.bosh_ports.specs.Source.{Takes};
+    ghost use Rattle.bosh_ports.specs.Source.{Takes, CountsTake};
 
     // The bytes that are left, where the source tells them.
     ghost left: { Self → Option (List ℕ) };
@@ -25,6 +25,7 @@ pub trait Source {
         requires { 0 < length into.old }
         ensures takes { Takes (left self.old) (left self.new) into.new result }
         ensures failed { result ≡ Got.Failed → HasRisen (faults self.old) (faults self.new) }
+        ensures counts { CountsTake (faults self.old) (faults self.new) result }
         ensures faults { faults self.old ≤ faults self.new };
 }
 

@@ -43,7 +43,7 @@ where
     let (far, _) = listener.accept()?;
     near.set_read_timeout(Some(Duration::from_secs(1)))?;
     far.set_read_timeout(Some(Duration::from_secs(1)))?;
-    Ok((TcpLink::new(near), TcpLink::new(far)))
+    Ok((tcp_link(near)?, tcp_link(far)?))
 }
 
 #[test]

@@ -20,7 +20,7 @@ pub enum Ending {
     /// (XEP-0124, section 14.3).
     Stale { rid: Rid, lowest: Rid },
     /// The request id is beyond what the session takes: `last` is the highest one processed, and `requests` how many
-    /// requests a client may have open (XEP-0124, sections 11 and 14.1).
+    /// requests a client may have open (XEP-0124, sections 11 and 14.2).
     Above { rid: Rid, last: Rid, requests: u32 },
     /// The request's key does not belong to the key sequence (XEP-0124, section 15).
     WrongKey { rid: Rid },

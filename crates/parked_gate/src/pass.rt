@@ -21,6 +21,8 @@ pub struct Pass<O: Object> {
     ghost counted: { length ≡ length_of seat.me.0.seen },
     // Its own entries are those of its number in what it has seen.
     pub ghost own: { calls_of O.caller_of number seat.me.0.seen ≡ seat.me.0.mine },
+    // What it has seen was the object's whole history once, and so it is a legal one.
+    pub ghost legal: { ∥ O.is_legal seat.me.0.seen ∥₁ },
 }
 
 impl<O: Object> Pass<O> {

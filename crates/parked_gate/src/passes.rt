@@ -1,7 +1,7 @@
 // Passes are split off and joined.
-ghost use Rattle.std.specs.Prelude.{◌≡◌, ◌≢◌, []};
+ghost use Rattle.std.specs.Prelude.{◌≡◌, ◌≢◌, [], IfSome};
 ghost use Rattle.parked_gate.specs.Histories.{StartsWith, longer};
-ghost use Rattle.parked_gate.specs.Passes.{known, IsPassOf};
+ghost use Rattle.parked_gate.specs.Passes.{known, IsLegalPass, IsPassOf};
 
 use crate::gate::Gate;
 use crate::law::Part;
@@ -21,6 +21,7 @@ impl<O: Object> Gate<O> {
         ensures seen { (known result).seen ≡ (known pass.old).seen }
         ensures mine { (known result).mine ≡ [] }
         ensures learnt { (known result).learnt ≡ [] }
+        ensures legal { IsLegalPass result }
     {
         let number = self.draw_number(rt, &mut pass.seat);
         let seat = self.table.shared.split_seat::<Part>(&mut pass.seat);
@@ -29,6 +30,28 @@ impl<O: Object> Gate<O> {
             number,
             length: pass.length,
         }
+    }
+
+    /// The same without waiting for anybody. It answers none where other passes were split off at each of its tries, or once
+    /// 4,294,967,295 passes were made.
+    pub fn try_split(&self, pass: &mut Pass<O>) -> Option<Pass<O>>
+        requires { IsPassOf self.now pass.old }
+        ensures old_pass { IsPassOf self.now pass.new }
+        ensures old_same { known pass.new ≡ known pass.old }
+        ensures pass { IfSome result (λ new. IsPassOf self.now new) }
+        ensures number { IfSome result (λ new. (known new).number ≢ (known pass.old).number) }
+        ensures seen { IfSome result (λ new. (known new).seen ≡ (known pass.old).seen) }
+        ensures mine { IfSome result (λ new. (known new).mine ≡ []) }
+        ensures learnt { IfSome result (λ new. (known new).learnt ≡ []) }
+        ensures legal { IfSome result (λ new. IsLegalPass new) }
+    {
+        let number = self.try_number(&mut pass.seat)?;
+        let newcomer = self.table.shared.split_seat::<Part>(&mut pass.seat);
+        Some(Pass {
+            seat: newcomer,
+            number,
+            length: pass.length,
+        })
     }
 
     /// Joins a pass to another one, which has then seen what either had. The joined number is never used again.
@@ -40,6 +63,7 @@ impl<O: Object> Gate<O> {
         ensures begins_with_this { StartsWith (known into.new).seen (known into.old).seen }
         ensures begins_with_other { StartsWith (known into.new).seen (known other).seen }
         ensures numbers { (known other).number ≢ (known into.old).number }
+        ensures legal { IsLegalPass into.new }
     {
         let Pass {
             seat,

@@ -1,5 +1,5 @@
 // The single steps of a seat, each as a function that says what it tells.
-ghost use Rattle.std.specs.Prelude.{◌≡◌, ◌≢◌, ◌==◌, ◌<◌, ◌^◌, ℕ, [], ◌∷◌, ◌++◌, List, length, Option, Some, None, MatchBool};
+ghost use Rattle.std.specs.Prelude.{◌≡◌, ◌≢◌, ◌==◌, ◌<◌, ◌^◌, ℕ, [], ◌∷◌, ◌++◌, List, length, Option, Some, None, IfNone, IfSome, MatchBool};
 ghost use Rattle.parked_gate.specs.Histories.{StartsWith, calls_of};
 ghost use Rattle.parked_gate.specs.Steps.{IsAtRest, queued, holding, learned, entered, rested, endowed, met_of, compared, HasRun};
 
@@ -9,6 +9,9 @@ use crate::object::Object;
 use crate::view::View;
 use atomic_table::Seat;
 use std::sync::Wait;
+
+/// How often a number is tried for where nobody waits.
+const TRIES: u32 = 64;
 
 /// A seat at the gate's table.
 pub(crate) type SeatOf<O> = Seat<Option<O>, View<<O as Object>::Entry>>;
@@ -112,6 +115,31 @@ impl<O: Object> Gate<O> {
             }
         }
         unreachable!()
+    }
+
+    /// Draws the next number for a pass in a few tries, or none.
+    pub(crate) fn try_number(&self, seat: &mut SeatOf<O>) -> Option<u32>
+        requires table { seat.old.table_id ≡ self.now.table.shared.table_id }
+        requires number { (n : ℕ) × (seat.old.me.0.number ≡ Some n) }
+        ensures table { seat.new.table_id ≡ seat.old.table_id }
+        ensures gift { IfSome result (λ number. seat.new.me ≡ (endowed seat.old.me.0 number, seat.old.me.1)) }
+        ensures apart { IfSome result (λ number. seat.old.me.0.number ≢ Some number) }
+        ensures unused { IfSome result (λ number. calls_of O.caller_of number seat.old.me.0.seen ≡ []) }
+        ensures none { IfNone result (seat.new.me ≡ seat.old.me) }
+    {
+        for _ in 0..TRIES {
+            let next = self.table.shared.peek(NUMBERS);
+            if next < u64::from(u32::MAX) {
+                let found = self
+                    .table
+                    .shared
+                    .compare_exchange::<Number>(seat, NUMBERS, next, next + 1);
+                if found == next {
+                    return Some(next as u32);
+                }
+            }
+        }
+        None
     }
 
     /// Takes in another seat, and keeps the longer of what the two had seen.

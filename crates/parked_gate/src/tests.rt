@@ -99,10 +99,24 @@ fn two_passes_add_and_are_joined(rt: HostRuntime) -> Result<(), Fail> {
         .ok()
         .ok_or("memory")?;
     let mut second = gate.split(&rt, &mut first);
+    let third = gate.try_split(&mut second).ok_or("no number")?;
     assert_eq!(rt; gate.call(&rt, &mut first, 2), Some(2));
     assert_eq!(rt; gate.call(&rt, &mut second, 3), Some(5));
-    assert_eq!(rt; (first.number(), second.number()), (0, 1));
-    assert_eq!(rt; (first.length(), second.length()), (1, 2));
+    assert_eq!(rt;
+        (first.number(), second.number(), third.number()),
+        (0, 1, 2)
+    );
+    assert_eq!(rt;
+        (
+            gate.poll(&rt, &mut second, 5),
+            gate.poll(&rt, &mut first, 6)
+        ),
+        (Some(5), None)
+    );
+    assert_eq!(rt;
+        (first.length(), second.length(), third.length()),
+        (2, 2, 0)
+    );
     assert_eq!(rt; gate.look(&rt, &mut second, &0), 1);
     assert_eq!(rt; gate.look(&rt, &mut second, &1), 1);
     gate.join(&mut first, second);

@@ -1,5 +1,5 @@
 // A pass waits until the object has what it asks for.
-ghost use Rattle.std.specs.Prelude.{◌≡◌, ◌≤◌, MatchOption};
+ghost use Rattle.std.specs.Prelude.{◌≡◌, ◌+◌, ◌≤◌, length, MatchOption};
 ghost use Rattle.bosh_ports.specs.Faults.{HasRisen};
 
 use crate::gate::Gate;
@@ -20,8 +20,8 @@ impl<O: Object> Gate<O> {
     ghost use Rattle.parked_gate.specs.Passes.{known, IsPassOf, Calls, Looks};
     ghost use Rattle.parked_gate.specs.Waits.{IfFound, OnSilent};
 
-    // Polls the object once.
-    fn poll<R: Wait>(&self, rt: &R, pass: &mut Pass<O>, ask: O::Ask) -> Option<O::Found>
+    /// Polls the object once, when the pass's turn has come.
+    pub fn poll<R: Wait>(&self, rt: &R, pass: &mut Pass<O>, ask: O::Ask) -> Option<O::Found>
         requires { IsPassOf self.now pass.old }
         ensures pass { IsPassOf self.now pass.new }
         ensures number { (known pass.new).number ≡ (known pass.old).number }
@@ -29,6 +29,7 @@ impl<O: Object> Gate<O> {
         ensures polled { MatchOption result
             (Looks (λ seen. O.lacks seen ask) (known pass.old) (known pass.new))
             (λ found. Calls O.caller_of (λ before made. O.finds before ask found made) (known pass.old) (known pass.new)) }
+        ensures learns_once { length (known pass.new).learnt ≡ length (known pass.old).learnt + 1 }
     {
         let before = self.begin(rt, &mut pass.seat);
         let (found, after) = self.seek(&mut pass.seat, pass.number, ask);

@@ -48,6 +48,13 @@ impl Deadlines {
         }
     }
 
+    /// The terms of the session.
+    pub fn terms(&self) -> Terms
+        ensures { result ≡ self.now.terms }
+    {
+        self.terms
+    }
+
     /// Whether a request that arrived then has been held for the session's `wait` (XEP-0124, section 7.1).
     pub fn wait_due(&self, arrived: Moment, now: Moment) -> bool
         ensures { result ≡ is_wait_due self.now.terms arrived now }

@@ -1,4 +1,4 @@
--- The plain window: everything that was placed in it, and how far it was taken, XEP-0124 sections 14.1 and 14.2.
+-- The plain window: everything that was placed in it, and how far it was taken, XEP-0124 section 14.2.
 use Rattle.std.specs.Prelude.{◌≡◌, ℕ, ◌+◌, ◌<◌, ◌≤◌, nat_lt, Bool, if◌then◌else◌, List, [], ◌∷◌, ◌++◌, Option, Some, None, IsSome, ⊤}
 use Rattle.bosh_types.specs.ById.{at_id}
 use Rattle.bosh_types.specs.Rid.{greatest_rid}

@@ -14,7 +14,7 @@ pub enum Placed<T> {
     Below(T),
     /// Its id has an item that wasn't taken yet.
     Repeat(T),
-    /// Its id is beyond the window (XEP-0124, section 14.1).
+    /// Its id is beyond the window (XEP-0124, section 14.2).
     Above(T),
 }
 

@@ -21,6 +21,7 @@ use Rattle.session_core.specs.BareRun.{stands, run_from, IsLongestRun}
 use Rattle.session_core.specs.Machine.{Opening, created_parts}
 use Rattle.session_core.specs.Run.{run_of}
 use Rattle.session_core.proofs.RunLemmas.{which_stands, run_from-none, run_from-some, stands-still, run_after-longest}
+use Rattle.script_text.specs.declared.driven.Driven.{Driven}
 use Rattle.script_text.specs.declared.line.BadKind.{BadKind}
 use Rattle.script_text.specs.declared.line.BadKind.TheVariants.{Count, Grammar, End as NoEnd}
 use Rattle.script_text.specs.declared.line.ScriptLine.{ScriptLine}
@@ -38,7 +39,7 @@ use Rattle.script_text.specs.Creation.{Step, bad_step, takes_host, with_host, re
 use Rattle.script_text.specs.Lines.{lines_of}
 use Rattle.script_text.specs.Report.{inward_in}
 use Rattle.bosh_types.specs.Limits.{most_lines}
-use Rattle.script_text.specs.Script.{Drive, opened, new_manager, over_lines, request_lines, kind_in, first_step, arrival_step, step_by, said, drive_on, drive_of, created_inward, stanzas_in, IsInwardOf, InwardIsLongestRun, bad_at}
+use Rattle.script_text.specs.Script.{Drive, opened, new_manager, over_lines, request_lines, kind_in, first_step, arrival_step, step_by, said, drive_on, drive_of, created_inward, stanzas_in, IsInwardOf, GivesLongestRun, InwardIsLongestRun, Reports, bad_at}
 use Rattle.script_text.specs.Stanza.{slices_of}
 use Rattle.script_text.proofs.StepLemmas.{next_drive, drive_by, by_next}
 
@@ -241,6 +242,10 @@ leaves run n (line ∷ others) =
     (leaves_by run n (said n line) others (λ after. leaves after (n + 1) others))
 
 -- whatever the script
-pub longest : (known : Option (List ℕ)) → IfSome known (λ script. InwardIsLongestRun (drive_of script))
-longest None = tt
-longest (Some script) = leaves Beginning 1 (lines_of script)
+pub longest : (script : List ℕ) → InwardIsLongestRun (drive_of script)
+longest script = leaves Beginning 1 (lines_of script)
+
+-- where its report was given
+pub gives_longest : (known : Option (List ℕ)) (outcome : Driven) (old new : Option (List ℕ)) → IfSome known (λ script. Reports (drive_of script) outcome old new) → IfSome known (λ script. GivesLongestRun (drive_of script) old new)
+gives_longest None outcome old new reports = tt
+gives_longest (Some script) outcome old new reports = ((drive_of script).report, reports.1, longest script)

@@ -152,6 +152,10 @@ IsInwardOf Beginning openings inward = inward ≡ []
 IsInwardOf (Arrivals session) openings inward = IsLongestRun session.first session.arrivals inward
 IsInwardOf (Creations manager) openings inward = inward ≡ created_inward openings
 
--- it is so of what a report says
+-- the sink was given a report, and what this says went inward is the longest run of what arrived
+abbrev pub GivesLongestRun : Drive → Option (List ℕ) → Option (List ℕ) → Type 0
+GivesLongestRun drive old new = (report : List ReportLine) × Appends old new (report_text report) × IsInwardOf drive.last drive.openings (inward_in report)
+
+-- it is so of a script's report
 abbrev pub InwardIsLongestRun : Drive → Type 0
 InwardIsLongestRun drive = IsInwardOf drive.last drive.openings (inward_in drive.report)

@@ -1,10 +1,10 @@
 // Running a script of the word `drive`.
-ghost use Rattle.std.specs.Prelude.{◌≡◌, ◌≤◌, [], ◌∷◌, IfOk, IfSome, OnErr, IsErrOf};
+ghost use Rattle.std.specs.Prelude.{◌≡◌, ◌≤◌, [], ◌∷◌, IfOk, IfSome, OnOk, OnErr, IsErrOf};
 ghost use Rattle.bosh_ports.specs.Faults.{HasRisen};
 ghost use Rattle.bosh_ports.specs.Sink.{AppendsFront, GivesAll};
 ghost use Rattle.script_text.specs.Creation.{Does};
 ghost use Rattle.script_text.specs.Report.{report_text};
-ghost use Rattle.script_text.specs.Script.{drive_of, first_step, kind_in, never_later, said_step, step_by, Reports, InwardIsLongestRun};
+ghost use Rattle.script_text.specs.Script.{drive_of, first_step, kind_in, never_later, said_step, step_by, Reports, GivesLongestRun};
 ghost use Rattle.script_text.specs.Step.{read_of};
 
 use crate::arrivals::arrival_effect;
@@ -32,11 +32,16 @@ pub fn run_drive<S: Source, K: Sink>(
     ensures report { IfOk result (λ outcome. IfSome (S.left source.old) (λ script. Reports (drive_of script) outcome (K.given sink.old) (K.given sink.new))) }
     ensures part { OnErr result (IfSome (S.left source.old) (λ script. AppendsFront (K.given sink.old) (K.given sink.new) (report_text (drive_of script).report))) }
 
-    // What the report says went inward is the longest unbroken run of the request ids that arrived.
-    ensures longest { IfSome (S.left source.old) (λ script. InwardIsLongestRun (drive_of script)) }
+    // The sink was given a report whose stanzas inward are the longest unbroken run of the request ids that arrived.
+    ensures longest { IfOk result (λ outcome. IfSome (S.left source.old) (λ script. GivesLongestRun (drive_of script) (K.given sink.old) (K.given sink.new))) }
 
+    // A fault rises with the error that names it, and with nothing else.
+    ensures no_fault { OnOk result ((S.faults source.new ≡ S.faults source.old) × (K.faults sink.new ≡ K.faults sink.old)) }
+    ensures no_memory { IsErrOf result DriveError.NoMemory → (S.faults source.new ≡ S.faults source.old) × (K.faults sink.new ≡ K.faults sink.old) }
     ensures read_fault { IsErrOf result DriveError.ReadFault → HasRisen (S.faults source.old) (S.faults source.new) }
+    ensures read_fault_alone { IsErrOf result DriveError.ReadFault → K.faults sink.new ≡ K.faults sink.old }
     ensures write_fault { IsErrOf result DriveError.WriteFault → HasRisen (K.faults sink.old) (K.faults sink.new) }
+    ensures write_fault_alone { IsErrOf result DriveError.WriteFault → S.faults source.new ≡ S.faults source.old }
     ensures source_faults { S.faults source.old ≤ S.faults source.new }
     ensures sink_faults { K.faults sink.old ≤ K.faults sink.new }
 {
@@ -134,6 +139,8 @@ fn give_lines<K: Sink>(alloc: Global, sink: &mut K, lines: &[ReportLine]) -> Res
     ensures given { GivesAll result (K.given sink.old) (K.given sink.new) (report_text lines.now) }
     ensures no_read_fault { IsErrOf result DriveError.ReadFault → ⊥ }
     ensures write_fault { IsErrOf result DriveError.WriteFault → HasRisen (K.faults sink.old) (K.faults sink.new) }
+    ensures counts { OnOk result (K.faults sink.new ≡ K.faults sink.old) }
+    ensures no_memory { IsErrOf result DriveError.NoMemory → K.faults sink.new ≡ K.faults sink.old }
     ensures faults { K.faults sink.old ≤ K.faults sink.new }
 {
     for line in lines {
@@ -147,6 +154,8 @@ fn give_line<K: Sink>(alloc: Global, sink: &mut K, line: &ReportLine) -> Result<
     ensures given { GivesAll result (K.given sink.old) (K.given sink.new) (report_text (line.now ∷ [])) }
     ensures no_read_fault { IsErrOf result DriveError.ReadFault → ⊥ }
     ensures write_fault { IsErrOf result DriveError.WriteFault → HasRisen (K.faults sink.old) (K.faults sink.new) }
+    ensures counts { OnOk result (K.faults sink.new ≡ K.faults sink.old) }
+    ensures no_memory { IsErrOf result DriveError.NoMemory → K.faults sink.new ≡ K.faults sink.old }
     ensures faults { K.faults sink.old ≤ K.faults sink.new }
 {
     let text = print_line(alloc, line)?;

@@ -7,6 +7,7 @@ mod creations;
 mod drive;
 mod driven;
 mod ending;
+mod laws;
 mod line;
 mod lines;
 mod report;
@@ -16,5 +17,6 @@ mod text;
 
 pub use drive::run_drive;
 pub use driven::{DriveError, Driven};
+pub use laws::reports_have_the_longest_run;
 pub use line::{BadKind, LineRead, ScriptLine, read_line};
 pub use report::{ReportLine, print_line};

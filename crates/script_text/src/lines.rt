@@ -1,5 +1,5 @@
 // Reading a source line by line.
-ghost use Rattle.std.specs.Prelude.{◌≡◌, ◌≤◌, ◌<◌, ◌++◌, ℕ, List, [], Option, IfOk, OnErr, IfErr, IsTrue, IsErrOf, false, length, position, ◌==◌};
+ghost use Rattle.std.specs.Prelude.{◌≡◌, ◌≤◌, ◌<◌, ◌++◌, ℕ, List, [], Option, IfOk, OnOk, OnErr, IfErr, IsTrue, IsErrOf, false, length, position, ◌==◌};
 ghost use Rattle.script_text.specs.Lines.{ended_line_of, last_line_of};
 
 use bosh_ports::{Got, Source};
@@ -82,6 +82,8 @@ impl LineReader {
     ) -> Result<NextLine, ReadError>
         ensures reads { IfOk result (λ read. Reads (prepend_known self.old (S.left source.old)) (prepend_known self.new (S.left source.new)) read) }
         ensures read_fault { IsErrOf result ReadError.ReadFault → HasRisen (S.faults source.old) (S.faults source.new) }
+        ensures counts { OnOk result (S.faults source.new ≡ S.faults source.old) }
+        ensures no_memory { IsErrOf result ReadError.NoMemory → S.faults source.new ≡ S.faults source.old }
         ensures faults { S.faults source.old ≤ S.faults source.new }
     {
         let mut line = Vec::new(alloc);
@@ -103,6 +105,7 @@ impl LineReader {
         ensures end { IfOk result (λ more. more ≡ false → IsAtEnd (prepend_known self.old (S.left source.old))) }
         ensures fault { IfErr result (λ error. error ≡ ReadError.ReadFault) }
         ensures read_fault { OnErr result (HasRisen (S.faults source.old) (S.faults source.new)) }
+        ensures counts { OnOk result (S.faults source.new ≡ S.faults source.old) }
         ensures faults { S.faults source.old ≤ S.faults source.new }
     {
         if self.start < self.end {

@@ -2,6 +2,7 @@
 use Rattle.std.specs.Prelude.{ℕ, zero, suc, ◌+◌, ◌-◌, ◌==◌, ◌&&◌, Bool, false, not, nat_lt, nat_le, min, List, [], ◌∷◌, ◌++◌, length, take, Option, Some, None, is_some, if◌then◌else◌}
 use Rattle.std.specs.List.{list_any}
 use Rattle.std.specs.Option.{option_map}
+use Rattle.bosh_types.specs.Limits.{most_waiting, longest_stanza}
 use Rattle.bosh_types.specs.declared.ending.Ending.TheVariants.{Closed}
 use Rattle.body_writer.specs.declared.answer.AnswerKind.TheVariants.{Usual}
 use Rattle.body_writer.specs.declared.answer.AnswerParts.{AnswerParts}
@@ -46,7 +47,7 @@ has_reason s = has_reason_for s (held s)
 
 -- one answer may take these: no closing, and at most 1,000,000 bytes
 abbrev pub fit_one_answer : List Outward → Bool
-fit_one_answer items = not (list_any is_close items) && nat_le (size_of_all items) 1000000
+fit_one_answer items = not (list_any is_close items) && nat_le (size_of_all items) longest_stanza
 
 -- the longest front of at most so many items that fits
 abbrev pub longest_front : ℕ → List Outward → List Outward
@@ -57,7 +58,7 @@ longest_front (suc count) items = if fit_one_answer (take (suc count) items) the
 abbrev pub front_of : List Outward → Front
 front_of [] = OfStanzas []
 front_of (Close stream closing ∷ items) = OfClosing stream closing
-front_of (Stanza stream bytes ∷ items) = OfStanzas (longest_front (min 1024 (length items + 1)) (Stanza stream bytes ∷ items))
+front_of (Stanza stream bytes ∷ items) = OfStanzas (longest_front (min most_waiting (length items + 1)) (Stanza stream bytes ∷ items))
 
 -- a pause takes nothing
 abbrev pub front_for : PlainSession → RequestCopy → Front

@@ -1,4 +1,4 @@
--- When an arrival ends a session that keeps two requests open (XEP-0124 sections 11, 14.1 and 14.3).
+-- When an arrival ends a session that keeps two requests open (XEP-0124 sections 11, 14.2 and 14.3).
 use Rattle.std.specs.Prelude.{ℕ, ◌+◌, List, [], ◌∷◌, ◌++◌, Bool, Option, Some, None, is_some, nat_lt, if◌then◌else◌}
 use Rattle.bosh_types.specs.declared.ending.Ending.{Ending}
 use Rattle.bosh_types.specs.declared.ending.Ending.TheVariants.{Above, Stale}

@@ -1,4 +1,4 @@
--- Which request stands for an id, and the longest unbroken run of ids (XEP-0124 section 14.1): a search of everything that
+-- Which request stands for an id, and the longest unbroken run of ids (XEP-0124 section 14.2): a search of everything that
 -- arrived, id by id, which knows no window and no buffer.
 use Rattle.std.specs.Prelude.{ℕ, zero, suc, ◌≡◌, ◌≢◌, ◌+◌, ◌-◌, ◌<◌, ◌==◌, List, [], ◌∷◌, ◌++◌, Option, Some, None, All, length, slice_get, if◌then◌else◌}
 use Rattle.bosh_types.specs.Rid.{greatest_rid}

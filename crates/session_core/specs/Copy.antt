@@ -20,6 +20,10 @@ stanzas_of copy = map (bytes_at copy.body) copy.request.stanzas
 abbrev pub is_pause : RequestCopy → Bool
 is_pause copy = is_some copy.request.pause && not copy.request.terminate
 
+-- a client may have one request more open for a pause or a terminate, XEP-0124 section 11
+abbrev pub is_extra : RequestCopy → Bool
+is_extra copy = is_some copy.request.pause || copy.request.terminate
+
 -- it carries nothing, XEP-0124 section 11: no stanza, and it is neither a pause, a terminate nor a restart
 abbrev pub is_empty : RequestCopy → Bool
 is_empty copy =

@@ -9,7 +9,7 @@ use Rattle.bosh_types.specs.declared.ending.Ending.TheVariants.{Terminated, Stal
 use Rattle.body_writer.specs.declared.answer.AnswerKind.TheVariants.{Usual, Terminate}
 use Rattle.body_writer.specs.declared.answer.AnswerParts.{AnswerParts}
 use Rattle.body_writer.specs.Answer.{answer_text}
-use Rattle.session_core.specs.State.{PlainSession, answered_of}
+use Rattle.session_core.specs.State.{PlainSession}
 
 -- a terminal body, with its condition if there is one
 abbrev pub terminal : Option Condition → AnswerParts
@@ -41,21 +41,22 @@ word_at_closing SystemShutdown = other_request
 abbrev pub word_if_breaker : ℕ → ℕ → Condition → AnswerParts
 word_if_breaker breaker id condition = if id == breaker then terminal (Some condition) else other_request
 
--- what the ending gives to the open request with this id; a terminate is told to the oldest held one
-abbrev pub word_for : PlainSession → Ending → ℕ → AnswerParts
-word_for s (Terminated rid) id = if id == answered_of s + 1 then terminal None else nothing
-word_for s (Stale rid lowest) id = other_request
-word_for s (Above rid last requests) id = other_request
-word_for s (WrongKey rid) id = word_if_breaker rid id conditions.ItemNotFound
-word_for s (UnknownStream rid) id = word_if_breaker rid id conditions.ItemNotFound
-word_for s (PauseTooLong rid pause maxpause) id = word_if_breaker rid id conditions.PolicyViolation
-word_for s (Overactive rid apart) id = word_if_breaker rid id conditions.PolicyViolation
-word_for s (Silent since now) id = terminal (Some conditions.ItemNotFound)
-word_for s (Closed closing rid) id = word_at_closing closing
-word_for s (JournalFull counted cost) id = other_request
+-- what the ending gives to the open request with this id, where ids up to this one were answered; a terminate is told to the
+-- oldest held one
+abbrev pub word_for : ℕ → Ending → ℕ → AnswerParts
+word_for answered (Terminated rid) id = if id == answered + 1 then terminal None else nothing
+word_for answered (Stale rid lowest) id = other_request
+word_for answered (Above rid last requests) id = other_request
+word_for answered (WrongKey rid) id = word_if_breaker rid id conditions.ItemNotFound
+word_for answered (UnknownStream rid) id = word_if_breaker rid id conditions.ItemNotFound
+word_for answered (PauseTooLong rid pause maxpause) id = word_if_breaker rid id conditions.PolicyViolation
+word_for answered (Overactive rid apart) id = word_if_breaker rid id conditions.PolicyViolation
+word_for answered (Silent since now) id = terminal (Some conditions.ItemNotFound)
+word_for answered (Closed closing rid) id = word_at_closing closing
+word_for answered (JournalFull counted cost) id = other_request
 
-abbrev pub last_word : PlainSession → Ending → ℕ → List ℕ
-last_word s ending id = answer_text (word_for s ending id)
+abbrev pub last_word : ℕ → Ending → ℕ → List ℕ
+last_word answered ending id = answer_text (word_for answered ending id)
 
 -- the session ends: each request that is open has its last word, and nothing is answered later
 abbrev pub ended : Ending → PlainSession → PlainSession

@@ -1,9 +1,12 @@
 -- The journal of a session: every call that changed it or might have, in order, and what the session is after them.
-use Rattle.std.specs.Prelude.{◌≡◌, ℕ, ◌≤◌, ⊤, All, length, ◌+◌, List, [], ◌∷◌, Option, Some, None, Ok, is_some, sum_by, if◌then◌else◌}
+use Rattle.std.specs.Prelude.{◌≡◌, ℕ, ◌≤◌, ⊤, IsTrue, length, ◌+◌, List, [], ◌∷◌, Option, Some, None, Ok, is_some, sum_by, if◌then◌else◌}
+use Rattle.std.specs.List.{list_all}
 use Rattle.bosh_types.specs.declared.ending.Closing.{Closing}
+use Rattle.bosh_types.specs.Limits.{most_waiting, longest_stanza}
 use Rattle.bosh_types.specs.declared.inward.Inward.{Inward}
 use Rattle.body_cutter.specs.declared.parts.Cut.{Cut}
-use Rattle.body_cutter.specs.BodyText.{IsBody, IsStanza, IsText}
+use Rattle.body_cutter.specs.BodyText.{IsText}
+use Rattle.body_cutter.specs.Cutting.{body_cut_of, is_stanza}
 use Rattle.session_attrs.specs.declared.request.Creation.{Creation}
 use Rattle.session_attrs.specs.declared.request.Kind.TheVariants as kinds
 use Rattle.session_attrs.specs.declared.request.Request.{Request}
@@ -129,7 +132,7 @@ reply_of journal call = (step (state_of journal) call).1
 
 -- the request is what reading gives for what this body is cut into
 abbrev pub IsReadFrom : List ℕ → Request → Type 0
-IsReadFrom body request = (cut : Cut) × IsBody body cut × (request_of (values_of body cut.attrs) cut.children ≡ Ok request)
+IsReadFrom body request = (cut : Cut) × (body_cut_of body ≡ Ok cut) × (request_of (values_of body cut.attrs) cut.children ≡ Ok request)
 
 -- a session is opened by a creation with its own terms, under a name and for a host that can stand in an answer, and with a
 -- greeting that one answer may take, XEP-0124 section 7
@@ -138,13 +141,13 @@ pub record IsOpening (o : Opening) : Type 0 where
   pub creation : (creation : Creation) × (o.request.kind ≡ kinds.Creation creation) × (o.terms ≡ terms_of creation)
   pub sid : IsText o.sid × (1 ≤ length o.sid) × (length o.sid ≤ 64)
   pub host : IsText o.host × (1 ≤ length o.host) × (length o.host ≤ 1023)
-  pub greeting : All IsStanza o.greeting × (length o.greeting ≤ 1024) × (size_of_all (greeting_of o) ≤ 1000000)
+  pub greeting : IsTrue (list_all is_stanza o.greeting) × (length o.greeting ≤ most_waiting) × (size_of_all (greeting_of o) ≤ longest_stanza)
 
 -- what a session is asked of each call: a copy is a later request and is read from its body, and the server gives stanzas
 abbrev pub IsAllowed : Call → Type 0
 IsAllowed (Arrive request body now) = IsReadFrom body request × ((sid : List ℕ) × (request.kind ≡ kinds.Later sid))
 IsAllowed (Collect ticket) = ⊤
-IsAllowed (Back stream stanza now) = IsStanza stanza
+IsAllowed (Back stream stanza now) = IsTrue (is_stanza stanza)
 IsAllowed (BackClosed stream closing now) = ⊤
 IsAllowed (Tick now) = ⊤
 IsAllowed TakeInward = ⊤

@@ -2,6 +2,7 @@
 use Rattle.std.specs.Prelude.{ℕ, zero, suc, ◌+◌, ◌-◌, ◌*◌, ◌==◌, ◌&&◌, Bool, false, not, nat_lt, nat_le, List, [], ◌∷◌, ◌++◌, map, length, slice_get, slice_set, Option, Some, None, unwrap_or, if◌then◌else◌}
 use Rattle.std.specs.List.{list_any}
 use Rattle.std.specs.Option.{option_map, option_or}
+use Rattle.bosh_types.specs.Limits.{journal_bytes, most_waiting, waiting_bytes}
 use Rattle.bosh_types.specs.Rid.{greatest_rid}
 use Rattle.bosh_types.specs.declared.condition.Condition.{Condition}
 use Rattle.bosh_types.specs.declared.condition.Condition.TheVariants.{ItemNotFound, UndefinedCondition}
@@ -56,7 +57,7 @@ plain_cost = 64
 
 -- the journal has no room for an entry of this cost
 abbrev pub is_full : PlainSession → ℕ → Bool
-is_full s cost = nat_lt 16777216 (s.counted + cost)
+is_full s cost = nat_lt journal_bytes (s.counted + cost)
 
 -- nothing else is applied then, and the moment stays
 abbrev pub full_with : ℕ → PlainSession → PlainSession
@@ -180,7 +181,7 @@ wait_at s rid =
 -- what the id was given, as an answer or at the ending
 abbrev pub bytes_for : PlainSession → ℕ → Option (List ℕ)
 bytes_for s rid =
-    option_or (option_map (λ answer. answer.bytes) (answer_at s rid)) (option_map (λ ending. last_word s ending rid) s.ending)
+    option_or (option_map (λ answer. answer.bytes) (answer_at s rid)) (option_map (λ ending. last_word (answered_of s) ending rid) s.ending)
 
 -- a copy is answered where its id is answered in this call, and waits otherwise
 abbrev pub replied : PlainSession → ℕ → PlainSession × Arrived
@@ -258,7 +259,7 @@ takes_items s stream = (not (is_over s) && (stream == unnamed)) && not (list_any
 -- 1024 items or 4,194,304 bytes may wait
 abbrev pub has_room : PlainSession → List ℕ → Bool
 has_room s stanza =
-    nat_lt (length (waiting s)) 1024 && nat_le (size_of_all (waiting s) + length stanza) 4194304
+    nat_lt (length (waiting s)) most_waiting && nat_le (size_of_all (waiting s) + length stanza) waiting_bytes
 
 abbrev pub with_item : PlainSession → Outward → PlainSession × Taken
 with_item s item = (settled (record s { given = s.given ++ item ∷ [] }), takings.Done)

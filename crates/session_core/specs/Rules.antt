@@ -9,7 +9,7 @@ use Rattle.pause_rules.specs.Overactive.{apart, is_overactive}
 use Rattle.session_core.specs.declared.copy.RequestCopy.{RequestCopy}
 use Rattle.session_core.specs.Copy.{id_of, is_empty, is_pause}
 use Rattle.session_core.specs.Outward.{items_in, stanzas_in}
-use Rattle.session_core.specs.State.{PlainSession, Answered, last_from, last_answer}
+use Rattle.session_core.specs.State.{PlainSession, Answered, last_from}
 
 pub data Rule : Type 0 where
   Keys : Rule
@@ -33,13 +33,13 @@ is_bare answer = length (stanzas_in (items_in answer.front)) == 0
 abbrev pub mark_of : RequestCopy → Mark
 mark_of copy = record { arrived = copy.arrived; empty = is_empty copy; creation = false; bare = false }
 
--- what it asks of the last of the copies that were processed, of which these are not answered
-abbrev pub prior_mark : PlainSession → List RequestCopy → List RequestCopy → Mark
-prior_mark s processed held = record {
-  arrived = (last_from s.creation processed).arrived;
-  empty = is_empty (last_from s.creation processed);
+-- what it asks of the last of the copies that were processed after this creation, where answers were given after this first one
+abbrev pub prior_mark : RequestCopy → List RequestCopy → Answered → List Answered → Mark
+prior_mark creation processed created answered = record {
+  arrived = (last_from creation processed).arrived;
+  empty = is_empty (last_from creation processed);
   creation = length processed == 0;
-  bare = (length held == 0) && is_bare (last_answer s);
+  bare = (length (drop (length answered) processed) == 0) && is_bare (last_from created answered);
 }
 
 -- what is asked where this key is the current one and these copies were processed
@@ -48,7 +48,7 @@ asked_with s key processed = record {
   key = key;
   terms = s.terms;
   held = length (drop (length s.answered) processed);
-  prior = prior_mark s processed (drop (length s.answered) processed);
+  prior = prior_mark s.creation processed s.created s.answered;
 }
 
 abbrev pub asked_of : PlainSession → Asks

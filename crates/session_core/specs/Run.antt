@@ -1,4 +1,4 @@
--- The run of a journal in the subject's own words (XEP-0124 section 14.1): of which copies it is made, and where it stops. It
+-- The run of a journal in the subject's own words (XEP-0124 section 14.2): of which copies it is made, and where it stops. It
 -- knows no window, no buffer and no order of processing.
 use Rattle.std.specs.Prelude.{◌≡◌, ◌≢◌, ℕ, ◌+◌, ◌≤◌, true, false, max, List, [], ◌∷◌, ◌++◌, All, length, take, Option, Some, None, slice_get}
 use Rattle.bosh_types.specs.declared.ending.Ending.{Ending}

@@ -4,12 +4,8 @@ use Rattle.rid_window.specs.PlainWindow.{reach}
 use Rattle.session_core.specs.declared.copy.RequestCopy.{RequestCopy}
 use Rattle.session_core.specs.declared.place.Place.{Place}
 use Rattle.session_core.specs.declared.place.Place.TheVariants as places
-use Rattle.session_core.specs.Copy.{id_of}
+use Rattle.session_core.specs.Copy.{id_of, is_extra}
 use Rattle.session_core.specs.State.{PlainSession, last_of, answered_of, standing_at}
-
--- a client may have one request more open for a pause or a terminate, XEP-0124 section 11
-abbrev pub is_extra : RequestCopy → Bool
-is_extra copy = is_some copy.request.pause || copy.request.terminate
 
 abbrev pub is_above : PlainSession → RequestCopy → Bool
 is_above s copy = nat_lt (last_of s + reach s.terms.requests (is_extra copy)) (id_of copy)

@@ -170,3 +170,18 @@ fn a_failed_take_loses_nothing(rt: HostRuntime) -> Result<(), Fail> {
     }
     Ok(())
 }
+
+// What has come is answered before more is asked for.
+#[test]
+fn a_request_is_served_before_the_take_that_fails(rt: HostRuntime) -> Result<(), Fail> {
+    let alloc = rt.alloc();
+    let row = &SERVED[0];
+    let text = twice(alloc, row.text)?;
+    let mut link = link_over(alloc, text.as_slice(), &[], &[2], &[])?;
+    let mut reader = RequestReader::new(alloc);
+    assert!(rt; gives(&mut reader, alloc, &mut link, row)?);
+    assert!(rt; gives(&mut reader, alloc, &mut link, row)?);
+    assert!(rt; matches!(reader.next(alloc, &mut link)?, HttpIn::ReadFault));
+    assert!(rt; ends(&mut reader, alloc, &mut link)?);
+    Ok(())
+}

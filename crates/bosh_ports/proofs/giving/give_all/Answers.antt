@@ -1,22 +1,22 @@
-use Rattle.std.proofs.Common.{rules, arith, refl}
+use Rattle.std.proofs.Common.{rules, arith, refl, ◌∙◌}
 use Rattle.bosh_ports.proofs.FaultLemmas.{HasRisen-before}
 use Rattle.bosh_ports.proofs.GivingLemmas.{nothing_yet, one_more, all_given, front_given}
 use Rattle.bosh_ports.proofs.giving.give_all.Goals as goal
 
 pub loop-rest-init : goal.loop-rest-init
-loop-rest-init g c = record { given = nothing_yet (g.K.Sink.given c.args.sink.now) c.args.bytes.now; faults = omega arith }
+loop-rest-init g c = record { given = nothing_yet (g.K.Sink.given c.args.sink.now) c.args.bytes.now; faults = refl }
 
 pub loop-rest-preserved : goal.loop-rest-preserved
 loop-rest-preserved g c = record {
   given = one_more _ _ _ c.args.bytes.now c.loop-rest.rest.now c.in-Wrote.n c.loop-rest.invariant.given c.in-Wrote.ensures.gives.2;
-  faults = omega (arith, c.loop-rest.invariant.faults, c.give.ensures.faults);
+  faults = c.in-Wrote.ensures.counts ∙ c.loop-rest.invariant.faults;
 }
 
 pub returns-in-Failed-clause-given : goal.returns-in-Failed-clause-given
 returns-in-Failed-clause-given g c = front_given _ _ _ c.args.bytes.now c.loop-rest.rest.now c.loop-rest.invariant.given c.in-Failed.ensures.gives
 
 pub returns-in-Failed-clause-fault : goal.returns-in-Failed-clause-fault
-returns-in-Failed-clause-fault g c = HasRisen-before _ (g.K.Sink.faults c.loop-rest.sink) _ c.loop-rest.invariant.faults c.in-Failed.ensures.faults (c.in-Failed.ensures.failed refl)
+returns-in-Failed-clause-fault g c = HasRisen-before _ (g.K.Sink.faults c.loop-rest.sink) _ (omega (arith, c.loop-rest.invariant.faults)) c.in-Failed.ensures.faults (c.in-Failed.ensures.failed refl)
 
 pub returns-clause-given : goal.returns-clause-given
 returns-clause-given g c = all_given _ _ c.args.bytes.now c.loop-rest.rest.now c.loop-rest.invariant.given (search rules)

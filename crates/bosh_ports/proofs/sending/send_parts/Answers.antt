@@ -23,5 +23,5 @@ loop-part-preserved g c = record {
       (sym (joined_more (λ part. part.now) c.args.parts.now c.loop-part.part-index none c.loop-part-test.true))
       (Appends-trans _ _ _ _ _ c.loop-part.invariant.given c.in_ok-send_all.ensures.given);
   left = Keeps-trans _ _ _ c.loop-part.invariant.left c.in_ok-send_all.ensures.left;
-  faults = omega (arith, c.loop-part.invariant.faults, c.send_all.ensures.faults);
+  faults = c.in_ok-send_all.ensures.counts ∙ c.loop-part.invariant.faults;
 }

@@ -1,4 +1,4 @@
-use Rattle.std.proofs.Common.{◌+◌, [], ◌∷◌, drop, subst, arith}
+use Rattle.std.proofs.Common.{◌∙◌, ◌+◌, [], ◌∷◌, drop, subst, arith}
 use Rattle.script_text.proofs.GivenLemmas.{HasReported, MatchResult-err, from_place, front_reported, more_reported}
 use Rattle.script_text.proofs.drive.give_lines.Goals as goal
 
@@ -8,7 +8,7 @@ loop-line-preserved g c =
     record {
       given = more_reported _ _ _ c.args.lines.now (c.line-item.result ∷ []) (drop (c.loop-line.line-index + 1) c.args.lines.now)
           (subst (HasReported (g.K.Sink.given c.args.sink.now) (g.K.Sink.given c.loop-line.sink) c.args.lines.now) place c.loop-line.invariant.given) c.in_ok-give_line.ensures.given;
-      faults = omega (arith, c.loop-line.invariant.faults, c.in_ok-give_line.ensures.faults);
+      faults = c.in_ok-give_line.ensures.counts ∙ c.loop-line.invariant.faults;
     }
 
 pub returns-in_err-give_line-clause-given : goal.returns-in_err-give_line-clause-given

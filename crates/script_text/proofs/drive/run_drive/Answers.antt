@@ -1,29 +1,8 @@
 use Rattle.std.proofs.Common.{◌≡◌, ◌∙◌, arith}
 use Rattle.script_text.proofs.GivenLemmas.{OnErr-any}
-use Rattle.script_text.proofs.LongestLemmas.{longest}
+use Rattle.script_text.proofs.LongestLemmas.{gives_longest}
 use Rattle.script_text.proofs.StepLemmas.{Going-at, goes, ends, halts, too_many, too_many_part}
 use Rattle.script_text.proofs.drive.run_drive.Goals as goal
-
-pub returns-in_err-reader-clause-longest : goal.returns-in_err-reader-clause-longest
-returns-in_err-reader-clause-longest g c = longest (g.S.Source.left c.args.source.now)
-
-pub returns-in_err-line-clause-longest : goal.returns-in_err-line-clause-longest
-returns-in_err-line-clause-longest g c = longest (g.S.Source.left c.args.source.now)
-
-pub returns-in_err-lines-clause-longest : goal.returns-in_err-lines-clause-longest
-returns-in_err-lines-clause-longest g c = longest (g.S.Source.left c.args.source.now)
-
-pub returns-in_err-give_lines-clause-longest : goal.returns-in_err-give_lines-clause-longest
-returns-in_err-give_lines-clause-longest g c = longest (g.S.Source.left c.args.source.now)
-
-pub returns-in-Ends-clause-longest : goal.returns-in-Ends-clause-longest
-returns-in-Ends-clause-longest g c = longest (g.S.Source.left c.args.source.now)
-
-pub returns-in_err-give_line-clause-longest : goal.returns-in_err-give_line-clause-longest
-returns-in_err-give_line-clause-longest g c = longest (g.S.Source.left c.args.source.now)
-
-pub returns-clause-longest : goal.returns-clause-longest
-returns-clause-longest g c = longest (g.S.Source.left c.args.source.now)
 
 pub returns-in_err-give_lines-clause-part : goal.returns-in_err-give_lines-clause-part
 returns-in_err-give_lines-clause-part g c = OnErr-any c.from_residual-in_err-give_lines.result _
@@ -36,8 +15,8 @@ returns-in-Ends-clause-report g c =
 pub loop-n-preserved : goal.loop-n-preserved
 loop-n-preserved g c = record {
   goes = goes _ _ _ c.loop-n.run c.in-Goes.after c.loop-n.n c.in_ok-line.line c.deref.result.now c.in_ok-lines.field-0.next _ _ _ (omega (arith, c.loop-n-test.true)) c.loop-n.invariant.goes c.in_ok-line.ensures.reads (c.deref.ensures.value ∙ c.in_ok-lines.ensures.0, c.in_ok-lines.ensures.1) c.in-Goes.is c.in_ok-give_lines.ensures.given;
-  source_faults = omega (arith, c.loop-n.invariant.source_faults, c.in_ok-line.ensures.faults);
-  sink_faults = omega (arith, c.loop-n.invariant.sink_faults, c.in_ok-give_lines.ensures.faults);
+  source_faults = c.in_ok-line.ensures.counts ∙ c.loop-n.invariant.source_faults;
+  sink_faults = c.in_ok-give_lines.ensures.counts ∙ c.loop-n.invariant.sink_faults;
 }
 
 pub returns-in_err-give_line-clause-part : goal.returns-in_err-give_line-clause-part
@@ -50,3 +29,9 @@ pub returns-clause-report : goal.returns-clause-report
 returns-clause-report g c =
     let last : c.loop-n.n ≡ 1000001 = omega (arith, c.loop-n-test.false, c.loop-n.auto.n-end) in
     too_many _ _ c.loop-n.run 1000001 _ _ _ (omega arith) (Going-at _ _ c.loop-n.run c.loop-n.n 1000001 _ _ last c.loop-n.invariant.goes) c.in_ok-give_line.ensures.given
+
+pub returns-in-Ends-clause-longest : goal.returns-in-Ends-clause-longest
+returns-in-Ends-clause-longest g c = gives_longest (g.S.Source.left c.args.source.now) c.in-Ends.outcome _ _ (returns-in-Ends-clause-report g c)
+
+pub returns-clause-longest : goal.returns-clause-longest
+returns-clause-longest g c = gives_longest (g.S.Source.left c.args.source.now) _ _ _ (returns-clause-report g c)

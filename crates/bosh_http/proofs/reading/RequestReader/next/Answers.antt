@@ -4,6 +4,3 @@ use Rattle.bosh_http.proofs.reading.RequestReader.next.Goals as goal
 
 pub returns-clause-reads : goal.returns-clause-reads
 returns-clause-reads g c = IfOk-weaker c.read.result _ _ (λ answer by. reads_by (g.L.Link.left c.args.link.now) (g.L.Link.left c.read.new.link) c.args.self.now c.read.new.self answer by) c.read.ensures.answers
-
-pub returns-clause-kept : goal.returns-clause-kept
-returns-clause-kept g c = on_err_weaker c.read.result (keeps_by (g.L.Link.left c.args.link.now) (g.L.Link.left c.read.new.link) c.args.self.now c.read.new.self) c.read.ensures.kept

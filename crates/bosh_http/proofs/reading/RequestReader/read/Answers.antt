@@ -1,3 +1,14 @@
+use Rattle.std.proofs.Common.{arith, inl, take, rules}
+use Rattle.std.proofs.lemmas.List.{take-append-le}
+use Rattle.std.proofs.KnownBytes.{Keeps-refl}
+use Rattle.httparse.specs.Grammar.{HasNoRequest}
+use Rattle.bosh_http.specs.Scanning.{Scans}
+use Rattle.bosh_http.specs.Reading.{GivesNothing}
+use Rattle.bosh_http.specs.declared.reading.HttpIn.TheVariants.{ReadFault}
+use Rattle.bosh_http.proofs.TakenLemmas.{takes_none, on_err_here}
+use Rattle.bosh_http.proofs.HeadEndLemmas.{no_request_before, no_request_at_all}
+use Rattle.bosh_http.proofs.ScanLemmas.{scans_more}
+use Rattle.bosh_http.proofs.ReadingLemmas.{answers_from}
 use Rattle.std.proofs.Common.{◌≡◌, ◌<◌, ◌==◌, ◌∙◌, sym, ap, subst, length, refl, Ok, IfSome, if◌then◌else◌}
 use Rattle.std.specs.Io.KnownBytes.{Keeps}
 use Rattle.bosh_http.specs.declared.reading.HttpIn.TheVariants.{Refused, End}
@@ -42,3 +53,70 @@ returns-in-None-clause-answers g c =
     let answer = c.ended.ensures ∙ ap (λ bytes. if length bytes == 0 then End else Refused (Cut (length bytes))) kept in
     answers_at_end (left c.args.link.now) (left c.told_if_due.new.link) (left c.told.new.link) c.args.self.now now c.told.new.self c.ended.result before (c.in_ok-fill.ensures.end ended) keeps
     (λ all is. subst (λ k. AnswersBy now k all c.ended.result) (sym kept) (subst (AnswersBy now now all) (sym answer) (ended_answer now all (length now == 0) refl begun short is)))
+
+pub loop-answer-init : goal.loop-answer-init
+loop-answer-init g c = record {
+  takes = takes_none (g.L.Link.left c.args.link.now) c.args.self.now;
+  given = Keeps-refl (g.L.Link.given c.args.link.now);
+  scans = c.request-scan.ensures.scans c.args.self.now;
+  none = subst (λ n. HasNoRequest (take n c.args.self.now)) (sym c.request-scan.ensures.none) no_request_at_all;
+  faults = refl;
+}
+
+pub returns-in_err-fill-clause-kept : goal.returns-in_err-fill-clause-kept
+returns-in_err-fill-clause-kept g c =
+    let left = g.L.Link.left in
+    let now = c.told_if_due.new.self in
+    let none = ap (λ told. Ok told) c.in_default.is in
+    let same = c.in_ok-answer.ensures.same none in
+    let before = takes_through left c.args.link.now c.loop-answer.link c.told_if_due.new.link c.args.self.now c.loop-answer.self now c.loop-answer.invariant.takes same.0 same.1 in
+    let more = subst (λ kept. TakesMore (left c.told_if_due.new.link) (left c.fill.new.link) kept c.fill.new.self) c.self.view_is c.fill.ensures.takes in
+    let takes = takes_both (left c.args.link.now) (left c.told_if_due.new.link) (left c.fill.new.link) c.args.self.now now c.fill.new.self before more in
+    on_err_here c.from_residual-in_err-fill.result takes
+
+pub loop-answer-preserved : goal.loop-answer-preserved
+loop-answer-preserved g c =
+    let left = g.L.Link.left in
+    let now = c.told_if_due.new.self in
+    let none = ap (λ told. Ok told) c.in_default.is in
+    let same = c.in_ok-answer.ensures.same none in
+    let before = takes_through left c.args.link.now c.loop-answer.link c.told_if_due.new.link c.args.self.now c.loop-answer.self now c.loop-answer.invariant.takes same.0 same.1 in
+    let more = subst (λ kept. TakesMore (left c.told_if_due.new.link) (left c.fill.new.link) kept c.fill.new.self) c.self.view_is c.fill.ensures.takes in
+    let takes = takes_both (left c.args.link.now) (left c.told_if_due.new.link) (left c.fill.new.link) c.args.self.now now c.fill.new.self before more in
+    let seen = c.told_if_due.new.scan.seen in
+    let scans = subst (Scans seen c.told_if_due.new.scan.place) (sym same.0) (c.in_ok-answer.ensures.scans none) in
+    let nothing = subst HasNoRequest (sym same.0) (c.in_ok-answer.ensures.none none) in
+    record {
+      takes = takes;
+      given = search rules;
+      scans = subst (Scans seen c.told_if_due.new.scan.place) (sym more.2) (scans_more seen c.told_if_due.new.scan.place now more.0 scans);
+      none = subst (λ bytes. HasNoRequest (take seen bytes)) (sym more.2)
+          (subst HasNoRequest (sym (take-append-le seen now more.0 scans.within)) (no_request_before seen now nothing));
+      faults = search rules;
+    }
+
+pub returns-in_err-answer-in-End-clause-kept : goal.returns-in_err-answer-in-End-clause-kept
+returns-in_err-answer-in-End-clause-kept g c =
+    let left = g.L.Link.left in
+    let now = c.told_if_due.new.self in
+    let none = ap (λ told. Ok told) c.in_default.is in
+    let same = c.in_ok-answer.ensures.same none in
+    let before = takes_through left c.args.link.now c.loop-answer.link c.told_if_due.new.link c.args.self.now c.loop-answer.self now c.loop-answer.invariant.takes same.0 same.1 in
+    let more = subst (λ kept. TakesMore (left c.told_if_due.new.link) (left c.fill.new.link) kept c.fill.new.self) c.self.view_is c.fill.ensures.takes in
+    let takes = takes_both (left c.args.link.now) (left c.told_if_due.new.link) (left c.fill.new.link) c.args.self.now now c.fill.new.self before more in
+    on_err_here c.from_residual-in_err-answer-in-End.result
+    (takes_both (left c.args.link.now) (left c.fill.new.link) (left c.told.new.link) c.args.self.now c.fill.new.self c.told.new.self takes
+    c.in_err-answer-in-End.ensures.kept)
+
+pub returns-in-Failed-clause-answers : goal.returns-in-Failed-clause-answers
+returns-in-Failed-clause-answers g c =
+    let left = g.L.Link.left in
+    let now = c.told_if_due.new.self in
+    let none = ap (λ told. Ok told) c.in_default.is in
+    let same = c.in_ok-answer.ensures.same none in
+    let before = takes_through left c.args.link.now c.loop-answer.link c.told_if_due.new.link c.args.self.now c.loop-answer.self now c.loop-answer.invariant.takes same.0 same.1 in
+    let more = subst (λ kept. TakesMore (left c.told_if_due.new.link) (left c.fill.new.link) kept c.fill.new.self) c.self.view_is c.fill.ensures.takes in
+    let takes = takes_both (left c.args.link.now) (left c.told_if_due.new.link) (left c.fill.new.link) c.args.self.now now c.fill.new.self before more in
+    let filled : c.fill.new.self ≡ now = c.in_ok-fill.ensures.unchanged (ap (λ f. Ok f) c.in-Failed.is) ∙ c.self.view_is in
+    answers_from (left c.args.link.now) (left c.fill.new.link) c.args.self.now c.fill.new.self c.fill.new.self ReadFault takes
+    (subst GivesNothing (sym (filled ∙ same.0)) (inl (c.in_ok-answer.ensures.short none, c.in_ok-answer.ensures.none none)), refl)

@@ -1,4 +1,4 @@
-use Rattle.std.proofs.Common.{◌≤◌, ◌-◌, length}
+use Rattle.std.proofs.Common.{◌≡◌, ◌≤◌, ◌-◌, length}
 use Rattle.std.specs.Io.KnownBytes.{Keeps}
 use Rattle.bosh_http.specs.Judging.{IsServed}
 use Rattle.bosh_http.specs.Taking.{TakesMore}
@@ -9,7 +9,7 @@ invariant-loop-self g l = record {
   takes : TakesMore (g.L.Link.left l.fn.link) (g.L.Link.left l.link) l.fn.self l.self-inside.taken;
   served : IsServed l.self-inside.taken l.start l.content l.closing;
   given : Keeps (g.L.Link.given l.fn.link) (g.L.Link.given l.link);
-  faults : g.L.Link.faults l.fn.link ≤ g.L.Link.faults l.link;
+  faults : g.L.Link.faults l.link ≡ g.L.Link.faults l.fn.link;
 }
 
 abbrev pub decreases-loop-self : goal.decreases-loop-self

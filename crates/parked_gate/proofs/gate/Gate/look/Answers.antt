@@ -1,4 +1,5 @@
 use Rattle.std.proofs.Common.{◌≡◌, None, refl, sym, ap, ◌∙◌, subst, length, length-append}
+use Rattle.std.proofs.lemmas.Grind.{merely}
 use Rattle.parked_gate.specs.Histories.{calls_of}
 use Rattle.parked_gate.proofs.WholeTurn.{ended, looks}
 use Rattle.parked_gate.proofs.gate.Gate.look.Goals as goal
@@ -17,6 +18,7 @@ invariant_of-pass g c =
       numbered = ap (λ m. m.0.number) end ∙ pass.numbered;
       counted = viewed.3 ∙ sym (ap (λ m. length m.0.seen) end);
       own = subst (λ m. calls_of object.caller_of pass.number m.0.seen ≡ m.0.mine) (sym end) refl;
+      legal = merely (subst (λ m. object.is_legal m.0.seen) (sym end) viewed.2);
     }
 
 pub returns-clause-legal : goal.returns-clause-legal

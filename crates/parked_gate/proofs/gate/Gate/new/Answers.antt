@@ -1,4 +1,5 @@
 use Rattle.std.proofs.Common.{◌≡◌, [], length, sym, ap, ◌∙◌, subst}
+use Rattle.std.proofs.lemmas.Grind.{merely}
 use Rattle.parked_gate.specs.Histories.{calls_of}
 use Rattle.parked_gate.specs.Rule.{first_view}
 use Rattle.parked_gate.proofs.Lists.{calls_all}
@@ -22,4 +23,5 @@ invariant_of-pass g c =
       numbered = ap (λ m. m.0.number) me;
       counted = c.count-count.ensures.length ∙ sym (ap (λ m. length m.0.seen) me);
       own = subst (λ m. calls_of object.caller_of 0 m.0.seen ≡ m.0.mine) (sym me) (calls_all object.caller_of 0 log c.requires);
+      legal = merely (subst (λ m. object.is_legal m.0.seen) (sym me) c.count-count.ensures.legal);
     }

@@ -1,4 +1,4 @@
-use Rattle.std.proofs.Common.{arith, subst, sym}
+use Rattle.std.proofs.Common.{arith, subst, sym, ◌∙◌}
 use Rattle.script_text.specs.Lines.{Reads, MovesPiece}
 use Rattle.script_text.proofs.ReadLemmas.{filled, more_read, line_ended, source_ended, too_long}
 use Rattle.script_text.proofs.lines.LineReader.next_line.Goals as goal
@@ -20,7 +20,7 @@ loop-self-preserved g c =
     let moved = subst (λ ended. MovesPiece ended c.fill.new.self c.move_piece.new.self c.loop-self.line.items c.move_piece.new.line.items) c.if-branch.false c.in_ok-move_piece.ensures in
     record {
       read = more_read _ (g.S.Source.left c.fill.new.source) c.fill.new.self c.move_piece.new.self c.loop-self.line.items c.move_piece.new.line.items has moved;
-      faults = omega (arith, c.loop-self.invariant.faults, c.in_ok-fill.ensures.faults);
+      faults = c.in_ok-fill.ensures.counts ∙ c.loop-self.invariant.faults;
     }
 
 pub returns-clause-reads : goal.returns-clause-reads
