@@ -21,3 +21,5 @@ pub mod TicketsApart
 pub mod StandingLemmas
 pub mod EndedLemmas
 pub mod AnsweredLemmas
+pub mod SettleLemmas
+pub mod ProcessLemmas

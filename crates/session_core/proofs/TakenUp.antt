@@ -53,7 +53,7 @@ next_stands plain copy is = by (is_over plain) refl is
     by true over found = absurd (cc)
     by false over found = (over, found)
 
-some_below : (creation : RequestCopy) (standing : List RequestCopy) (last : ℕ) (copy : RequestCopy) → All (IsLater (id_of creation)) standing
+pub some_below : (creation : RequestCopy) (standing : List RequestCopy) (last : ℕ) (copy : RequestCopy) → All (IsLater (id_of creation)) standing
     → at_id (map with_id standing) (last + 1) ≡ Some copy → last < greatest_rid
 some_below creation standing last copy ids some = elim (cases_lt last greatest_rid) [
   | inl more ↦ more
