@@ -21,3 +21,4 @@ pub mod TicketsApart
 pub mod StandingLemmas
 pub mod EndedLemmas
 pub mod AnsweredLemmas
+pub mod CopiedLemmas

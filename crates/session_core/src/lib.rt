@@ -6,6 +6,7 @@ mod answering;
 mod arrival;
 mod bare;
 mod copy;
+mod copying;
 mod held;
 mod inbox;
 mod laws;
