@@ -22,3 +22,4 @@ pub mod StandingLemmas
 pub mod EndedLemmas
 pub mod AnsweredLemmas
 pub mod CopiedLemmas
+pub mod CollectedLemmas

@@ -5,6 +5,7 @@
 mod answering;
 mod arrival;
 mod bare;
+mod collecting;
 mod copy;
 mod copying;
 mod held;
