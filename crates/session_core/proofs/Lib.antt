@@ -23,3 +23,5 @@ pub mod EndedLemmas
 pub mod AnsweredLemmas
 pub mod SettleLemmas
 pub mod ProcessLemmas
+pub mod CopiedLemmas
+pub mod CollectedLemmas

@@ -5,7 +5,9 @@
 mod answering;
 mod arrival;
 mod bare;
+mod collecting;
 mod copy;
+mod copying;
 mod held;
 mod inbox;
 mod laws;
