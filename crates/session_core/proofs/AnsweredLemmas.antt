@@ -217,6 +217,7 @@ module _ {s : Session} {plain : PlainSession} (copy : RequestCopy) (later : List
               (λ i. record (keep_of plain) { put = (ap (λ (b : List ℕ × ℕ). map kept_answer (answers plain) ++ (id_of copy, record { bytes = b.0; given = b.1; payloads = length (stanzas_in (items_in (front_for plain copy))) }) ∷ []) (λ j. (own j, now j))
                   ∙ sym (map-push kept_answer (answers plain) (answer_of plain copy))) i })
               (puts (keep_of plain) h.kept.keeps next_pair);
+          acked = h.kept.acked;
           ids = AreFrom-push (λ answer. answer.rid) (first_of plain) (answers plain) (answer_of plain copy) h.kept.ids (omega (arith, oldest_id, add-one (length plain.answered)));
         };
         inward = h.inward;

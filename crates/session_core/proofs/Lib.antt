@@ -25,3 +25,6 @@ pub mod SettleLemmas
 pub mod ProcessLemmas
 pub mod CopiedLemmas
 pub mod CollectedLemmas
+pub mod ModestLemmas
+pub mod CountedLemmas
+pub mod ArrivedLemmas
