@@ -28,3 +28,4 @@ pub mod CollectedLemmas
 pub mod ModestLemmas
 pub mod CountedLemmas
 pub mod ArrivedLemmas
+pub mod LowestLemmas
