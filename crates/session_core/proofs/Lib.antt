@@ -23,3 +23,4 @@ pub mod EndedLemmas
 pub mod AnsweredLemmas
 pub mod CopiedLemmas
 pub mod CollectedLemmas
+pub mod CountedLemmas

@@ -8,6 +8,7 @@ mod bare;
 mod collecting;
 mod copy;
 mod copying;
+mod counting;
 mod held;
 mod inbox;
 mod laws;
