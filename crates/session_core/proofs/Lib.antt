@@ -24,3 +24,4 @@ pub mod AnsweredLemmas
 pub mod CopiedLemmas
 pub mod CollectedLemmas
 pub mod CountedLemmas
+pub mod ServedLemmas

@@ -20,6 +20,7 @@ mod reasons;
 mod replies;
 mod rules;
 mod search;
+mod serving;
 mod session;
 mod tickets;
 mod timing;
