@@ -1,11 +1,12 @@
 -- A session that answers its oldest held request stands for the plain one that has answered it.
 use Rattle.std.proofs.Common.{◌≡◌, ◌≢◌, ℕ, zero, suc, ◌+◌, ◌-◌, ◌<◌, ◌≤◌, ◌==◌, Bool, true, false, cond, List, [], ◌∷◌, ◌++◌, map, length, drop, Option, Some, None, refl, sym, ◌∙◌, ap, ap₂, subst, arith, add-one, length-drop, length-append}
-use Rattle.std.specs.Prelude.{◌&&◌, sum_by, if◌then◌else◌}
+use Rattle.std.specs.Prelude.{◌&&◌, not, slice_get, sum_by, if◌then◌else◌}
 use Rattle.std.specs.Option.{option_map, option_or}
 use Rattle.std.proofs.lemmas.Bool.Decides.{nat_tests}
 use Rattle.std.proofs.lemmas.List.Sums.{sum_by_push}
 use Rattle.bosh_types.specs.ById.{at_id}
-use Rattle.bosh_types.specs.declared.ending.Ending.{Ending}
+use Rattle.bosh_types.specs.declared.ending.Closing.{Closing}
+use Rattle.bosh_types.specs.declared.ending.Ending.TheVariants.{Closed}
 use Rattle.bosh_types.specs.declared.kept.KeptAnswer.{KeptAnswer}
 use Rattle.bosh_types.proofs.ById.{at_id-push_same, at_id-push_other}
 use Rattle.body_writer.specs.Answer.{answer_text}
@@ -17,9 +18,9 @@ use Rattle.session_core.specs.declared.copy.RequestCopy.{RequestCopy}
 use Rattle.session_core.specs.declared.held.HeldRequest.{HeldRequest}
 use Rattle.session_core.specs.declared.outward.Outward.{Outward}
 use Rattle.session_core.specs.declared.session.Session.{Session}
-use Rattle.session_core.specs.Answers.{answer_parts, ack_for, report_for, front_for, front_of, with_answer}
+use Rattle.session_core.specs.Answers.{answer_parts, closed_by, front_for, front_of, has_reason, has_reason_for, with_answer}
 use Rattle.session_core.specs.Copy.{id_of, is_pause}
-use Rattle.session_core.specs.Endings.{last_word}
+use Rattle.session_core.specs.Endings.{ended}
 use Rattle.session_core.specs.Kept.{answer_at, kept_answer, keep_of}
 use Rattle.session_core.specs.Machine.{bytes_for}
 use Rattle.session_core.specs.Outward.{Front, OfStanzas, OfClosing, items_in, stanzas_in, is_close}
@@ -27,7 +28,7 @@ use Rattle.session_core.specs.Queue.{Queue}
 use Rattle.session_core.specs.Rules.{is_bare}
 use Rattle.session_core.specs.StandsFor.{Alike, AreFrom, Holds, HoldsRun, HoldsLast, HoldsItems, held_of}
 use Rattle.session_core.specs.State.{PlainSession, Answered, answers, answered_of, first_of, held, is_over, last_from, last_of, taken_by_answers, waiting}
-use Rattle.session_core.specs.Steps.{answer_by, front_by}
+use Rattle.session_core.specs.Steps.{answer_by, closing_in}
 use Rattle.session_core.specs.Tickets.{Book, give_answer}
 use Rattle.session_core.proofs.AreOut.{answered_out}
 use Rattle.session_core.proofs.EndedLemmas.{live_none, words_live}
@@ -216,6 +217,7 @@ module _ {s : Session} {plain : PlainSession} (copy : RequestCopy) (later : List
               (λ i. record (keep_of plain) { put = (ap (λ (b : List ℕ × ℕ). map kept_answer (answers plain) ++ (id_of copy, record { bytes = b.0; given = b.1; payloads = length (stanzas_in (items_in (front_for plain copy))) }) ∷ []) (λ j. (own j, now j))
                   ∙ sym (map-push kept_answer (answers plain) (answer_of plain copy))) i })
               (puts (keep_of plain) h.kept.keeps next_pair);
+          acked = h.kept.acked;
           ids = AreFrom-push (λ answer. answer.rid) (first_of plain) (answers plain) (answer_of plain copy) h.kept.ids (omega (arith, oldest_id, add-one (length plain.answered)));
         };
         inward = h.inward;
@@ -256,3 +258,31 @@ answered_by {s = s} {plain = plain} {text = text} {rid = rid} {payloads = payloa
     (λ k stands next. subst (λ (n : ℕ). keeps.StandsFor keep (after_put k (id_of copy) (record { bytes = text; given = s.moment; payloads = n }))) count_here
         (subst (λ (r : ℕ). keeps.StandsFor keep (after_put k r (record { bytes = text; given = s.moment; payloads = payloads }))) id
         (puts k stands (subst (λ (r : ℕ). IsNextId k.put r) (sym id) next)))))
+
+not_over : (over b : Bool) → (not over && b) ≡ true → over ≡ false
+not_over true b is = absurd (cc)
+not_over false b is = refl
+
+reason_some : (plain : PlainSession) (copies : List RequestCopy) → has_reason_for plain copies ≡ true → (copy : RequestCopy) × (later : List RequestCopy) × (copies ≡ copy ∷ later) × (is_over plain ≡ false)
+reason_some plain [] reason = absurd (cc)
+reason_some plain (copy ∷ later) reason = (copy, later, refl, not_over (is_over plain) _ reason)
+
+-- where a request has a reason to be answered, one is held, and the session goes on
+pub held_some : {s : Session} {plain : PlainSession} → Holds s plain → has_reason plain ≡ true
+    → (copy : RequestCopy) × (later : List RequestCopy) × (held plain ≡ copy ∷ later) × (is_over plain ≡ false) × (slice_get s.held 0 ≡ Some (held_of copy))
+held_some {s = s} {plain = plain} h reason =
+    let some = reason_some plain (held plain) reason in
+    (some.0, some.1, some.2, some.3, ap (λ (requests : List HeldRequest). slice_get requests 0) (h.run.held_is ∙ ap (map held_of) some.2))
+
+pub closed_none : (rid : ℕ) (front : Front) (s : PlainSession) → None ≡ closing_in front → closed_by rid front s ≡ s
+closed_none rid (OfStanzas items) s none = refl
+closed_none rid (OfClosing stream closing) s none = absurd (cc)
+
+pub closed_some : (rid : ℕ) (front : Front) (s : PlainSession) (closing : Closing) → Some closing ≡ closing_in front → closed_by rid front s ≡ ended (Closed closing rid) s
+closed_some rid (OfStanzas items) s closing some = absurd (cc)
+closed_some rid (OfClosing stream other) s closing some =
+    let same : closing ≡ other = cc in
+    ap (λ (c : Closing). ended (Closed c rid) s) (sym same)
+
+pub some_same : {T : Type 0} {x y : T} → Some x ≡ Some y → x ≡ y
+some_same same = cc

@@ -28,7 +28,7 @@ copied_holds {s = s} {plain = plain} h same_keys same_keep same_window same_held
       alike = h.alike;
       run = h.run;
       latest = h.latest;
-      kept = record { keeps = same_keep _ h.kept.keeps; ids = h.kept.ids };
+      kept = record { keeps = same_keep _ h.kept.keeps; ids = h.kept.ids; acked = h.kept.acked };
       inward = h.inward;
       items = h.items;
       tickets = h.tickets;

@@ -21,7 +21,11 @@ pub mod TicketsApart
 pub mod StandingLemmas
 pub mod EndedLemmas
 pub mod AnsweredLemmas
+pub mod SettleLemmas
+pub mod ProcessLemmas
 pub mod CopiedLemmas
 pub mod CollectedLemmas
+pub mod ModestLemmas
 pub mod CountedLemmas
+pub mod ArrivedLemmas
 pub mod ServedLemmas

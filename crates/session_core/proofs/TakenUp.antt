@@ -53,7 +53,7 @@ next_stands plain copy is = by (is_over plain) refl is
     by true over found = absurd (cc)
     by false over found = (over, found)
 
-some_below : (creation : RequestCopy) (standing : List RequestCopy) (last : ℕ) (copy : RequestCopy) → All (IsLater (id_of creation)) standing
+pub some_below : (creation : RequestCopy) (standing : List RequestCopy) (last : ℕ) (copy : RequestCopy) → All (IsLater (id_of creation)) standing
     → at_id (map with_id standing) (last + 1) ≡ Some copy → last < greatest_rid
 some_below creation standing last copy ids some = elim (cases_lt last greatest_rid) [
   | inl more ↦ more
@@ -82,6 +82,30 @@ keep_shape reporting plain ack = by reporting.on ack
     by false ack = refl
     by true None = refl
     by true (Some rid) = refl
+
+-- an acknowledgement stays lower than the greatest id
+acked_after : (reporting : Reporting) (plain : PlainKeep) (ack : Option ℕ) (rid : ℕ) → plain.acknowledged < greatest_rid → IfSome ack (λ a. a < rid) → rid ≤ greatest_rid
+    → (keep_after reporting plain ack).acknowledged < greatest_rid
+acked_after reporting plain ack rid old lower within = by reporting.on ack lower
+  where
+    by : (on : Bool) (ack : Option ℕ) → IfSome ack (λ a. a < rid) → (keep_after (record reporting { on = on }) plain ack).acknowledged < greatest_rid
+    by false ack lower = old
+    by true None lower = old
+    by true (Some a) lower = omega arith
+
+later_first : (first : ℕ) (copy found : RequestCopy) (rid : ℕ) (rest : Option RequestCopy) (b : Bool) → IsLater first copy → cond b (Some copy) rest ≡ Some found
+    → (rest ≡ Some found → IsLater first found) → IsLater first found
+later_first first copy found rid rest true own is later =
+    let same : copy ≡ found = cc in
+    subst (IsLater first) same own
+later_first first copy found rid rest false own is later = later is
+
+-- what is said of all copies that stand is so of the one at an id
+pub later_of_all : (first : ℕ) (copies : List RequestCopy) (rid : ℕ) (copy : RequestCopy) → All (IsLater first) copies → at_id (map with_id copies) rid ≡ Some copy → IsLater first copy
+later_of_all first [] rid copy ids is = absurd (cc)
+later_of_all first (other ∷ copies) rid copy ids is =
+    later_first first other copy rid (at_id (map with_id copies) rid) (id_of other == rid) (All-head (IsLater first) other copies ids) is
+    (later_of_all first copies rid copy (All-tail (IsLater first) other copies ids))
 
 -- what a session keeps as the plain one does, once a copy was processed
 abbrev alike_after : RequestCopy → PlainKeep → ℕ → Alike → Alike
@@ -113,6 +137,7 @@ taken_up s plain copy deadlines key acks keep window held queue after h is dl ky
     let reporting : acks ≡ after_request s.acks (keep_of plain) copy.request.ack (answered_of plain) s.moment =
         ak (keep_of plain) h.kept.keeps
         ∙ ap (λ (answered : ℕ). after_request s.acks (keep_of plain) copy.request.ack answered s.moment) h.run.answered_is in
+    let own : IsLater (id_of plain.creation) copy = later_of_all (id_of plain.creation) plain.standing (s.last + 1) copy h.window.ids at in
     let same : s.acks ≡ plain.reporting = ap (λ (a : Alike). a.reporting) h.alike in
     record {
       alike =
@@ -127,6 +152,7 @@ taken_up s plain copy deadlines key acks keep window held queue after h is dl ky
             (subst (λ (k : PlainKeep). keeps.StandsFor keep k)
             (ap (λ (r : Reporting). keep_after r (keep_of plain) copy.request.ack) same ∙ keep_shape plain.reporting (keep_of plain) copy.request.ack) held_back);
         ids = h.kept.ids;
+        acked = acked_after plain.reporting (keep_of plain) copy.request.ack (id_of copy) h.kept.acked own.ack own.within;
       };
       inward = rw (e_inward, qu) (inward-push copy h.inward);
       items = rw e_outbox h.items;

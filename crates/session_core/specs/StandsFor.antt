@@ -108,6 +108,8 @@ pub record HoldsItems (outbox : Queue) (given : List Outward) (answers : List An
 pub record HoldsKept (keep : Keep) (first requests acknowledged : ℕ) (created : Answered) (answers : List Answered) : Type 0 where
   pub keeps : keeps.StandsFor keep (record { put = map kept_answer (created ∷ answers); acknowledged = acknowledged; size = requests + 1 })
   pub ids : AreFrom (λ answer. answer.rid) first (created ∷ answers)
+  -- an acknowledgement is lower than the id of its request
+  pub acked : acknowledged < greatest_rid
 
 -- a request after the creation acknowledges a lower id, XEP-0124 section 9
 pub record IsLater (first : ℕ) (copy : RequestCopy) : Type 0 where

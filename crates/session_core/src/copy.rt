@@ -2,9 +2,10 @@ ghost use Rattle.std.specs.Prelude.{◌≡◌, IfOk};
 ghost use Rattle.session_core.specs.Copy.{is_empty, is_extra, is_pause};
 ghost use Rattle.session_core.specs.Rules.{mark_of};
 
+use body_cutter::Spans;
 use bosh_types::{CopyIn, Moment, Text};
 use pause_rules::Mark;
-use session_attrs::Request;
+use session_attrs::{Kind, Request};
 use std::alloc::{AllocError, Global};
 use std::marker::Model;
 use std::sync::Arc;
@@ -95,5 +96,35 @@ impl CopyIn for SharedCopy {
         Ok(SharedCopy {
             copy: Arc::try_clone(&self.copy)?,
         })
+    }
+}
+
+/// A request that says the same.
+pub(crate) fn copied_request(alloc: Global, request: &Request) -> Result<Request, AllocError>
+    ensures { IfOk result (λ copy. copy ≡ request.now) }
+{
+    Ok(Request {
+        rid: request.rid,
+        kind: copied_kind(alloc, &request.kind)?,
+        ack: request.ack,
+        key: request.key.copy_in(alloc)?,
+        newkey: request.newkey.copy_in(alloc)?,
+        pause: request.pause,
+        stream: request.stream.copy_in(alloc)?,
+        to: request.to.copy_in(alloc)?,
+        restart: request.restart,
+        terminate: request.terminate,
+        stanzas: Spans::from_vec(Vec::from_slice(alloc, request.stanzas.as_slice())?),
+    })
+}
+
+fn copied_kind(alloc: Global, kind: &Kind) -> Result<Kind, AllocError>
+    ensures { IfOk result (λ copy. copy ≡ kind.now) }
+{
+    match kind {
+        Kind::Creation(creation) => Ok(Kind::Creation(*creation)),
+        Kind::Later { sid } => Ok(Kind::Later {
+            sid: sid.copy_in(alloc)?,
+        }),
     }
 }

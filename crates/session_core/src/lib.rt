@@ -4,6 +4,7 @@
 
 mod answering;
 mod arrival;
+mod arriving;
 mod bare;
 mod collecting;
 mod copy;

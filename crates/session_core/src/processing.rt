@@ -3,7 +3,7 @@ ghost use Rattle.std.specs.Prelude.{◌≡◌, ◌++◌, IfOk, None, OnOk, Some,
 ghost use Rattle.bosh_types.specs.declared.inward.Inward.TheVariants.{Item};
 ghost use Rattle.body_cutter.specs.Pieces.{bytes_at};
 ghost use Rattle.session_core.specs.Copy.{items_of, restart_item, unnamed};
-ghost use Rattle.session_core.specs.Machine.{advanced, next_copy, period_after, unless_terminate, with_copy};
+ghost use Rattle.session_core.specs.Machine.{advanced, next_copy, process, unless_terminate, with_copy};
 ghost use Rattle.session_core.specs.Rules.{asked_of, broken_rule};
 ghost use Rattle.session_core.specs.StandsFor.{StandsFor};
 ghost use Rattle.session_core.specs.State.{PlainSession};
@@ -41,11 +41,19 @@ impl Session {
         let Some(copy) = self.next_copy(alloc)? else {
             return Ok(false);
         };
-        match self.broken_rule(copy.get()) {
-            Some(ending) => self.end(alloc, ending)?,
-            None => self.accept(alloc, copy.get())?,
-        }
+        self.process(alloc, copy.get())?;
         Ok(true)
+    }
+
+    // The next copy is processed, or ends the session by the first rule that it breaks.
+    fn process(&mut self, alloc: Global, copy: &RequestCopy) -> Result<(), AllocError>
+        ensures { (plain : PlainSession) → StandsFor self.old plain → next_copy plain ≡ Some copy.now
+            → OnOk result (StandsFor self.new (process plain copy.now)) }
+    {
+        match self.broken_rule(copy) {
+            Some(ending) => self.end(alloc, ending),
+            None => self.accept(alloc, copy),
+        }
     }
 
     // The copy that follows the last one processed, if it has come and the session goes on.
@@ -62,6 +70,7 @@ impl Session {
         }
     }
 
+    #[tactic(auto, unfolding(crate::specs::StandsFor::StandsFor))]
     // A copy that breaks no rule is processed. A terminate then ends the session (XEP-0124, section 13).
     fn accept(&mut self, alloc: Global, copy: &RequestCopy) -> Result<(), AllocError>
         ensures { (plain : PlainSession) → StandsFor self.old plain → next_copy plain ≡ Some copy.now
