@@ -1,13 +1,14 @@
 -- Time and answers leave the counted bytes as they are.
-use Rattle.std.proofs.Common.{◌≡◌, ℕ, zero, suc, ◌+◌, ◌&&◌, Bool, true, false, not, List, [], ◌∷◌, length, refl, sym, ◌∙◌, ap}
+use Rattle.std.proofs.Common.{◌≡◌, ℕ, zero, suc, ◌+◌, ◌&&◌, Bool, true, false, not, nat_lt, List, [], ◌∷◌, length, refl, sym, ◌∙◌, ap}
 use Rattle.std.specs.Prelude.{if◌then◌else◌}
+use Rattle.bosh_types.specs.Limits.{journal_bytes}
 use Rattle.bosh_types.specs.declared.ending.Ending.{Ending}
 use Rattle.session_core.specs.declared.copy.RequestCopy.{RequestCopy}
 use Rattle.session_core.specs.declared.session.Session.{Session}
 use Rattle.session_core.specs.Answers.{has_reason, closed_by, with_answer, front_for, answer_oldest, settled_in, settled}
 use Rattle.session_core.specs.Copy.{id_of}
 use Rattle.session_core.specs.Endings.{ended}
-use Rattle.session_core.specs.Machine.{with_cost}
+use Rattle.session_core.specs.Machine.{is_full, with_cost}
 use Rattle.session_core.specs.Outward.{Front, OfStanzas, OfClosing}
 use Rattle.session_core.specs.StandsFor.{Alike, Holds}
 use Rattle.session_core.specs.State.{PlainSession, held}
@@ -52,3 +53,10 @@ with_cost_holds s plain counted cost h is = record {
   tickets = h.tickets;
   window = h.window;
 }
+
+pub counted_is : {s : Session} {plain : PlainSession} → Holds s plain → s.counted ≡ plain.counted
+counted_is h = ap (λ (a : Alike). a.counted) h.alike
+
+-- there is as much room for an entry once time was applied
+pub room_kept : (plain : PlainSession) (now cost : ℕ) → is_full (time_applied plain now) cost ≡ is_full plain cost
+room_kept plain now cost = ap (λ (n : ℕ). nat_lt journal_bytes (n + cost)) (time_counted plain now)
