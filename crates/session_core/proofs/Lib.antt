@@ -26,7 +26,7 @@ pub mod ProcessLemmas
 pub mod CopiedLemmas
 pub mod CollectedLemmas
 pub mod ModestLemmas
-pub mod CountedLemmas
 pub mod ArrivedLemmas
 pub mod LowestLemmas
 pub mod ServedLemmas
+pub mod CountedLemmas

@@ -11,6 +11,9 @@ use bosh_types::limits::JOURNAL_BYTES;
 use bosh_types::{Ending, Moment};
 use std::alloc::{AllocError, Global};
 
+/// What a closing, and the passing of time, add to the counted bytes of the journal.
+pub(crate) const PLAIN_COST: u64 = 64;
+
 impl Session {
     /// Whether the journal has no room for an entry of this cost.
     #[tactic(auto, unfolding(crate::specs::StandsFor::StandsFor))]

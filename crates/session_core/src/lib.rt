@@ -23,6 +23,7 @@ mod rules;
 mod search;
 mod serving;
 mod session;
+mod ticking;
 mod tickets;
 mod timing;
 mod words;
