@@ -29,3 +29,4 @@ pub mod ModestLemmas
 pub mod CountedLemmas
 pub mod ArrivedLemmas
 pub mod ServedLemmas
+pub mod OpenedLemmas

@@ -230,7 +230,7 @@ impl Session {
 }
 
 // What an arriving body adds to the counted bytes of the journal.
-fn cost_of_body(request: &Request, body: &[u8]) -> u64
+pub(crate) fn cost_of_body(request: &Request, body: &[u8]) -> u64
     requires { IsModest request.now body.now }
     ensures cost { result ≡ body_cost request.now body.now }
     ensures small { result ≤ 2000000 }
