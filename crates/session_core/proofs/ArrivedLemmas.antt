@@ -7,10 +7,13 @@ use Rattle.std.proofs.lemmas.Bool.Decides.{nat_tests}
 use Rattle.std.proofs.lemmas.List.Elements.{All-push}
 use Rattle.bosh_types.specs.ById.{at_id}
 use Rattle.bosh_types.specs.Rid.{greatest_rid}
+use Rattle.bosh_types.specs.declared.condition.Condition.TheVariants.{UndefinedCondition}
+use Rattle.bosh_types.specs.declared.ending.Ending.TheVariants.{JournalFull}
 use Rattle.bosh_types.specs.declared.kept.KeptAnswer.{KeptAnswer}
 use Rattle.rid_window.specs.PlainWindow.{PlainWindow, IsWithin, id_after, reach}
 use Rattle.rid_window.specs.StandsFor as windows
 use Rattle.rid_window.specs.declared.window.Window.{Window}
+use Rattle.session_attrs.specs.declared.request.Request.{Request}
 use Rattle.session_core.specs.declared.copy.RequestCopy.{RequestCopy}
 use Rattle.session_core.specs.declared.place.Place.{Place}
 use Rattle.session_core.specs.declared.place.Place.TheVariants as places
@@ -22,11 +25,12 @@ use Rattle.session_core.specs.Answers.{settled}
 use Rattle.session_core.specs.Arriving.{with_ticket}
 use Rattle.session_core.specs.Copy.{id_of, is_extra, with_id}
 use Rattle.session_core.specs.Kept.{answer_at, kept_answer}
-use Rattle.session_core.specs.Machine.{advanced, bytes_for, placed, replied, reopened, replace as machine_replace}
+use Rattle.session_core.specs.Machine.{advanced, arrive, arrived_at, arrived_in_time, body_cost, bytes_for, is_full, placed, refused, replied, reopened, replace as machine_replace, with_cost}
 use Rattle.session_core.specs.StandsFor.{Alike, Holds, IsLater}
 use Rattle.session_core.specs.State.{PlainSession, Issued, Waits, answers, answered_of, first_of, is_over, last_of, standing_at}
 use Rattle.session_core.specs.Tickets.{Book, answer_of, given, replace, taken_back, ticket_at, without}
 use Rattle.session_core.specs.TicketsOut.{AreOut, issued_at, out_of}
+use Rattle.session_core.specs.Time.{time_applied}
 use Rattle.session_core.specs.Window.{place_of}
 use Rattle.session_core.proofs.AnsweredLemmas.{none_answered, some_same}
 use Rattle.session_core.proofs.AreOut.{at_without_other, at_without_same, given_out, issued_past, issued_push_last, issued_push_other, replaced_out}
@@ -189,3 +193,25 @@ place_new plain copy within later free reached =
     let stands : is_some (standing_at plain (id_of copy)) ≡ false = ap is_some free in
     let above : nat_lt (last_of plain + reach plain.terms.requests (is_extra copy)) (id_of copy) ≡ false = grind (arith, nat_tests) in
     (λ i. if answered i then places.Answered else if processed i || stands i then places.Open else if above i then places.Above else places.New)
+
+-- a copy that the window took is processed with those that it completes
+pub arrived_new : (plain : PlainSession) (copy : RequestCopy) → place_of plain copy ≡ places.New
+    → arrived_at plain copy (place_of plain copy) ≡ replied (settled (advanced (placed plain copy))) (id_of copy)
+arrived_new plain copy is = ap (arrived_at plain copy) is
+
+-- the steps of an arrival in a session that goes on
+full_if : (b : Bool) (x y : PlainSession × Arrived) → b ≡ true → (if b then x else y) ≡ x
+full_if true x y is = refl
+full_if false x y is = absurd (cc)
+
+room_if : (b : Bool) (x y : PlainSession × Arrived) → b ≡ false → (if b then x else y) ≡ y
+room_if true x y is = absurd (cc)
+room_if false x y is = refl
+
+pub arrive_full : (plain : PlainSession) (request : Request) (body : List ℕ) (now : ℕ) → is_over plain ≡ false → is_full plain (body_cost request body) ≡ true
+    → arrive plain request body now ≡ refused UndefinedCondition (JournalFull plain.counted (body_cost request body)) plain
+arrive_full plain request body now live full = room_if (is_over plain) _ _ live ∙ full_if (is_full plain (body_cost request body)) _ _ full
+
+pub arrive_room : (plain : PlainSession) (request : Request) (body : List ℕ) (now : ℕ) → is_over plain ≡ false → is_full plain (body_cost request body) ≡ false
+    → arrive plain request body now ≡ arrived_in_time (with_cost (body_cost request body) (time_applied plain now)) request body
+arrive_room plain request body now live room = room_if (is_over plain) _ _ live ∙ room_if (is_full plain (body_cost request body)) _ _ room

@@ -28,5 +28,6 @@ pub mod CollectedLemmas
 pub mod ModestLemmas
 pub mod CountedLemmas
 pub mod ArrivedLemmas
+pub mod LowestLemmas
 pub mod ServedLemmas
 pub mod OpenedLemmas

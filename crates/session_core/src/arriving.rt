@@ -153,6 +153,8 @@ impl Session {
             → IfOk result (λ reply. Does self.new reply (arrived_at plain (copy_now plain request.now body.now) (place_of plain (copy_now plain request.now body.now)))) }
     {
         let rid = request.rid;
+        // The proof learns here that an id is at most the greatest.
+        let _value = rid.value();
         let copy = RequestCopy {
             request: copied_request(alloc, request)?,
             body: Text::from_vec(Vec::from_slice(alloc, body)?),
