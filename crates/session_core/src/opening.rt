@@ -32,7 +32,7 @@ use std::alloc::{AllocError, Global};
 
 impl Session {
     /// Opens a session for the request that creates it, under the name `sid` and with the host's greeting, and gives the
-    /// body that answers it (XEP-0124, section 7; XEP-0206, section 3): with the terms, the whole greeting, and an `ack`.
+    /// body that answers it (XEP-0124, section 7; XEP-0206): with the terms, the whole greeting, and an `ack`.
     /// The only error is want of memory.
     pub fn open(
         alloc: Global,
