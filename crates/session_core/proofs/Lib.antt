@@ -30,3 +30,4 @@ pub mod ArrivedLemmas
 pub mod LowestLemmas
 pub mod ServedLemmas
 pub mod CountedLemmas
+pub mod OpenedLemmas

@@ -10,6 +10,7 @@ pub mod Journal
 pub mod Kept
 pub mod Laws
 pub mod Machine
+pub mod Opened
 pub mod Outward
 pub mod Passed
 pub mod Points

@@ -228,7 +228,7 @@ impl Session {
 }
 
 // What an arriving body adds to the counted bytes of the journal.
-fn cost_of_body(request: &Request, body: &[u8]) -> u64
+pub(crate) fn cost_of_body(request: &Request, body: &[u8]) -> u64
     requires { IsModest request.now body.now }
     ensures { result ≡ body_cost request.now body.now }
 {

@@ -6,8 +6,8 @@ ghost use Rattle.session_core.specs.StandsFor.{StandsFor};
 ghost use Rattle.session_core.specs.State.{PlainSession, is_over};
 ghost use Rattle.session_core.specs.Time.{time_applied};
 
+use crate::arriving::passes_limit;
 use crate::session::Session;
-use bosh_types::limits::JOURNAL_BYTES;
 use bosh_types::{Ending, Moment};
 use std::alloc::{AllocError, Global};
 
@@ -20,7 +20,7 @@ impl Session {
     pub(crate) fn is_full(&self, cost: u64) -> bool
         ensures { (plain : PlainSession) → StandsFor self.now plain → result ≡ is_full plain cost }
     {
-        is_beyond(self.counted, cost)
+        passes_limit(self.counted, cost)
     }
 
     /// The session ends, since its journal has no room for an entry of this cost. Nothing else is applied.
@@ -50,13 +50,6 @@ impl Session {
     {
         self.counted = sum_of(self.counted, cost);
     }
-}
-
-// Whether this cost leads beyond the limit.
-fn is_beyond(counted: u64, cost: u64) -> bool
-    ensures { result ≡ nat_lt journal_bytes (counted + cost) }
-{
-    counted.saturating_add(cost) > JOURNAL_BYTES
 }
 
 // The sum of both, where that isn't beyond the limit.

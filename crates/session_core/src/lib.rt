@@ -13,6 +13,7 @@ mod counting;
 mod held;
 mod inbox;
 mod laws;
+mod opening;
 mod outbox;
 mod outward;
 mod place;

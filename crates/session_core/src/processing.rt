@@ -116,7 +116,7 @@ impl Session {
 }
 
 // The items of a processed copy go inward: its stanzas, and then a restart if it asks for one (XEP-0206).
-fn pass_inward(alloc: Global, inbox: &mut Inbox, copy: &RequestCopy) -> Result<(), AllocError>
+pub(crate) fn pass_inward(alloc: Global, inbox: &mut Inbox, copy: &RequestCopy) -> Result<(), AllocError>
     ensures { OnOk result (inbox.new ≡ inbox.old ++ items_of copy.now) }
 {
     pass_stanzas(alloc, inbox, copy.body.as_slice(), copy.request.stanzas.as_slice())?;
