@@ -31,3 +31,4 @@ pub mod LowestLemmas
 pub mod ServedLemmas
 pub mod CountedLemmas
 pub mod OpenedLemmas
+pub mod ConditionRows
