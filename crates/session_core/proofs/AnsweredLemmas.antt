@@ -139,7 +139,7 @@ module _ {s : Session} {plain : PlainSession} (copy : RequestCopy) (later : List
       → HoldsLast s.latest s.moment bare plain.creation plain.processed plain.created (plain.answered ++ answer_of plain copy ∷ [])
   answered_latest bare is =
       let last : last_from plain.created (plain.answered ++ answer_of plain copy ∷ []) ≡ answer_of plain copy =
-          last_from-push plain.created plain.answered (answer_of plain copy) in
+      last_from-push plain.created plain.answered (answer_of plain copy) in
       record {
         latest_is = h.latest.latest_is;
         given_is = ap (λ (a : Alike). a.now) h.alike ∙ ap (λ (answer : Answered). answer.moment) (sym last);
@@ -149,7 +149,7 @@ module _ {s : Session} {plain : PlainSession} (copy : RequestCopy) (later : List
   pub answered_items : HoldsItems (record s.outbox { items = drop (length (items_in (front_for plain copy))) s.outbox.items }) plain.given (plain.created ∷ plain.answered ++ answer_of plain copy ∷ [])
   answered_items =
       let taken : taken_by_answers (plain.created ∷ plain.answered ++ answer_of plain copy ∷ []) ≡ taken_by_answers (plain.created ∷ plain.answered) + length (items_in (front_for plain copy)) =
-          sum_by_push (λ answer. length (items_in answer.front)) (plain.created ∷ plain.answered) (answer_of plain copy) in
+      sum_by_push (λ answer. length (items_in answer.front)) (plain.created ∷ plain.answered) (answer_of plain copy) in
       let within : length (items_in (front_for plain copy)) ≤ length (waiting plain) = front_fits (is_pause copy) (waiting plain) in
       record {
         outbox_is =
@@ -171,16 +171,16 @@ module _ {s : Session} {plain : PlainSession} (copy : RequestCopy) (later : List
   words_here : plain.ending ≡ None → bytes_for (with_answer plain (id_of copy) (front_for plain copy)) (id_of copy) ≡ Some (answer_of plain copy).bytes
   words_here live =
       let none : at_id (map kept_answer (answers plain)) (id_of copy) ≡ None =
-          none_answered (first_of plain) (id_of copy) (answers plain) h.kept.ids (omega (arith, oldest_id, add-one (length plain.answered))) in
+      none_answered (first_of plain) (id_of copy) (answers plain) h.kept.ids (omega (arith, oldest_id, add-one (length plain.answered))) in
       let pushed : map kept_answer (answers plain ++ answer_of plain copy ∷ []) ≡ map kept_answer (answers plain) ++ kept_answer (answer_of plain copy) ∷ [] =
-          map-push kept_answer (answers plain) (answer_of plain copy) in
+      map-push kept_answer (answers plain) (answer_of plain copy) in
       answered_bytes (at_id (map kept_answer (answers plain ++ answer_of plain copy ∷ [])) (id_of copy)) (answer_of plain copy).bytes plain.now _ _
       (ap (λ (pairs : List (ℕ × KeptAnswer)). at_id pairs (id_of copy)) pushed ∙ at_id-push_same (map kept_answer (answers plain)) (id_of copy) (kept_answer (answer_of plain copy)).1 none)
 
   words_elsewhere : plain.ending ≡ None → (other : ℕ) → other ≢ id_of copy → bytes_for (with_answer plain (id_of copy) (front_for plain copy)) other ≡ bytes_for plain other
   words_elsewhere live other apart =
       let pushed : map kept_answer (answers plain ++ answer_of plain copy ∷ []) ≡ map kept_answer (answers plain) ++ kept_answer (answer_of plain copy) ∷ [] =
-          map-push kept_answer (answers plain) (answer_of plain copy) in
+      map-push kept_answer (answers plain) (answer_of plain copy) in
       words_live (with_answer plain (id_of copy) (front_for plain copy)) other live
       ∙ ap (λ (pairs : List (ℕ × KeptAnswer)). option_map (λ answer. answer.bytes) (at_id pairs other)) pushed
       ∙ ap (λ (o : Option KeptAnswer). option_map (λ answer. answer.bytes) o) (at_id-push_other (map kept_answer (answers plain)) (id_of copy) other (kept_answer (answer_of plain copy)).1 apart)
@@ -191,7 +191,7 @@ module _ {s : Session} {plain : PlainSession} (copy : RequestCopy) (later : List
       → bare ≡ is_bare (answer_of plain copy)
       → book ≡ record s.tickets { out = map (give_answer (id_of copy) bytes) s.tickets.out }
       → ((k : PlainKeep) → keeps.StandsFor s.keep k → IsNextId k.put (id_of copy)
-          → keeps.StandsFor keep (after_put k (id_of copy) (record { bytes = bytes; given = s.moment; payloads = length (stanzas_in (items_in (front_for plain copy))) })))
+      → keeps.StandsFor keep (after_put k (id_of copy) (record { bytes = bytes; given = s.moment; payloads = length (stanzas_in (items_in (front_for plain copy))) })))
       → Holds (record s {
         acks = record s.acks { due = None };
         keep = keep;
@@ -206,16 +206,18 @@ module _ {s : Session} {plain : PlainSession} (copy : RequestCopy) (later : List
       let due : s.acks.due ≡ plain.reporting.due = ap (λ (a : Alike). a.reporting.due) h.alike in
       let now : s.moment ≡ plain.now = ap (λ (a : Alike). a.now) h.alike in
       let own : bytes ≡ (answer_of plain copy).bytes =
-          written ∙ (λ i. answer_text (answer_by (h.run.last_is i) (due i) (now i) (id_of copy) (front_for plain copy)))
-          ∙ ap answer_text (sym (parts_by plain (id_of copy) (front_for plain copy))) in
+      written ∙ (λ i. answer_text (answer_by (h.run.last_is i) (due i) (now i) (id_of copy) (front_for plain copy)))
+      ∙ ap answer_text (sym (parts_by plain (id_of copy) (front_for plain copy))) in
       record {
         alike = ap (λ (a : Alike). record a { reporting = record a.reporting { due = None } }) h.alike;
         run = answered_run;
         latest = answered_latest bare bare_is;
         kept = record {
           keeps = subst (λ (k : PlainKeep). keeps.StandsFor keep k)
-              (λ i. record (keep_of plain) { put = (ap (λ (b : List ℕ × ℕ). map kept_answer (answers plain) ++ (id_of copy, record { bytes = b.0; given = b.1; payloads = length (stanzas_in (items_in (front_for plain copy))) }) ∷ []) (λ j. (own j, now j))
-                  ∙ sym (map-push kept_answer (answers plain) (answer_of plain copy))) i })
+              (λ i. record (keep_of plain) {
+                put = (ap (λ (b : List ℕ × ℕ). map kept_answer (answers plain) ++ (id_of copy, record { bytes = b.0; given = b.1; payloads = length (stanzas_in (items_in (front_for plain copy))) }) ∷ []) (λ j. (own j, now j))
+                    ∙ sym (map-push kept_answer (answers plain) (answer_of plain copy))) i;
+              })
               (puts (keep_of plain) h.kept.keeps next_pair);
           acked = h.kept.acked;
           ids = AreFrom-push (λ answer. answer.rid) (first_of plain) (answers plain) (answer_of plain copy) h.kept.ids (omega (arith, oldest_id, add-one (length plain.answered)));
@@ -256,8 +258,8 @@ answered_by {s = s} {plain = plain} {text = text} {rid = rid} {payloads = payloa
     (ap (λ (n : ℕ). n == 0) count_here)
     (bk ∙ (λ i. record s.tickets { out = map (give_answer (id i) text) s.tickets.out }))
     (λ k stands next. subst (λ (n : ℕ). keeps.StandsFor keep (after_put k (id_of copy) (record { bytes = text; given = s.moment; payloads = n }))) count_here
-        (subst (λ (r : ℕ). keeps.StandsFor keep (after_put k r (record { bytes = text; given = s.moment; payloads = payloads }))) id
-        (puts k stands (subst (λ (r : ℕ). IsNextId k.put r) (sym id) next)))))
+    (subst (λ (r : ℕ). keeps.StandsFor keep (after_put k r (record { bytes = text; given = s.moment; payloads = payloads }))) id
+    (puts k stands (subst (λ (r : ℕ). IsNextId k.put r) (sym id) next)))))
 
 not_over : (over b : Bool) → (not over && b) ≡ true → over ≡ false
 not_over true b is = absurd (cc)

@@ -49,7 +49,7 @@ length-map f (x ∷ xs) = ap suc (length-map f xs)
 pub open_words : {s : Session} {plain : PlainSession} (rid : ℕ) → Holds s plain → is_over plain ≡ false → answered_of plain < rid → bytes_for plain rid ≡ None
 open_words {plain = plain} rid h live later =
     let none : at_id (map kept_answer (answers plain)) rid ≡ None =
-        none_answered (first_of plain) rid (answers plain) h.kept.ids (omega (arith, add-one (length plain.answered))) in
+    none_answered (first_of plain) rid (answers plain) h.kept.ids (omega (arith, add-one (length plain.answered))) in
     words_live plain rid (live_none plain live) ∙ ap (λ (o : Option KeptAnswer). option_map (λ answer. answer.bytes) o) none
 
 -- a later copy of an open id
@@ -74,7 +74,7 @@ pub reopened_number : {s : Session} {plain : PlainSession} (rid number : ℕ) �
     → arrivals.Parked number ≡ (reopened plain rid).1
 reopened_number {s = s} {plain = plain} rid number h is =
     let same : number ≡ suc (length (map (machine_replace rid) plain.tickets)) =
-        omega (arith, is, h.tickets.handed_out_is, length-map (machine_replace rid) plain.tickets) in
+    omega (arith, is, h.tickets.handed_out_is, length-map (machine_replace rid) plain.tickets) in
     ap arrivals.Parked same
 
 -- The ticket that was handed out last.
@@ -147,7 +147,7 @@ pub apart : (plain : PlainSession) (rid : ℕ) → settled (advanced (with_ticke
 apart plain rid =
     let tickets : List Issued = plain.tickets ++ record { rid = rid; state = Waits } ∷ [] in
     let same : (settled (advanced plain)).tickets ≡ plain.tickets =
-        ap (λ (p : PlainSession). p.tickets) (ap settled (advanced_apart plain.tickets plain) ∙ settled_apart plain.tickets (advanced plain)) in
+    ap (λ (p : PlainSession). p.tickets) (ap settled (advanced_apart plain.tickets plain) ∙ settled_apart plain.tickets (advanced plain)) in
     ap settled (advanced_apart tickets plain) ∙ settled_apart tickets (advanced plain)
     ∙ ap (λ (ts : List Issued). with_tickets (ts ++ record { rid = rid; state = Waits } ∷ []) (settled (advanced plain))) (sym same)
 

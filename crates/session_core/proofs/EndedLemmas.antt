@@ -53,10 +53,10 @@ ended_holds s plain ending breaker word other book h live words is = record {
       rw is
       (ended_out (bytes_for plain) (bytes_for (ended ending plain)) s.tickets plain.tickets breaker (answer_text word) (answer_text other)
       (λ rid.
-          let given : option_map (λ answer. answer.bytes) (answer_at plain rid) ≡ bytes_for plain rid = sym (words_live plain rid (live_none plain live)) in
-          let last : answer_text (word_for (answered_of plain) ending rid) ≡ cond (rid == breaker) (answer_text word) (answer_text other) =
-              ap answer_text (words rid) ∙ chosen (rid == breaker) word other in
-          (λ i. option_or (given i) (Some (last i))))
+      let given : option_map (λ answer. answer.bytes) (answer_at plain rid) ≡ bytes_for plain rid = sym (words_live plain rid (live_none plain live)) in
+      let last : answer_text (word_for (answered_of plain) ending rid) ≡ cond (rid == breaker) (answer_text word) (answer_text other) =
+      ap answer_text (words rid) ∙ chosen (rid == breaker) word other in
+      (λ i. option_or (given i) (Some (last i))))
       h.tickets);
   window = h.window;
 }

@@ -53,9 +53,11 @@ at_none rid id (answer ∷ answers) are apart =
   where
     passed : (a b : ℕ) (x : KeptAnswer) (rest : Option KeptAnswer) → a ≢ b → cond (a == b) (Some x) rest ≡ rest
     passed a b x rest apart = grind (arith, nat_tests)
+
     differs : (id < rid) ⊎ (rid + length (answer ∷ answers) ≤ id) → answer.rid ≡ id → ⊥
     differs (inl below) same = absurd (omega (arith, are.0))
     differs (inr above) same = absurd (omega (arith, are.0))
+
     further : (id < rid) ⊎ (rid + length (answer ∷ answers) ≤ id) → (id < rid + 1) ⊎ (rid + 1 + length answers ≤ id)
     further (inl below) = inl (omega arith)
     further (inr above) = inr (omega (arith, add-one (length answers)))
@@ -115,5 +117,5 @@ module _ {s : Session} {plain : PlainSession} (h : Holds s plain) where
       let acked : nat_lt plain.acknowledged (answered_of plain) ≡ true = grind (arith, nat_tests, h.kept.acked, h.run.answered_is) in
       let recent : nat_lt (last_id (map kept_answer (answers plain))) (answered_of plain + (plain.terms.requests + 1)) ≡ true = grind (arith, nat_tests, last) in
       let here : kept_of plain (answered_of plain) ≡ at_id (map kept_answer (answers plain)) (answered_of plain) =
-          (λ i. if acked i && recent i then at_id (map kept_answer (answers plain)) (answered_of plain) else None) in
+      (λ i. if acked i && recent i then at_id (map kept_answer (answers plain)) (answered_of plain) else None) in
       at_within (first_of plain) (answered_of plain) (answers plain) h.kept.ids (omega arith) (omega (arith, add-one (length plain.answered))) (sym here ∙ none (answered_of plain))

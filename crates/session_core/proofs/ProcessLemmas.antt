@@ -71,7 +71,7 @@ module _ {s : Session} {plain : PlainSession} where
   next_below copy h next =
       let some = next_stands plain copy next in
       let at : at_id (map with_id plain.standing) (s.last + 1) ≡ Some copy =
-          ap (λ (last : ℕ). at_id (map with_id plain.standing) (last + 1)) h.run.last_is ∙ some.1 in
+      ap (λ (last : ℕ). at_id (map with_id plain.standing) (last + 1)) h.run.last_is ∙ some.1 in
       omega (arith, some_below plain.creation plain.standing s.last copy h.window.ids at, h.run.last_is, h.run.within)
 
 by_rule : (o : Option Ending) (plain : PlainSession) (copy : RequestCopy) (other : Option Ending) → o ≡ other

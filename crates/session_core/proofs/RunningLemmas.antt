@@ -83,6 +83,6 @@ inward-push {passed = passed} {run = run} copy h = record {
       ∙ ap (drop passed) (sym (items_of_all-push run copy));
   within =
       let all : length (items_of_all (run ++ copy ∷ [])) ≡ length (items_of_all run) + length (items_of copy) =
-          ap length (items_of_all-push run copy) ∙ length-append (items_of_all run) (items_of copy) in
+      ap length (items_of_all-push run copy) ∙ length-append (items_of_all run) (items_of copy) in
       omega (arith, h.within, all);
 }

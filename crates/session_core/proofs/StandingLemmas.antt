@@ -58,8 +58,8 @@ module _ {s : Session} {plain : PlainSession} where
       → (if b then s.last_given else max s.last_given s.last_arrival) ≡ quiet_of plain
   quiet_is clear b is h told =
       let empty : b ≡ (length (above (last_of plain) plain.standing) == 0) =
-          sym is ∙ clear_is clear plain.creation plain.standing s.last h.window.ids (omega (arith, h.run.last_is)) told.0 told.1
-          ∙ ap (λ (last : ℕ). length (above last plain.standing) == 0) h.run.last_is in
+      sym is ∙ clear_is clear plain.creation plain.standing s.last h.window.ids (omega (arith, h.run.last_is)) told.0 told.1
+      ∙ ap (λ (last : ℕ). length (above last plain.standing) == 0) h.run.last_is in
       let arrival : s.last_arrival ≡ plain.last_arrival = ap (λ (a : Alike). a.last_arrival) h.alike in
       (λ i. if empty i then h.latest.given_is i else max (h.latest.given_is i) (arrival i))
 
@@ -89,11 +89,11 @@ reason_for plain [] is = over_or_not (is_over plain)
 reason_for plain (oldest ∷ later) is =
     let items : Bool = not (length (waiting plain) == 0) && not (is_pause oldest) in
     let test : List RequestCopy → Bool = λ copies.
-        not (is_over plain) && (items || (nat_lt plain.terms.hold (length copies) || (list_any (λ copy. is_wait_due plain.terms copy.arrived plain.now) copies
-        || (list_any is_pause copies || (is_some plain.reporting.due || (plain.terms.polled || false)))))) in
+    not (is_over plain) && (items || (nat_lt plain.terms.hold (length copies) || (list_any (λ copy. is_wait_due plain.terms copy.arrived plain.now) copies
+    || (list_any is_pause copies || (is_some plain.reporting.due || (plain.terms.polled || false)))))) in
     chain (is_over plain) items (nat_lt plain.terms.hold (length (map held_of (oldest ∷ later))))
-        (list_any (λ request. is_wait_due plain.terms request.arrived plain.now) (map held_of (oldest ∷ later)))
-        (list_any (λ request. request.pause) (map held_of (oldest ∷ later))) (is_some plain.reporting.due) plain.terms.polled
+    (list_any (λ request. is_wait_due plain.terms request.arrived plain.now) (map held_of (oldest ∷ later)))
+    (list_any (λ request. request.pause) (map held_of (oldest ∷ later))) (is_some plain.reporting.due) plain.terms.polled
     ∙ (λ i. not (is_over plain) && (items || (nat_lt plain.terms.hold (length_map (oldest ∷ later) i)
     || (any_map (λ request. is_wait_due plain.terms request.arrived plain.now) (oldest ∷ later) i
     || (any_map (λ request. request.pause) (oldest ∷ later) i || (is_some plain.reporting.due || (plain.terms.polled || false)))))))

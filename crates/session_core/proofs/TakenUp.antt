@@ -68,9 +68,9 @@ next_window window creation standing last copy placed next ids first some =
     let more : last < greatest_rid = some_below creation standing last copy ids some in
     let found : at_id (map with_id (creation ∷ standing)) (last + 1) ≡ Some copy = later_at creation standing (last + 1) (omega arith) ∙ some in
     let is : ready window ≡ Some (last + 1, copy) =
-        ap (λ (pairs : List (ℕ × RequestCopy)). ready_at window.next pairs) placed
-        ∙ ap (λ (o : Option ℕ). ready_at o (map with_id (creation ∷ standing))) (next ∙ after_some last more)
-        ∙ ap (with_item (last + 1)) found in
+    ap (λ (pairs : List (ℕ × RequestCopy)). ready_at window.next pairs) placed
+    ∙ ap (λ (o : Option ℕ). ready_at o (map with_id (creation ∷ standing))) (next ∙ after_some last more)
+    ∙ ap (with_item (last + 1)) found in
     ap (next_after window) is ∙ ap id_after (sym (id_at standing (last + 1) copy some))
 
 -- an acknowledgement changes nothing of a keep but up to which id answers are acknowledged
@@ -131,12 +131,12 @@ pub taken_up : (s : Session) (plain : PlainSession) (copy : RequestCopy) (deadli
 taken_up s plain copy deadlines key acks keep window held queue after h is dl ky ak kp wn hd qu al e_keep e_window e_held e_inward e_last e_outbox e_tickets e_answered e_latest e_given e_bare =
     let next = next_stands plain copy is in
     let at : at_id (map with_id plain.standing) (s.last + 1) ≡ Some copy =
-        ap (λ (last : ℕ). at_id (map with_id plain.standing) (last + 1)) h.run.last_is ∙ next.1 in
+    ap (λ (last : ℕ). at_id (map with_id plain.standing) (last + 1)) h.run.last_is ∙ next.1 in
     let id : id_of copy ≡ s.last + 1 = id_at plain.standing (s.last + 1) copy at in
     let first : id_of plain.creation ≤ s.last = omega (arith, h.run.last_is) in
     let reporting : acks ≡ after_request s.acks (keep_of plain) copy.request.ack (answered_of plain) s.moment =
-        ak (keep_of plain) h.kept.keeps
-        ∙ ap (λ (answered : ℕ). after_request s.acks (keep_of plain) copy.request.ack answered s.moment) h.run.answered_is in
+    ak (keep_of plain) h.kept.keeps
+    ∙ ap (λ (answered : ℕ). after_request s.acks (keep_of plain) copy.request.ack answered s.moment) h.run.answered_is in
     let own : IsLater (id_of plain.creation) copy = later_of_all (id_of plain.creation) plain.standing (s.last + 1) copy h.window.ids at in
     let same : s.acks ≡ plain.reporting = ap (λ (a : Alike). a.reporting) h.alike in
     record {

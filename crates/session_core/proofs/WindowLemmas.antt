@@ -103,16 +103,17 @@ pub clear_is : (clear : Bool) (creation : RequestCopy) (standing : List RequestC
     → clear ≡ (length (above last standing) == 0)
 clear_is true creation standing last ids first told shown =
     let none : above last standing ≡ [] = clear_beyond (id_of creation) last standing ids (λ rid later small.
-        sym (later_at creation standing rid (omega arith)) ∙ told refl rid (subst (λ next. IsOpen next rid) (sym (after_some last (omega arith))) (omega arith))) in
+    sym (later_at creation standing rid (omega arith)) ∙ told refl rid (subst (λ next. IsOpen next rid) (sym (after_some last (omega arith))) (omega arith))) in
     ap (λ (copies : List RequestCopy). length copies == 0) (sym none)
 clear_is false creation standing last ids first told shown =
     not_clear (above last standing) (λ empty. shown (λ rid is.
-        let later : last < rid = opened_later last rid is in
-        later_at creation standing rid (omega arith) ∙ beyond_clear last standing rid empty later))
+    let later : last < rid = opened_later last rid is in
+    later_at creation standing rid (omega arith) ∙ beyond_clear last standing rid empty later))
   where
     not_clear : (copies : List RequestCopy) → (copies ≡ [] → IsTrue false) → false ≡ (length copies == 0)
     not_clear [] holds = holds refl
     not_clear (copy ∷ copies) holds = grind (arith, nat_tests)
+
     opened_later : (last rid : ℕ) → IsOpen (id_after last) rid → last < rid
     opened_later last rid is = elim (cases_lt last greatest_rid) [
       | inl more ↦ (let at : IsOpen (Some (last + 1)) rid = subst (λ next. IsOpen next rid) (after_some last more) is in omega arith)

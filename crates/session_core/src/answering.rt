@@ -110,7 +110,12 @@ impl Session {
         Ok(Written { text, payloads })
     }
 
-    fn answer_parts(&self, alloc: Global, rid: Rid, front: &Front) -> Result<AnswerParts, AllocError>
+    fn answer_parts(
+        &self,
+        alloc: Global,
+        rid: Rid,
+        front: &Front,
+    ) -> Result<AnswerParts, AllocError>
         ensures { IfOk result (λ parts. parts ≡ answer_by self.now.last self.now.acks.due self.now.moment rid front.now) }
     {
         match front {

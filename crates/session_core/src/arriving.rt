@@ -113,7 +113,11 @@ impl Session {
             return Ok(Arrived::Answer(answer.bytes.again()?));
         }
         let lowest = self.lowest_kept();
-        self.refuse(alloc, Condition::ItemNotFound, Ending::Stale { rid, lowest })
+        self.refuse(
+            alloc,
+            Condition::ItemNotFound,
+            Ending::Stale { rid, lowest },
+        )
     }
 
     // The least id whose answer is kept, and the next one to be answered where none is.
@@ -143,7 +147,12 @@ impl Session {
 
     // A copy that follows the last one processed is placed in the window.
     #[tactic(auto, unfolding(crate::specs::StandsFor::StandsFor))]
-    fn place(&mut self, alloc: Global, request: &Request, body: &[u8]) -> Result<Arrived, AllocError>
+    fn place(
+        &mut self,
+        alloc: Global,
+        request: &Request,
+        body: &[u8],
+    ) -> Result<Arrived, AllocError>
         requires { IsModest request.now body.now }
         ensures { (plain : PlainSession) → StandsFor self.old plain → is_over plain ≡ false → last_of plain < request.now.rid
             → IfOk result (λ reply. Does self.new reply (arrived_at plain (copy_now plain request.now body.now) (place_of plain (copy_now plain request.now body.now)))) }

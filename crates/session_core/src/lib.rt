@@ -1,5 +1,6 @@
-// One session, apart from every connection, clock and thread: which request stands for an id, what goes inward, and when
-// the session ends. Here so far is the plain session, which keeps all that arrived and searches it each time.
+// One session, apart from every connection, clock and thread: which request stands for an id, what goes inward, what each
+// request is answered, and when the session ends. `Session` is a session as a manager holds it; `Bare` keeps all that arrived,
+// knows of nothing else, and searches it each time.
 #![tactic(auto)]
 
 mod answering;
@@ -24,8 +25,8 @@ mod rules;
 mod search;
 mod serving;
 mod session;
-mod ticking;
 mod tickets;
+mod ticking;
 mod timing;
 mod words;
 mod written;

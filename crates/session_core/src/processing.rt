@@ -107,8 +107,13 @@ impl Session {
         let _taken = self.window.take_ready();
         let _verdict = self.keys.accept(key, newkey);
         set_period(&mut self.deadlines, copy);
-        self.acks
-            .on_request(request.rid, request.ack, &mut self.keep, self.answered, self.moment);
+        self.acks.on_request(
+            request.rid,
+            request.ack,
+            &mut self.keep,
+            self.answered,
+            self.moment,
+        );
         self.latest = copy.mark();
         self.last = request.rid;
         Ok(())
@@ -116,10 +121,19 @@ impl Session {
 }
 
 // The items of a processed copy go inward: its stanzas, and then a restart if it asks for one (XEP-0206).
-pub(crate) fn pass_inward(alloc: Global, inbox: &mut Inbox, copy: &RequestCopy) -> Result<(), AllocError>
+pub(crate) fn pass_inward(
+    alloc: Global,
+    inbox: &mut Inbox,
+    copy: &RequestCopy,
+) -> Result<(), AllocError>
     ensures { OnOk result (inbox.new ≡ inbox.old ++ items_of copy.now) }
 {
-    pass_stanzas(alloc, inbox, copy.body.as_slice(), copy.request.stanzas.as_slice())?;
+    pass_stanzas(
+        alloc,
+        inbox,
+        copy.body.as_slice(),
+        copy.request.stanzas.as_slice(),
+    )?;
     pass_restart(inbox, copy.request.restart)
 }
 

@@ -38,7 +38,10 @@ impl LastWords {
             Ending::Above { rid, .. } => LastWords::all(*rid, other_request()),
             Ending::WrongKey { rid } => LastWords::breaker(*rid, Condition::ItemNotFound),
             Ending::UnknownStream { rid } => LastWords::breaker(*rid, Condition::ItemNotFound),
-            Ending::PauseTooLong { rid, .. } => LastWords::breaker(*rid, Condition::PolicyViolation),
+            Ending::PauseTooLong { rid, .. } => LastWords::breaker(
+                *rid,
+                Condition::PolicyViolation,
+            ),
             Ending::Overactive { rid, .. } => LastWords::breaker(*rid, Condition::PolicyViolation),
             Ending::Silent { .. } => LastWords::all(
                 answered,

@@ -12,7 +12,7 @@ pub returns : goal.returns
 unfolding StandsFor
 returns c = λ plain copy later stands oldest live same.
     let front : c.in_ok-front.front ≡ front_for plain copy =
-        c.in_ok-front.ensures.front ∙ (λ i. front_by (same i).pause (stands.items.outbox_is i)) in
+    c.in_ok-front.ensures.front ∙ (λ i. front_by (same i).pause (stands.items.outbox_is i)) in
     record {
       closing_is = c.closing_of-closing.ensures ∙ ap closing_in front;
       after =

@@ -21,8 +21,8 @@ unfolding StandsFor
 returns-in-Done c = λ plain stands live later.
     let rid : ℕ = c.args.request.now.rid in
     let is : c.in_ok-new.field-0 ≡ copy_now plain c.args.request.now c.args.body.now =
-        c.in_ok-new.ensures
-        ∙ (λ i. record { request = c.in_ok-copied_request.ensures i; body = (c.from_vec.ensures ∙ c.in_ok-from_slice.ensures.items) i; arrived = moment_is stands i }) in
+    c.in_ok-new.ensures
+    ∙ (λ i. record { request = c.in_ok-copied_request.ensures i; body = (c.from_vec.ensures ∙ c.in_ok-from_slice.ensures.items) i; arrived = moment_is stands i }) in
     let extra : c.is_extra-extra.result ≡ is_extra (copy_now plain c.args.request.now c.args.body.now) = c.is_extra-extra.ensures ∙ ap is_extra (sym c.in_ok-new.ensures ∙ is) in
     let told = c.in-Done.ensures.answer _ stands.window.stands in
     let reached = within_reach plain.creation plain.standing c.args.self.now.last plain.terms.requests rid c.is_extra-extra.result (omega (arith, stands.run.last_is)) (omega (arith, stands.run.last_is, later)) told in
@@ -39,7 +39,7 @@ returns-in-Done c = λ plain stands live later.
     } in
     let took = c.take_in.ensures plain c.in_ok-new.field-0 in_window (sym (ap id_of is)) in
     let place = place_new plain (copy_now plain c.args.request.now c.args.body.now) (omega (arith, stands.run.within)) later reached.1
-        (subst (λ (b : Bool). rid ≤ last_of plain + reach plain.terms.requests b) extra (omega (arith, reached.0, stands.run.last_is))) in
+    (subst (λ (b : Bool). rid ≤ last_of plain + reach plain.terms.requests b) extra (omega (arith, reached.0, stands.run.last_is))) in
     subst (λ (step : PlainSession × Arrived). IfOk c.take_in.result (λ reply. Does c.take_in.new.self reply step))
     (ap (λ (k : RequestCopy). replied (settled (advanced (placed plain k))) rid) is ∙ sym (arrived_new plain (copy_now plain c.args.request.now c.args.body.now) place))
     took

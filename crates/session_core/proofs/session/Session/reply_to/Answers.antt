@@ -13,7 +13,7 @@ unfolding StandsFor
 returns-in-Some c = λ plain rid stands number.
     let told = sym c.take_back.ensures.answer ∙ c.in-Some.is in
     let answer : bytes_for plain rid ≡ Some c.in-Some.text =
-        sym (last_words_is (bytes_for plain) c.args.self.now.tickets plain.tickets rid stands.tickets) ∙ told in
+    sym (last_words_is (bytes_for plain) c.args.self.now.tickets plain.tickets rid stands.tickets) ∙ told in
     subst (λ (step : PlainSession × Arrived). Does (record c.args.self.now { tickets = c.take_back.new.self }) (arrivals.Answer c.in-Some.text) step)
     (sym (replied_some plain rid c.in-Some.text answer))
     (record {
@@ -27,7 +27,7 @@ unfolding StandsFor
 returns-in-None c = λ plain rid stands number.
     let told = sym c.take_back.ensures.answer ∙ c.in-None.is in
     let none : bytes_for plain rid ≡ None =
-        sym (last_words_is (bytes_for plain) c.args.self.now.tickets plain.tickets rid stands.tickets) ∙ told in
+    sym (last_words_is (bytes_for plain) c.args.self.now.tickets plain.tickets rid stands.tickets) ∙ told in
     let next : c.args.ticket ≡ suc (length plain.tickets) = omega (arith, number) in
     subst (λ (step : PlainSession × Arrived). Does (record c.args.self.now { tickets = c.take_back.new.self }) (arrivals.Parked c.args.ticket) step)
     (sym (replied_none plain rid none))

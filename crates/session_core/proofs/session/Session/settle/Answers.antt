@@ -12,9 +12,11 @@ loop-request-init c = λ plain stands. (plain, stands, settle_begin stands)
 pub loop-request-preserved : goal.loop-request-preserved
 loop-request-preserved c = λ plain stands.
     let now = c.loop-request.invariant plain stands in
-    let reason = sym (c.has_reason.ensures now.0 now.1) ∙ c.if-not-has_reason.false in
-    (answer_oldest now.0 (held now.0), c.in_ok-answer_oldest.ensures now.0 now.1 reason,
-    settle_more (length c.args.self.now.held) c.loop-request._request now.0 (omega (arith, c.len-request-end.ensures, c.loop-request-test.true)) reason ∙ now.2)
+    let reason = sym (c.has_reason.ensures now.0 now.1) ∙ c.if-not-has_reason.false in (
+      answer_oldest now.0 (held now.0),
+      c.in_ok-answer_oldest.ensures now.0 now.1 reason,
+      settle_more (length c.args.self.now.held) c.loop-request._request now.0 (omega (arith, c.len-request-end.ensures, c.loop-request-test.true)) reason ∙ now.2,
+    )
 
 pub returns-then-not-has_reason : goal.returns-then-not-has_reason
 returns-then-not-has_reason c = λ plain stands.

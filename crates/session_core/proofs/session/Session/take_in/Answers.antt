@@ -20,8 +20,8 @@ returns c = λ plain copy in_window same.
     let stands = placed_holds copy c.args.self.now.window before later in_window.places in
     let beyond : answered_of (placed plain copy) < c.args.rid = omega (arith, same, in_window.later, before.run.within) in
     let ticket = retickets (plain.tickets ++ record { rid = c.args.rid; state = Waits } ∷ []) c.give.new.self stands
-        (rw c.in_ok-ticket.ensures.after
-        (given_out (bytes_for (placed plain copy)) c.args.self.now.tickets plain.tickets c.args.rid (open_words c.args.rid stands in_window.goes_on beyond) stands.tickets)) in
+    (rw c.in_ok-ticket.ensures.after
+    (given_out (bytes_for (placed plain copy)) c.args.self.now.tickets plain.tickets c.args.rid (open_words c.args.rid stands in_window.goes_on beyond) stands.tickets)) in
     let advanced_on = c.in_ok-advance.ensures (with_ticket (placed plain copy) c.args.rid) ticket in
     let settled_on = c.in_ok-settle.ensures (advanced (with_ticket (placed plain copy) c.args.rid)) advanced_on in
     let now = subst (λ (p : PlainSession). StandsFor c.settle.new.self p) (apart (placed plain copy) c.args.rid) settled_on in

@@ -17,11 +17,11 @@ returns c = λ plain stands next unbroken.
     let key : c.in_ok-key.key ≡ c.args.copy.now.request.key = c.in_ok-key.ensures in
     let newkey : c.in_ok-newkey.newkey ≡ c.args.copy.now.request.newkey = c.in_ok-newkey.ensures in
     let good : fits c.args.self.now.keys c.in_ok-key.key ≡ true =
-        (λ i. fits (own i) (key i)) ∙ unbroken_key (asked_of plain) c.args.copy.now unbroken in
+    (λ i. fits (own i) (key i)) ∙ unbroken_key (asked_of plain) c.args.copy.now unbroken in
     let accepted = c.accept-verdict.ensures.good (c.accept-verdict.ensures.verdict.1 good) in
     let short : is_pause c.args.copy.now ≡ true → IfSome c.args.copy.now.request.pause (λ seconds. seconds ≤ c.args.self.now.deadlines.terms.maxpause) = λ pauses.
-        subst (λ (terms : Terms). IfSome c.args.copy.now.request.pause (λ seconds. seconds ≤ terms.maxpause)) (sym (terms_is stands))
-        (unbroken_pause (asked_of plain) c.args.copy.now unbroken pauses) in
+    subst (λ (terms : Terms). IfSome c.args.copy.now.request.pause (λ seconds. seconds ≤ terms.maxpause)) (sym (terms_is stands))
+    (unbroken_pause (asked_of plain) c.args.copy.now unbroken pauses) in
     taken_up c.args.self.now plain c.args.copy.now _ _ _ _ _ _ _ _ stands next (c.set_period.ensures short)
     (accepted ∙ (λ i. current_after c.args.self.now.keys (key i) (newkey i)))
     c.on_request.ensures.due c.on_request.ensures.keep c.take_ready-taken.ensures.after
