@@ -1,6 +1,6 @@
 -- What a session holds once a copy arrived.
 use Rattle.std.proofs.Common.{◌≡◌, ◌≢◌, ℕ, zero, suc, ◌+◌, ◌-◌, ◌<◌, ◌≤◌, ◌==◌, ◌&&◌, ◌||◌, ◌⊎◌, inl, inr, nat_lt, nat_le, Bool, true, false, cond, List, [], ◌∷◌, ◌++◌, map, length, Option, Some, None, All, refl, sym, ◌∙◌, ap, subst, arith, add-one}
-use Rattle.std.specs.Prelude.{is_some, if◌then◌else◌}
+use Rattle.std.specs.Prelude.{is_some, not, if◌then◌else◌}
 use Rattle.std.specs.Option.{option_map}
 use Rattle.std.proofs.lemmas.Bool.{cases_eq, cases_lt}
 use Rattle.std.proofs.lemmas.Bool.Decides.{nat_tests}
@@ -19,18 +19,20 @@ use Rattle.session_core.specs.declared.place.Place.{Place}
 use Rattle.session_core.specs.declared.place.Place.TheVariants as places
 use Rattle.session_core.specs.declared.replies.Arrived.{Arrived}
 use Rattle.session_core.specs.declared.replies.Arrived.TheVariants as arrivals
+use Rattle.session_core.specs.declared.replies.Ticked.{Ticked}
+use Rattle.session_core.specs.declared.replies.Ticked.TheVariants.{Changed}
 use Rattle.session_core.specs.declared.session.Session.{Session}
 use Rattle.session_core.specs.declared.tickets.OpenTicket.{OpenTicket}
 use Rattle.session_core.specs.Answers.{settled}
 use Rattle.session_core.specs.Arriving.{with_ticket}
 use Rattle.session_core.specs.Copy.{id_of, is_extra, with_id}
 use Rattle.session_core.specs.Kept.{answer_at, kept_answer}
-use Rattle.session_core.specs.Machine.{advanced, arrive, arrived_at, arrived_in_time, body_cost, bytes_for, is_full, placed, refused, replied, reopened, replace as machine_replace, with_cost}
+use Rattle.session_core.specs.Machine.{advanced, arrive, arrived_at, arrived_in_time, body_cost, bytes_for, full_with, is_full, placed, plain_cost, refused, replied, reopened, replace as machine_replace, tick, with_cost}
 use Rattle.session_core.specs.StandsFor.{Alike, Holds, IsLater}
 use Rattle.session_core.specs.State.{PlainSession, Issued, Waits, answers, answered_of, first_of, is_over, last_of, standing_at}
 use Rattle.session_core.specs.Tickets.{Book, answer_of, given, replace, taken_back, ticket_at, without}
 use Rattle.session_core.specs.TicketsOut.{AreOut, issued_at, out_of}
-use Rattle.session_core.specs.Time.{time_applied}
+use Rattle.session_core.specs.Time.{is_due, time_applied}
 use Rattle.session_core.specs.Window.{place_of}
 use Rattle.session_core.proofs.AnsweredLemmas.{none_answered, some_same}
 use Rattle.session_core.proofs.AreOut.{at_without_other, at_without_same, given_out, issued_past, issued_push_last, issued_push_other, replaced_out}
@@ -215,3 +217,27 @@ arrive_full plain request body now live full = room_if (is_over plain) _ _ live 
 pub arrive_room : (plain : PlainSession) (request : Request) (body : List ℕ) (now : ℕ) → is_over plain ≡ false → is_full plain (body_cost request body) ≡ false
     → arrive plain request body now ≡ arrived_in_time (with_cost (body_cost request body) (time_applied plain now)) request body
 arrive_room plain request body now live room = room_if (is_over plain) _ _ live ∙ room_if (is_full plain (body_cost request body)) _ _ room
+
+abbrev pub changed : PlainSession → PlainSession × Ticked
+changed s = (s, Changed)
+
+both_changed : (b : Bool) (full timed : PlainSession) → (if b then changed full else changed timed) ≡ changed (if b then full else timed)
+both_changed true full timed = refl
+both_changed false full timed = refl
+
+not_due : (b : Bool) (x y : PlainSession × Ticked) → b ≡ true → (if not b then x else y) ≡ y
+not_due true x y is = refl
+not_due false x y is = absurd (cc)
+
+-- time does what is due, or the journal has no room for it
+pub tick_due : (plain : PlainSession) (now : ℕ) → is_due plain now ≡ true
+    → tick plain now ≡ changed (if is_full plain plain_cost then full_with plain_cost plain else with_cost plain_cost (time_applied plain now))
+tick_due plain now due =
+    not_due (is_due plain now) _ _ due ∙ both_changed (is_full plain plain_cost) (full_with plain_cost plain) (with_cost plain_cost (time_applied plain now))
+
+live_if : (over b : Bool) → (not over && b) ≡ true → over ≡ false
+live_if true b is = absurd (cc)
+live_if false b is = refl
+
+pub due_live : (plain : PlainSession) (now : ℕ) → is_due plain now ≡ true → is_over plain ≡ false
+due_live plain now due = live_if (is_over plain) _ due

@@ -26,8 +26,8 @@ pub mod ProcessLemmas
 pub mod CopiedLemmas
 pub mod CollectedLemmas
 pub mod ModestLemmas
-pub mod CountedLemmas
 pub mod ArrivedLemmas
 pub mod LowestLemmas
 pub mod ServedLemmas
+pub mod CountedLemmas
 pub mod OpenedLemmas

@@ -108,3 +108,16 @@ wants_is {s = s} {plain = plain} h =
     let due : s.acks.due ≡ plain.reporting.due = ap (λ (a : Alike). a.reporting.due) h.alike in
     (λ i. wants (terms_is h i) (over_is h i) (h.items.outbox_is i) (h.run.held_is i) (moment_is h i) (due i))
     ∙ reason_for plain (held plain) refl
+
+-- at another moment
+pub moved : {s : Session} {plain : PlainSession} (moment : ℕ) → Holds s plain → Holds (record s { moment = moment }) (record plain { now = moment })
+moved moment h = record {
+  alike = ap (λ (a : Alike). record a { now = moment }) h.alike;
+  run = h.run;
+  latest = h.latest;
+  kept = h.kept;
+  inward = h.inward;
+  items = h.items;
+  tickets = h.tickets;
+  window = h.window;
+}

@@ -1,6 +1,5 @@
 // A copy of a request arrives.
-ghost use Rattle.std.specs.Prelude.{◌≡◌, ◌+◌, ◌<◌, ◌≤◌, ℕ, IfOk, OnErr, false, length, nat_lt};
-ghost use Rattle.bosh_types.specs.Limits.{journal_bytes};
+ghost use Rattle.std.specs.Prelude.{◌≡◌, ◌+◌, ◌<◌, ℕ, IfOk, OnErr, false, length};
 ghost use Rattle.session_core.specs.Arriving.{IsModest, IsPlacedIn, with_ticket};
 ghost use Rattle.session_core.specs.Journal.{Arrive, IsAllowed};
 ghost use Rattle.session_core.specs.Kept.{kept_of, lowest_kept};
@@ -19,7 +18,6 @@ use crate::copy::{RequestCopy, SharedCopy, copied_request};
 use crate::replies::Arrived;
 use crate::session::Session;
 use crate::words::LastWord;
-use bosh_types::limits::JOURNAL_BYTES;
 use bosh_types::{Condition, Ending, Moment, Rid, Text, Ticket};
 use rid_window::Placed;
 use session_attrs::Request;
@@ -66,7 +64,7 @@ impl Session {
             → IfOk result (λ reply. Does self.new reply (arrive plain request.now body.now now)) }
     {
         let cost = cost_of_body(request, body);
-        if passes_limit(self.counted, cost) {
+        if self.is_full(cost) {
             return self.refuse(
                 alloc,
                 Condition::UndefinedCondition,
@@ -76,9 +74,7 @@ impl Session {
                 },
             );
         }
-        let counted = self.counted + cost;
-        self.apply_time(alloc, now)?;
-        self.counted = counted;
+        self.enter(alloc, cost, now)?;
         self.arrive_in_time(alloc, request, body)
     }
 
@@ -234,15 +230,7 @@ impl Session {
 // What an arriving body adds to the counted bytes of the journal.
 pub(crate) fn cost_of_body(request: &Request, body: &[u8]) -> u64
     requires { IsModest request.now body.now }
-    ensures cost { result ≡ body_cost request.now body.now }
-    ensures small { result ≤ 2000000 }
+    ensures { result ≡ body_cost request.now body.now }
 {
     128 + body.len() as u64 + 64 * request.stanzas.len() as u64
-}
-
-// The journal has no room for so much more.
-pub(crate) fn passes_limit(counted: u64, cost: u64) -> bool
-    ensures { result ≡ nat_lt journal_bytes (counted + cost) }
-{
-    counted.saturating_add(cost) > JOURNAL_BYTES
 }

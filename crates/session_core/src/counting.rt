@@ -6,10 +6,13 @@ ghost use Rattle.session_core.specs.StandsFor.{StandsFor};
 ghost use Rattle.session_core.specs.State.{PlainSession, is_over};
 ghost use Rattle.session_core.specs.Time.{time_applied};
 
-use crate::arriving::passes_limit;
 use crate::session::Session;
+use bosh_types::limits::JOURNAL_BYTES;
 use bosh_types::{Ending, Moment};
 use std::alloc::{AllocError, Global};
+
+/// What a closing, and the passing of time, add to the counted bytes of the journal.
+pub(crate) const PLAIN_COST: u64 = 64;
 
 impl Session {
     /// Whether the journal has no room for an entry of this cost.
@@ -54,4 +57,11 @@ fn sum_of(counted: u64, cost: u64) -> u64
     ensures { nat_lt journal_bytes (counted + cost) ≡ false → result ≡ counted + cost }
 {
     counted.saturating_add(cost)
+}
+
+// Whether this cost leads beyond the limit.
+fn passes_limit(counted: u64, cost: u64) -> bool
+    ensures { result ≡ nat_lt journal_bytes (counted + cost) }
+{
+    counted.saturating_add(cost) > JOURNAL_BYTES
 }

@@ -24,6 +24,7 @@ mod rules;
 mod search;
 mod serving;
 mod session;
+mod ticking;
 mod tickets;
 mod timing;
 mod words;

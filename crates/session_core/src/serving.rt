@@ -6,13 +6,11 @@ ghost use Rattle.session_core.specs.StandsFor.{StandsFor};
 ghost use Rattle.session_core.specs.State.{PlainSession, is_over};
 ghost use Rattle.session_core.specs.Steps.{Does};
 
+use crate::counting::PLAIN_COST;
 use crate::replies::Taken;
 use crate::session::Session;
 use bosh_types::{Closing, Moment, SharedText, StreamNo, Text};
 use std::alloc::{AllocError, Global};
-
-// What a closing adds to the counted bytes of the journal.
-const PLAIN_COST: u64 = 64;
 
 impl Session {
     /// The server gives a stanza for the client. First time is applied. `Done` where the stanza waits from then on, or was

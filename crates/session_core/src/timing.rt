@@ -2,7 +2,7 @@
 ghost use Rattle.std.specs.Prelude.{◌≡◌, OnOk, max};
 ghost use Rattle.session_core.specs.StandsFor.{StandsFor};
 ghost use Rattle.session_core.specs.State.{PlainSession};
-ghost use Rattle.session_core.specs.Time.{at_moment, is_due, is_silent, quiet_of, silenced, time_applied};
+ghost use Rattle.session_core.specs.Time.{at_moment, is_silent, quiet_of, silenced, time_applied};
 
 use crate::session::Session;
 use bosh_types::{Ending, Moment};
@@ -43,12 +43,20 @@ impl Session {
         )
     }
 
-    /// No request is held, and it has been quiet for longer than allowed.
+    // No request is held, and it has been quiet for longer than allowed.
     #[tactic(auto, unfolding(crate::specs::StandsFor::StandsFor))]
-    pub(crate) fn is_silent(&self) -> bool
+    fn is_silent(&self) -> bool
         ensures { (plain : PlainSession) → StandsFor self.now plain → result ≡ is_silent plain }
     {
-        self.held.len() == 0 && self.deadlines.silent_due(self.quiet(), self.moment)
+        self.is_silent_at(self.moment)
+    }
+
+    /// It is so at this moment, which is no earlier than the greatest so far.
+    #[tactic(auto, unfolding(crate::specs::StandsFor::StandsFor))]
+    pub(crate) fn is_silent_at(&self, moment: Moment) -> bool
+        ensures { (plain : PlainSession) → StandsFor self.now plain → result ≡ is_silent (record plain { now = moment }) }
+    {
+        self.held.len() == 0 && self.deadlines.silent_due(self.quiet(), moment)
     }
 
     // Since when it has been quiet: since the last answer, and while copies stand beyond a gap, since the last arrival.

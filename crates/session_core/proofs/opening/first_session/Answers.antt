@@ -28,7 +28,7 @@ returns c = λ sid host greeting is.
       reporting = reporting i;
       now = c.args.now;
       last_arrival = c.args.now;
-      counted = c.cost_of_body.ensures.cost i;
+      counted = c.cost_of_body.ensures i;
       ending = None;
     })
     refl refl c.new-3.ensures (λ i. record { arrived = c.args.now; empty = empty i; creation = true; bare = false }) refl

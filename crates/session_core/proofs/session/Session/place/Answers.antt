@@ -33,7 +33,7 @@ returns-in-Done c = λ plain stands live later.
       later = omega (arith, later, ap id_of is);
       ack = subst (λ (k : RequestCopy). IfSome k.request.ack (λ ack. ack < id_of k)) (sym is) c.requires.ack;
       arrived = ap (λ (k : RequestCopy). k.arrived) c.in_ok-new.ensures;
-      within = omega (arith, ap id_of is, c.value.ensures.in_range.1);
+      within = omega (arith, ap id_of is, c.value-value.ensures.in_range.1);
       free = ap (λ (n : ℕ). at_id (map with_id plain.standing) n) (ap id_of is) ∙ reached.1;
       places = λ w stood. subst (λ (n : ℕ). windows.StandsFor c.place.new.self (record w { placed = w.placed ++ (n, c.in_ok-new.field-0) ∷ [] })) (sym (ap id_of is)) (c.in-Done.ensures.after w stood);
     } in
