@@ -1,6 +1,6 @@
 -- A session that answers its oldest held request stands for the plain one that has answered it.
-use Rattle.std.proofs.Common.{◌≡◌, ◌≢◌, ℕ, zero, suc, ◌+◌, ◌-◌, ◌<◌, ◌≤◌, ◌==◌, Bool, true, false, cond, List, [], ◌∷◌, ◌++◌, map, length, drop, Option, Some, None, refl, sym, ◌∙◌, ap, ap₂, subst, arith, add-one, length-drop, length-append}
-use Rattle.std.specs.Prelude.{◌&&◌, not, slice_get, sum_by, if◌then◌else◌}
+use Rattle.std.proofs.Common.{◌≡◌, ◌≢◌, ℕ, zero, suc, ◌+◌, ◌<◌, ◌≤◌, ◌==◌, Bool, true, false, cond, List, [], ◌∷◌, ◌++◌, map, length, drop, Option, Some, None, refl, sym, ◌∙◌, ap, subst, arith, add-one, length-drop}
+use Rattle.std.specs.Prelude.{◌&&◌, not, slice_get, if◌then◌else◌}
 use Rattle.std.specs.Option.{option_map, option_or}
 use Rattle.std.proofs.lemmas.Bool.Decides.{nat_tests}
 use Rattle.std.proofs.lemmas.List.Sums.{sum_by_push}
@@ -21,9 +21,9 @@ use Rattle.session_core.specs.declared.session.Session.{Session}
 use Rattle.session_core.specs.Answers.{answer_parts, closed_by, front_for, front_of, has_reason, has_reason_for, with_answer}
 use Rattle.session_core.specs.Copy.{id_of, is_pause}
 use Rattle.session_core.specs.Endings.{ended}
-use Rattle.session_core.specs.Kept.{answer_at, kept_answer, keep_of}
+use Rattle.session_core.specs.Kept.{kept_answer, keep_of}
 use Rattle.session_core.specs.Machine.{bytes_for}
-use Rattle.session_core.specs.Outward.{Front, OfStanzas, OfClosing, items_in, stanzas_in, is_close}
+use Rattle.session_core.specs.Outward.{Front, OfStanzas, OfClosing, items_in, stanzas_in}
 use Rattle.session_core.specs.Queue.{Queue}
 use Rattle.session_core.specs.Rules.{is_bare}
 use Rattle.session_core.specs.StandsFor.{Alike, AreFrom, Holds, HoldsRun, HoldsLast, HoldsItems, held_of}

@@ -1,5 +1,5 @@
 -- What a session holds once a copy arrived.
-use Rattle.std.proofs.Common.{◌≡◌, ◌≢◌, ℕ, zero, suc, ◌+◌, ◌-◌, ◌<◌, ◌≤◌, ◌==◌, ◌&&◌, ◌||◌, ◌⊎◌, inl, inr, nat_lt, nat_le, Bool, true, false, cond, List, [], ◌∷◌, ◌++◌, map, length, Option, Some, None, All, refl, sym, ◌∙◌, ap, subst, arith, add-one}
+use Rattle.std.proofs.Common.{◌≡◌, ℕ, suc, ◌+◌, ◌-◌, ◌<◌, ◌≤◌, ◌&&◌, ◌||◌, inl, inr, nat_lt, nat_le, Bool, true, false, List, [], ◌∷◌, ◌++◌, map, length, Option, Some, None, refl, sym, ◌∙◌, ap, subst, arith, add-one}
 use Rattle.std.specs.Prelude.{is_some, not, if◌then◌else◌}
 use Rattle.std.specs.Option.{option_map}
 use Rattle.std.proofs.lemmas.Bool.{cases_eq, cases_lt}
@@ -15,23 +15,21 @@ use Rattle.rid_window.specs.StandsFor as windows
 use Rattle.rid_window.specs.declared.window.Window.{Window}
 use Rattle.session_attrs.specs.declared.request.Request.{Request}
 use Rattle.session_core.specs.declared.copy.RequestCopy.{RequestCopy}
-use Rattle.session_core.specs.declared.place.Place.{Place}
 use Rattle.session_core.specs.declared.place.Place.TheVariants as places
 use Rattle.session_core.specs.declared.replies.Arrived.{Arrived}
 use Rattle.session_core.specs.declared.replies.Arrived.TheVariants as arrivals
 use Rattle.session_core.specs.declared.replies.Ticked.{Ticked}
 use Rattle.session_core.specs.declared.replies.Ticked.TheVariants.{Changed}
 use Rattle.session_core.specs.declared.session.Session.{Session}
-use Rattle.session_core.specs.declared.tickets.OpenTicket.{OpenTicket}
 use Rattle.session_core.specs.Answers.{settled}
 use Rattle.session_core.specs.Arriving.{with_ticket}
 use Rattle.session_core.specs.Copy.{id_of, is_extra, with_id}
-use Rattle.session_core.specs.Kept.{answer_at, kept_answer}
+use Rattle.session_core.specs.Kept.{kept_answer}
 use Rattle.session_core.specs.Machine.{advanced, arrive, arrived_at, arrived_in_time, body_cost, bytes_for, full_with, is_full, placed, plain_cost, refused, replied, reopened, replace as machine_replace, tick, with_cost}
 use Rattle.session_core.specs.StandsFor.{Alike, Holds, IsLater}
 use Rattle.session_core.specs.State.{PlainSession, Issued, Waits, answers, answered_of, first_of, is_over, last_of, standing_at}
 use Rattle.session_core.specs.Tickets.{Book, answer_of, given, replace, taken_back, ticket_at, without}
-use Rattle.session_core.specs.TicketsOut.{AreOut, issued_at, out_of}
+use Rattle.session_core.specs.TicketsOut.{AreOut, out_of}
 use Rattle.session_core.specs.Time.{is_due, time_applied}
 use Rattle.session_core.specs.Window.{place_of}
 use Rattle.session_core.proofs.AnsweredLemmas.{none_answered, some_same}

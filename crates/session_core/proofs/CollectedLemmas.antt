@@ -1,17 +1,15 @@
 -- A session that hands something out stands for the plain one that did.
-use Rattle.std.proofs.Common.{◌≡◌, ℕ, zero, suc, ◌+◌, ◌<◌, ◌≤◌, List, [], ◌∷◌, length, drop, Option, Some, None, refl, sym, ◌∙◌, ap, subst, arith}
+use Rattle.std.proofs.Common.{◌≡◌, ℕ, zero, suc, List, [], ◌∷◌, length, drop, Option, Some, None, refl, sym, ◌∙◌, ap, subst, arith}
 use Rattle.std.specs.Prelude.{slice_get}
 use Rattle.std.proofs.lemmas.Option.{slice_get_within}
-use Rattle.bosh_types.specs.declared.ending.Ending.{Ending}
 use Rattle.bosh_types.specs.declared.inward.Inward.{Inward}
 use Rattle.session_core.specs.declared.outward.Outward.{Outward}
-use Rattle.session_core.specs.declared.replies.Collected.{Collected}
 use Rattle.session_core.specs.declared.replies.Waiting.{Waiting}
 use Rattle.session_core.specs.declared.session.Session.{Session}
 use Rattle.session_core.specs.Machine.{collect, collected_by, collected_bytes, collected_from, bytes_for, passed_on, take_inward}
 use Rattle.session_core.specs.Outward.{size_of_all}
-use Rattle.session_core.specs.StandsFor.{Holds, HoldsInward}
-use Rattle.session_core.specs.State.{PlainSession, Issued, TicketState, Waits, Replaced, UsedUp, inward, items_of_all, waiting_counts}
+use Rattle.session_core.specs.StandsFor.{Holds}
+use Rattle.session_core.specs.State.{PlainSession, Issued, TicketState, Waits, Replaced, UsedUp, inward, waiting_counts}
 use Rattle.session_core.specs.Tickets.{Book, collected, ticket_at, told_of}
 use Rattle.session_core.specs.TicketsOut.{AreOut}
 use Rattle.session_core.proofs.AnsweredLemmas.{drop_drop}

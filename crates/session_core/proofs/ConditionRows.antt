@@ -1,10 +1,7 @@
 -- The conditions of a session's calls can be met by bodies as clients send them, and leave out what they are to leave out.
-use Rattle.std.proofs.Common.{◌≡◌, ◌∙◌, refl, sym, ap, subst, arith}
-use Rattle.std.specs.Prelude.{⊤, true, is_some, List, [], ◌∷◌, Option, Some, None, Result, Ok, codes}
-use Rattle.std.specs.Result.{result_ok}
+use Rattle.std.proofs.Common.{◌≡◌, refl, arith}
+use Rattle.std.specs.Prelude.{⊤, [], ◌∷◌, None, codes}
 use Rattle.std.proofs.lemmas.Str.{IsUtf8-from_is_utf8}
-use Rattle.body_cutter.specs.declared.parts.Cut.{Cut}
-use Rattle.body_cutter.specs.Cutting.{body_cut_of}
 use Rattle.body_cutter.proofs.Rows.{cuts_compute}
 use Rattle.session_attrs.specs.declared.request.Creation.{Creation}
 use Rattle.session_attrs.specs.declared.request.Kind.{Kind}
@@ -17,7 +14,7 @@ use Rattle.session_attrs.specs.Reading.{rid_in, creation_in, asked_in, request_w
 use Rattle.session_attrs.specs.Terms.{terms_of}
 use Rattle.session_attrs.specs.Values.{Values, values_of}
 use Rattle.session_attrs.proofs.MeaningLemmas.{reads_means}
-use Rattle.session_core.specs.Journal.{Arrive, Back, IsAllowed, IsOpening, IsReadFrom}
+use Rattle.session_core.specs.Journal.{Arrive, Back, IsAllowed, IsOpening}
 use Rattle.session_core.specs.Machine.{Opening}
 use Rattle.session_core.proofs.RowTools.{usual, creating, empty}
 

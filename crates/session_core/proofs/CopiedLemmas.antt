@@ -1,5 +1,5 @@
 -- A copy of a session stands for the plain ones that the session stands for.
-use Rattle.std.proofs.Common.{◌≡◌, ℕ, List, Option, refl, ap}
+use Rattle.std.proofs.Common.{◌≡◌, ℕ, List, Option}
 use Rattle.bosh_types.specs.declared.inward.Inward.{Inward}
 use Rattle.reply_keep.specs.declared.keep.Keep.{Keep}
 use Rattle.reply_keep.specs.PlainKeep.{PlainKeep}

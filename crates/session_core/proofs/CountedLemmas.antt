@@ -1,13 +1,11 @@
 -- Time and answers leave the counted bytes as they are.
-use Rattle.std.proofs.Common.{◌≡◌, ℕ, zero, suc, ◌+◌, ◌&&◌, Bool, true, false, not, nat_lt, List, [], ◌∷◌, length, refl, sym, ◌∙◌, ap}
+use Rattle.std.proofs.Common.{◌≡◌, ℕ, zero, suc, ◌+◌, Bool, true, false, nat_lt, List, [], ◌∷◌, length, refl, ◌∙◌, ap}
 use Rattle.std.specs.Prelude.{if◌then◌else◌}
 use Rattle.bosh_types.specs.Limits.{journal_bytes}
-use Rattle.bosh_types.specs.declared.ending.Ending.{Ending}
 use Rattle.session_core.specs.declared.copy.RequestCopy.{RequestCopy}
 use Rattle.session_core.specs.declared.session.Session.{Session}
 use Rattle.session_core.specs.Answers.{has_reason, closed_by, with_answer, front_for, answer_oldest, settled_in, settled}
 use Rattle.session_core.specs.Copy.{id_of}
-use Rattle.session_core.specs.Endings.{ended}
 use Rattle.session_core.specs.Machine.{is_full, with_cost}
 use Rattle.session_core.specs.Outward.{Front, OfStanzas, OfClosing}
 use Rattle.session_core.specs.StandsFor.{Alike, Holds}

@@ -1,9 +1,8 @@
 -- A session that ends stands for the plain one that has ended.
-use Rattle.std.proofs.Common.{◌≡◌, ℕ, ◌==◌, Bool, true, false, cond, List, ◌∷◌, map, Option, Some, None, refl, sym, ◌∙◌, ap, subst}
+use Rattle.std.proofs.Common.{◌≡◌, ℕ, ◌==◌, Bool, true, false, cond, map, Option, Some, None, refl, sym, ◌∙◌, ap}
 use Rattle.std.specs.Prelude.{is_some, if◌then◌else◌}
 use Rattle.std.specs.Option.{option_map, option_or}
 use Rattle.bosh_types.specs.declared.ending.Ending.{Ending}
-use Rattle.bosh_types.specs.declared.kept.KeptAnswer.{KeptAnswer}
 use Rattle.body_writer.specs.declared.answer.AnswerParts.{AnswerParts}
 use Rattle.body_writer.specs.Answer.{answer_text}
 use Rattle.session_core.specs.declared.session.Session.{Session}

@@ -1,7 +1,7 @@
 -- What one answer takes of the items that wait.
-use Rattle.std.proofs.Common.{◌≡◌, ℕ, zero, suc, ◌+◌, ◌-◌, ◌<◌, ◌≤◌, Bool, true, false, not, ◌&&◌, ◌||◌, cond, inl, inr, min, List, [], ◌∷◌, Option, Some, None, length, take, drop, get_or, refl, sym, ◌∙◌, ap, subst, arith, length-drop, length-take}
+use Rattle.std.proofs.Common.{◌≡◌, ℕ, zero, suc, ◌+◌, ◌-◌, ◌<◌, ◌≤◌, Bool, true, false, ◌||◌, cond, inl, inr, min, List, [], ◌∷◌, Some, None, length, take, drop, get_or, refl, sym, ◌∙◌, ap, subst, arith, length-drop, length-take}
 use Rattle.std.specs.Prelude.{Result, Ok, Err, IfOk}
-use Rattle.std.specs.List.{list_any, sum_by}
+use Rattle.std.specs.List.{list_any}
 use Rattle.std.proofs.lemmas.Bool.{cases_lt}
 use Rattle.std.proofs.lemmas.Bool.Decides.{nat_tests}
 use Rattle.std.proofs.lemmas.List.{take-take}
@@ -12,7 +12,7 @@ use Rattle.bosh_types.specs.declared.ending.Closing.{Closing}
 use Rattle.session_core.specs.declared.outward.Outward.{Outward}
 use Rattle.session_core.specs.declared.outward.Outward.TheVariants.{Stanza, Close}
 use Rattle.session_core.specs.Answers.{fit_one_answer, front_of, longest_front}
-use Rattle.session_core.specs.Outward.{Front, OfStanzas, OfClosing, is_close, items_in, size_of, size_of_all, stanzas_in}
+use Rattle.session_core.specs.Outward.{Front, OfStanzas, is_close, items_in, size_of, size_of_all, stanzas_in}
 use Rattle.session_core.specs.Queue.{IsCounted, first_closing}
 
 pub first_closing_is : (items : List Outward) (stream : ℕ) (closing : Closing) → first_closing items ≡ Some (stream, closing) → items ≡ Close stream closing ∷ drop 1 items

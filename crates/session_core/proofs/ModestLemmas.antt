@@ -1,18 +1,17 @@
 -- A request that may arrive is within the limits of its body.
-use Rattle.std.proofs.Common.{◌≡◌, ℕ, ◌<◌, ◌≤◌, nat_lt, Bool, true, false, List, inl, inr, Option, Some, None, length, refl, sym, ◌∙◌, ap, subst, arith}
-use Rattle.std.specs.Prelude.{◌⊎◌, IfSome, if◌then◌else◌}
+use Rattle.std.proofs.Common.{◌≡◌, ℕ, ◌<◌, nat_lt, Bool, true, false, List, inl, inr, Option, Some, None, length, sym, ◌∙◌, ap, arith}
+use Rattle.std.specs.Prelude.{IfSome, if◌then◌else◌}
 use Rattle.std.specs.Option.{option_map}
 use Rattle.std.proofs.lemmas.Bool.{cases_lt}
 use Rattle.std.proofs.lemmas.Bool.Decides.{nat_tests}
 use Rattle.bosh_types.specs.Rid.{rid_of}
 use Rattle.body_cutter.specs.declared.parts.Cut.{Cut}
-use Rattle.body_cutter.specs.declared.parts.Span.{Span}
 use Rattle.body_cutter.proofs.Cuts.{body_cut}
 use Rattle.session_attrs.specs.declared.request.Kind.{Kind}
 use Rattle.session_attrs.specs.declared.request.Kind.TheVariants as kinds
 use Rattle.session_attrs.specs.declared.request.Request.{Request}
 use Rattle.session_attrs.specs.Forms.{ack_of, below}
-use Rattle.session_attrs.specs.Meaning.{Means, MeansKind}
+use Rattle.session_attrs.specs.Meaning.{MeansKind}
 use Rattle.session_attrs.specs.Rows.{Says, told}
 use Rattle.session_attrs.specs.Values.{Values, values_of}
 use Rattle.session_attrs.proofs.MeaningLemmas.{reads_means}

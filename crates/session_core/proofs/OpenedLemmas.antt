@@ -1,12 +1,9 @@
 -- A session that was opened stands for the plain one.
-use Rattle.std.proofs.Common.{◌≡◌, ℕ, zero, suc, ◌+◌, ◌<◌, ◌≤◌, ◌==◌, ◌||◌, Bool, true, false, cond, List, [], ◌∷◌, ◌++◌, map, length, drop, min, Option, Some, None, refl, sym, ◌∙◌, ap, subst, arith}
+use Rattle.std.proofs.Common.{◌≡◌, ℕ, zero, suc, ◌+◌, ◌≤◌, ◌==◌, Bool, true, false, cond, List, [], ◌∷◌, ◌++◌, map, length, drop, min, Option, Some, None, refl, sym, ◌∙◌, ap, subst, arith}
 use Rattle.std.specs.Prelude.{if◌then◌else◌}
 use Rattle.std.specs.List.{list_any}
-use Rattle.std.specs.Option.{unwrap_or}
 use Rattle.std.proofs.lemmas.Bool.Decides.{nat_tests}
 use Rattle.std.proofs.lemmas.List.Elements.{All-nil}
-use Rattle.bosh_types.specs.ById.{at_id}
-use Rattle.bosh_types.specs.Limits.{longest_body, most_children}
 use Rattle.bosh_types.specs.declared.terms.Terms.{Terms}
 use Rattle.body_cutter.specs.declared.parts.Cut.{Cut}
 use Rattle.body_cutter.proofs.Cuts.{body_cut}
@@ -25,8 +22,7 @@ use Rattle.session_attrs.specs.Terms.{asked_hold, hold_of, is_polling, terms_of}
 use Rattle.session_attrs.specs.Values.{Values, values_of}
 use Rattle.session_attrs.proofs.MeaningLemmas.{reads_means}
 use Rattle.session_core.specs.declared.copy.RequestCopy.{RequestCopy}
-use Rattle.session_core.specs.declared.outward.Outward.{Outward}
-use Rattle.session_core.specs.declared.outward.Outward.TheVariants.{Stanza, Close}
+use Rattle.session_core.specs.declared.outward.Outward.TheVariants.{Stanza}
 use Rattle.session_core.specs.declared.session.Session.{Session}
 use Rattle.session_core.specs.Arriving.{IsModest}
 use Rattle.session_core.specs.Copy.{id_of, is_empty, items_of, unnamed, with_id}
@@ -36,8 +32,6 @@ use Rattle.session_core.specs.Machine.{Opening, bytes_for, creation_of, first_an
 use Rattle.session_core.specs.Outward.{is_close, stanzas_in}
 use Rattle.session_core.specs.Queue.{Queue}
 use Rattle.session_core.specs.StandsFor.{Holds, IsLater, alike_of, alike_in}
-use Rattle.session_core.specs.State.{items_of_all}
-use Rattle.session_core.specs.Tickets.{Book}
 use Rattle.session_core.proofs.AreOut.{none_out}
 
 -- The terms of a creation.

@@ -1,5 +1,5 @@
 -- A copy is processed, or ends the session.
-use Rattle.std.proofs.Common.{◌≡◌, ℕ, ◌+◌, ◌<◌, ◌≤◌, ◌==◌, ◌&&◌, nat_lt, Bool, true, false, Option, Some, None, length, map, refl, sym, ◌∙◌, ap, subst, arith}
+use Rattle.std.proofs.Common.{◌≡◌, ℕ, ◌+◌, ◌<◌, ◌==◌, ◌&&◌, nat_lt, Bool, true, false, Option, Some, None, map, refl, ◌∙◌, ap, subst, arith}
 use Rattle.std.specs.Prelude.{is_some, if◌then◌else◌}
 use Rattle.bosh_types.specs.ById.{at_id}
 use Rattle.bosh_types.specs.Rid.{greatest_rid}
@@ -14,7 +14,7 @@ use Rattle.session_core.specs.Endings.{ended}
 use Rattle.session_core.specs.Machine.{next_copy, process, unless_terminate, with_copy}
 use Rattle.session_core.specs.Rules.{Asks, Keys, Streams, Pauses, Activity, breaks, broken_rule, asked_of, mark_of, pause_breaks}
 use Rattle.session_core.specs.StandsFor.{Alike, Holds, asks_of}
-use Rattle.session_core.specs.State.{PlainSession, answered_of, last_of}
+use Rattle.session_core.specs.State.{PlainSession, answered_of}
 use Rattle.session_core.specs.Words.{IsAnswerable}
 use Rattle.session_core.proofs.StandingLemmas.{held_length}
 use Rattle.session_core.proofs.TakenUp.{next_stands, some_below}

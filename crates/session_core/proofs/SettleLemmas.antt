@@ -7,7 +7,7 @@ use Rattle.session_core.specs.declared.session.Session.{Session}
 use Rattle.session_core.specs.Answers.{has_reason, answer_oldest, settled_in, settled}
 use Rattle.session_core.specs.Machine.{advanced, advanced_in, next_copy, process}
 use Rattle.session_core.specs.StandsFor.{Holds}
-use Rattle.session_core.specs.State.{PlainSession, held, last_of}
+use Rattle.session_core.specs.State.{PlainSession, held}
 use Rattle.session_core.proofs.StandingLemmas.{held_length}
 
 -- without a reason nothing is answered

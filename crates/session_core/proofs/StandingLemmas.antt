@@ -1,11 +1,9 @@
 -- What a session tells of the plain one that it stands for.
-use Rattle.std.proofs.Common.{◌≡◌, ℕ, zero, suc, ◌+◌, ◌<◌, ◌≤◌, ◌==◌, ◌&&◌, ◌||◌, Bool, true, false, not, cond, nat_lt, List, [], ◌∷◌, map, length, drop, max, Option, Some, None, refl, sym, ◌∙◌, ap, ap₂, arith}
-use Rattle.std.specs.Prelude.{◌↔◌, is_some, slice_get, IsTrue, if◌then◌else◌}
+use Rattle.std.proofs.Common.{◌≡◌, ℕ, suc, ◌+◌, ◌==◌, ◌&&◌, ◌||◌, Bool, true, false, not, nat_lt, List, [], ◌∷◌, map, length, max, Option, None, refl, sym, ◌∙◌, ap, arith}
+use Rattle.std.specs.Prelude.{◌↔◌, is_some, IsTrue, if◌then◌else◌}
 use Rattle.std.specs.List.{list_any}
 use Rattle.bosh_types.specs.ById.{at_id}
-use Rattle.bosh_types.specs.declared.ending.Ending.{Ending}
-use Rattle.bosh_types.specs.declared.terms.Terms.{Terms}
-use Rattle.pause_rules.specs.Due.{is_wait_due, is_silent_due}
+use Rattle.pause_rules.specs.Due.{is_wait_due}
 use Rattle.rid_window.specs.PlainWindow.{item_at, id_after, IsClear}
 use Rattle.session_core.specs.declared.copy.RequestCopy.{RequestCopy}
 use Rattle.session_core.specs.declared.held.HeldRequest.{HeldRequest}
@@ -13,11 +11,10 @@ use Rattle.session_core.specs.declared.session.Session.{Session}
 use Rattle.session_core.specs.Answers.{has_reason, has_reason_for}
 use Rattle.session_core.specs.Copy.{with_id, is_pause}
 use Rattle.session_core.specs.Machine.{next_copy}
-use Rattle.session_core.specs.Rules.{Asks, asked_of}
-use Rattle.session_core.specs.StandsFor.{Alike, Holds, alike_of, alike_in, asks_of, held_of}
-use Rattle.session_core.specs.State.{PlainSession, held, last_of, is_over, waiting, beyond, last_answer}
+use Rattle.session_core.specs.StandsFor.{Alike, Holds, held_of}
+use Rattle.session_core.specs.State.{PlainSession, held, last_of, is_over, waiting}
 use Rattle.session_core.specs.Steps.{wants, wants_answer}
-use Rattle.session_core.specs.Time.{is_silent, quiet_of}
+use Rattle.session_core.specs.Time.{quiet_of}
 use Rattle.session_core.proofs.WindowLemmas.{above, clear_is, next_at}
 
 module _ {s : Session} {plain : PlainSession} where

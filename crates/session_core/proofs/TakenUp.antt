@@ -1,12 +1,11 @@
 -- A session that takes up the next copy stands for the plain one that has processed it.
-use Rattle.std.proofs.Common.{◌≡◌, ◌≢◌, ℕ, ◌+◌, ◌<◌, ◌≤◌, ◌==◌, ◌⊎◌, inl, inr, Bool, true, false, cond, List, [], ◌∷◌, ◌++◌, map, length, Option, Some, None, All, refl, sym, ◌∙◌, ap, subst, arith}
-use Rattle.std.specs.Prelude.{is_some, IfSome, if◌then◌else◌}
+use Rattle.std.proofs.Common.{◌≡◌, ℕ, ◌+◌, ◌<◌, ◌≤◌, ◌==◌, inl, inr, Bool, true, false, cond, List, [], ◌∷◌, ◌++◌, map, Option, Some, None, All, refl, sym, ◌∙◌, ap, subst, arith}
+use Rattle.std.specs.Prelude.{IfSome, if◌then◌else◌}
 use Rattle.std.proofs.lemmas.Bool.{cases_lt}
 use Rattle.std.proofs.lemmas.Bool.Decides.{nat_tests}
 use Rattle.std.proofs.lemmas.List.Elements.{All-head, All-tail}
 use Rattle.bosh_types.specs.ById.{at_id}
 use Rattle.bosh_types.specs.Rid.{greatest_rid}
-use Rattle.bosh_types.specs.declared.ending.Ending.{Ending}
 use Rattle.bosh_types.specs.declared.inward.Inward.{Inward}
 use Rattle.ack_report.specs.Report.{after_request, keep_after}
 use Rattle.ack_report.specs.Reporting.{Reporting}
@@ -21,12 +20,12 @@ use Rattle.rid_window.specs.StandsFor as windows
 use Rattle.session_core.specs.declared.held.HeldRequest.{HeldRequest}
 use Rattle.session_core.specs.declared.copy.RequestCopy.{RequestCopy}
 use Rattle.session_core.specs.declared.session.Session.{Session}
-use Rattle.session_core.specs.Copy.{id_of, with_id, items_of, is_pause}
+use Rattle.session_core.specs.Copy.{id_of, with_id, items_of}
 use Rattle.session_core.specs.Kept.{keep_of}
 use Rattle.session_core.specs.Machine.{next_copy, with_copy}
 use Rattle.session_core.specs.Rules.{mark_of}
-use Rattle.session_core.specs.StandsFor.{Alike, Holds, HoldsKept, HoldsWindow, IsLater, alike_of, alike_in, held_of}
-use Rattle.session_core.specs.State.{PlainSession, last_of, answered_of, first_of, standing_at, is_over}
+use Rattle.session_core.specs.StandsFor.{Alike, Holds, IsLater, alike_of, held_of}
+use Rattle.session_core.specs.State.{PlainSession, last_of, answered_of, standing_at, is_over}
 use Rattle.session_core.specs.Steps.{period_of}
 use Rattle.session_core.proofs.RunningLemmas.{run-push, latest-push, inward-push}
 use Rattle.session_core.proofs.WindowLemmas.{after_some, later_at, none_beyond}

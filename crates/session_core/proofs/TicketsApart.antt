@@ -1,10 +1,10 @@
 -- Processing, answering and ending a session neither ask for its tickets nor change them.
-use Rattle.std.proofs.Common.{◌≡◌, ℕ, zero, suc, ◌-◌, Bool, true, false, List, [], ◌∷◌, Option, Some, None, length, refl, sym, ◌∙◌, ap}
+use Rattle.std.proofs.Common.{◌≡◌, ℕ, zero, suc, ◌-◌, Bool, true, false, List, [], ◌∷◌, Option, Some, None, length, refl, ◌∙◌, ap}
 use Rattle.std.specs.Prelude.{if◌then◌else◌}
 use Rattle.bosh_types.specs.Rid.{greatest_rid}
 use Rattle.bosh_types.specs.declared.ending.Ending.{Ending}
 use Rattle.session_core.specs.declared.copy.RequestCopy.{RequestCopy}
-use Rattle.session_core.specs.Answers.{has_reason, has_reason_for, closed_by, with_answer, front_for, answer_to, answer_oldest, settled_in, settled}
+use Rattle.session_core.specs.Answers.{has_reason, has_reason_for, closed_by, with_answer, front_for, answer_oldest, settled_in, settled}
 use Rattle.session_core.specs.Copy.{id_of}
 use Rattle.session_core.specs.Endings.{ended}
 use Rattle.session_core.specs.Machine.{unless_terminate, with_copy, process, next_copy, advanced_in, advanced}

@@ -8,7 +8,6 @@ pub mod Endings
 pub mod Facts
 pub mod Journal
 pub mod Kept
-pub mod Laws
 pub mod Machine
 pub mod Opened
 pub mod Outward

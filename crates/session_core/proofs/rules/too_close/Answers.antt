@@ -1,4 +1,4 @@
-use Rattle.std.proofs.Common.{subst, Bool, arith}
+use Rattle.std.proofs.Common.{subst, Bool}
 use Rattle.std.specs.Prelude.{IsTrue}
 use Rattle.std.specs.Option.{SomeIff}
 use Rattle.pause_rules.specs.Overactive.{apart}

@@ -1,4 +1,4 @@
-use Rattle.std.proofs.Common.{◌≡◌, ◌∙◌, sym, subst}
+use Rattle.std.proofs.Common.{sym, subst}
 use Rattle.session_core.specs.Machine.{with_copy}
 use Rattle.session_core.specs.StandsFor.{StandsFor}
 use Rattle.session_core.specs.State.{PlainSession}

@@ -1,4 +1,4 @@
-use Rattle.std.proofs.Common.{◌≡◌, ◌∙◌, ◌-◌, ℕ, Bool, true, false, sym, ap, subst, arith}
+use Rattle.std.proofs.Common.{◌∙◌, ◌-◌, ℕ, Bool, sym, ap, subst, arith}
 use Rattle.bosh_types.specs.Rid.{greatest_rid}
 use Rattle.session_core.specs.Machine.{advanced_in, process}
 use Rattle.session_core.specs.StandsFor.{StandsFor}

@@ -1,4 +1,4 @@
-use Rattle.std.proofs.Common.{◌≡◌, ◌-◌, ◌≤◌}
+use Rattle.std.proofs.Common.{◌≡◌, ◌-◌}
 use Rattle.bosh_types.specs.Rid.{greatest_rid}
 use Rattle.session_core.specs.Machine.{advanced, advanced_in}
 use Rattle.session_core.specs.StandsFor.{StandsFor}

@@ -1,9 +1,7 @@
-use Rattle.std.proofs.Common.{◌≡◌, ◌∙◌, ◌==◌, ℕ, Bool, List, map, sym, ap, drop, length, subst}
+use Rattle.std.proofs.Common.{◌≡◌, ◌∙◌, ap}
 use Rattle.session_core.specs.declared.held.HeldRequest.{HeldRequest}
 use Rattle.session_core.specs.Answers.{front_for}
-use Rattle.session_core.specs.Copy.{id_of}
-use Rattle.session_core.specs.Outward.{Front, items_in, stanzas_in}
-use Rattle.session_core.specs.StandsFor.{StandsFor, Holds}
+use Rattle.session_core.specs.StandsFor.{StandsFor}
 use Rattle.session_core.specs.Steps.{closing_in, front_by}
 use Rattle.session_core.proofs.AnsweredLemmas.{answered_by}
 use Rattle.session_core.proofs.session.Session.answer.Goals as goal

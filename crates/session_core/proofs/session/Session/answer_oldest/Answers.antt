@@ -1,6 +1,5 @@
-use Rattle.std.proofs.Common.{◌≡◌, ◌∙◌, ◌∷◌, List, Option, Some, None, sym, ap, subst}
+use Rattle.std.proofs.Common.{◌≡◌, ◌∙◌, Some, None, sym, ap, subst}
 use Rattle.std.specs.Result.{OnOk}
-use Rattle.session_core.specs.declared.copy.RequestCopy.{RequestCopy}
 use Rattle.session_core.specs.declared.held.HeldRequest.{HeldRequest}
 use Rattle.session_core.specs.Answers.{answer_oldest, front_for, with_answer}
 use Rattle.bosh_types.specs.declared.ending.Ending.TheVariants.{Closed}

@@ -2,7 +2,6 @@ use Rattle.std.proofs.Common.{◌≡◌, ◌∙◌, ℕ, false, sym, ap, subst}
 use Rattle.std.specs.Prelude.{IfOk}
 use Rattle.session_core.specs.declared.replies.Arrived.{Arrived}
 use Rattle.session_core.specs.Machine.{arrived_in_time, body_cost, is_full, with_cost}
-use Rattle.session_core.specs.StandsFor.{StandsFor}
 use Rattle.session_core.specs.State.{PlainSession}
 use Rattle.session_core.specs.Steps.{Does}
 use Rattle.session_core.specs.Time.{time_applied}

@@ -1,7 +1,7 @@
-use Rattle.std.proofs.Common.{◌≡◌, ◌∙◌, ◌++◌, ◌∷◌, [], sym, ap, refl}
+use Rattle.std.proofs.Common.{◌≡◌, ◌∙◌, ◌++◌, ◌∷◌, [], sym, refl}
 use Rattle.session_core.specs.declared.outward.Outward.TheVariants.{Stanza}
 use Rattle.session_core.specs.StandsFor.{StandsFor}
-use Rattle.session_core.proofs.ServedLemmas.{back_over, back_full, back_done, does_same, room_is, stanza_given, takes_is}
+use Rattle.session_core.proofs.ServedLemmas.{back_over, back_full, back_done, does_same, room_is, stanza_given}
 use Rattle.session_core.proofs.session.Session.back_in_time.Goals as goal
 
 pub returns-then-not-takes_items : goal.returns-then-not-takes_items

@@ -1,8 +1,8 @@
-use Rattle.std.proofs.Common.{◌≡◌, ◌∙◌, ◌+◌, ◌<◌, ◌≤◌, ◌++◌, ◌∷◌, [], map, ℕ, Bool, refl, sym, ap, subst, arith}
+use Rattle.std.proofs.Common.{◌≡◌, ◌∙◌, ◌+◌, ◌<◌, ◌≤◌, ◌++◌, ◌∷◌, [], map, ℕ, Bool, sym, ap, subst, arith}
 use Rattle.std.specs.Prelude.{IfOk, IfSome}
 use Rattle.bosh_types.specs.ById.{at_id}
 use Rattle.rid_window.specs.StandsFor as windows
-use Rattle.rid_window.specs.PlainWindow.{IsWithin, id_after, reach}
+use Rattle.rid_window.specs.PlainWindow.{reach}
 use Rattle.session_core.specs.declared.copy.RequestCopy.{RequestCopy}
 use Rattle.session_core.specs.declared.replies.Arrived.{Arrived}
 use Rattle.session_core.specs.Answers.{settled}
@@ -10,7 +10,7 @@ use Rattle.session_core.specs.Arriving.{IsPlacedIn}
 use Rattle.session_core.specs.Copy.{id_of, is_extra, with_id}
 use Rattle.session_core.specs.Machine.{advanced, copy_now, placed, replied}
 use Rattle.session_core.specs.StandsFor.{StandsFor}
-use Rattle.session_core.specs.State.{PlainSession, answered_of, last_of}
+use Rattle.session_core.specs.State.{PlainSession, last_of}
 use Rattle.session_core.specs.Steps.{Does}
 use Rattle.session_core.proofs.ArrivedLemmas.{arrived_new, place_new, within_reach}
 use Rattle.session_core.proofs.StandingLemmas.{moment_is}

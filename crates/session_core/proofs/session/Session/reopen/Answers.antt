@@ -1,4 +1,4 @@
-use Rattle.std.proofs.Common.{◌≡◌, ◌∙◌, ◌+◌, ap}
+use Rattle.std.proofs.Common.{◌∙◌, ◌+◌, ap}
 use Rattle.session_core.specs.StandsFor.{StandsFor}
 use Rattle.session_core.specs.Tickets.{Book, given}
 use Rattle.session_core.proofs.ArrivedLemmas.{reopened_holds, reopened_number}

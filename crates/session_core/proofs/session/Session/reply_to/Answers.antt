@@ -1,4 +1,4 @@
-use Rattle.std.proofs.Common.{◌≡◌, ◌∙◌, ◌+◌, ℕ, suc, length, Some, None, refl, sym, ap, subst, arith}
+use Rattle.std.proofs.Common.{◌≡◌, ◌∙◌, suc, length, Some, None, refl, sym, ap, subst, arith}
 use Rattle.session_core.specs.declared.replies.Arrived.{Arrived}
 use Rattle.session_core.specs.declared.replies.Arrived.TheVariants as arrivals
 use Rattle.session_core.specs.Machine.{bytes_for}

@@ -1,4 +1,4 @@
-use Rattle.std.proofs.Common.{◌≡◌, ◌∙◌, length, sym, subst, arith}
+use Rattle.std.proofs.Common.{◌∙◌, length, sym, subst, arith}
 use Rattle.session_core.specs.Answers.{answer_oldest}
 use Rattle.session_core.specs.StandsFor.{StandsFor}
 use Rattle.session_core.specs.State.{PlainSession, held}

@@ -1,9 +1,9 @@
-use Rattle.std.proofs.Common.{◌≡◌, ◌∙◌, ◌+◌, ◌<◌, ◌++◌, ◌∷◌, [], ℕ, List, length, sym, ap, subst, arith}
+use Rattle.std.proofs.Common.{◌∙◌, ◌+◌, ◌<◌, ◌++◌, ◌∷◌, [], ℕ, length, sym, ap, subst, arith}
 use Rattle.session_core.specs.Answers.{settled}
 use Rattle.session_core.specs.Arriving.{with_ticket}
 use Rattle.session_core.specs.Machine.{advanced, bytes_for, placed}
 use Rattle.session_core.specs.StandsFor.{StandsFor, IsLater}
-use Rattle.session_core.specs.State.{PlainSession, Issued, Waits, answered_of, first_of, last_of}
+use Rattle.session_core.specs.State.{PlainSession, Waits, answered_of, first_of}
 use Rattle.session_core.proofs.ArrivedLemmas.{apart, open_words, placed_holds, retickets, tickets_stay}
 use Rattle.session_core.proofs.AreOut.{given_out}
 use Rattle.session_core.proofs.session.Session.take_in.Goals as goal

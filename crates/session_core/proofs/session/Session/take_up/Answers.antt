@@ -1,5 +1,5 @@
-use Rattle.std.proofs.Common.{◌≡◌, ◌≤◌, ◌∙◌, ℕ, ◌++◌, ◌∷◌, [], List, Bool, true, Option, refl, sym, ap, subst}
-use Rattle.std.specs.Prelude.{IfSome, IsTrue}
+use Rattle.std.proofs.Common.{◌≡◌, ◌≤◌, ◌∙◌, ◌++◌, ◌∷◌, [], Bool, true, refl, sym, ap, subst}
+use Rattle.std.specs.Prelude.{IfSome}
 use Rattle.bosh_types.specs.declared.terms.Terms.{Terms}
 use Rattle.key_sequence.specs.Current.{fits, current_after}
 use Rattle.session_core.specs.Copy.{is_pause}
