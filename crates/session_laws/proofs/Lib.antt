@@ -1,0 +1,15 @@
+pub mod Tests
+pub mod Moves
+pub mod Steps
+pub mod Read
+pub mod Steadily
+pub mod Frames
+pub mod Calls
+pub mod Counts
+pub mod Grows
+pub mod Lists
+pub mod SoundLemmas
+pub mod GivenLemmas
+pub mod Reasons
+pub mod GivenIn
+pub mod Ended
