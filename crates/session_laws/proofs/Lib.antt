@@ -13,3 +13,8 @@ pub mod GivenLemmas
 pub mod Reasons
 pub mod GivenIn
 pub mod Ended
+pub mod Bytes
+pub mod Clear
+pub mod Followed
+pub mod TicketLemmas
+pub mod LawsOf

@@ -12,7 +12,6 @@ use Rattle.session_core.specs.declared.copy.RequestCopy.{RequestCopy}
 use Rattle.session_core.specs.declared.place.Place.TheVariants as places
 use Rattle.session_core.specs.declared.replies.Arrived.{Arrived}
 use Rattle.session_core.specs.declared.replies.Arrived.TheVariants as arrivals
-use Rattle.session_core.specs.declared.replies.Taken.{Taken}
 use Rattle.session_core.specs.declared.replies.Ticked.{Ticked}
 use Rattle.session_core.specs.Answers.{settled}
 use Rattle.session_core.specs.Copy.{id_of}
@@ -55,12 +54,6 @@ module _ (t : PlainSession) (copy : RequestCopy) (Q : PlainSession × Arrived �
 
 pub arrival-by : (t : PlainSession) (request : Request) (body : List ℕ) (Q : PlainSession × Arrived → Type 0) → ArrivalBy t (copy_now t request body) Q → Q (arrived_in_time t request body)
 arrival-by t request body Q by_cases = split Q (is_over t) _ _ by_cases.over (placed-by t (copy_now t request body) Q by_cases)
-
--- An item of the server.
-
-pub record ItemBy (t : PlainSession) (Q : PlainSession × Taken → Type 0) (r : PlainSession × Taken) : Type 0 where
-  pub gets : Q r
-  pub kept : (answer : Taken) → Q (t, answer)
 
 -- What an entry does to the state.
 pub record EntryBy (s : PlainSession) (E : Entered → PlainSession → Type 0) : Type 0 where

@@ -1,13 +1,26 @@
 -- The laws of a session: what every journal that calls made keeps.
-use Rattle.std.specs.Prelude.{◌≡◌, true, false, ◌++◌, List, Some, None, take, slice_get}
+use Rattle.std.specs.Prelude.{◌≡◌, ◌↔◌, ℕ, true, false, ◌++◌, List, Some, None, take, slice_get}
+use Rattle.bosh_types.specs.declared.kept.KeptAnswer.{KeptAnswer}
+use Rattle.session_attrs.specs.declared.request.Request.{Request}
+use Rattle.session_core.specs.declared.replies.Arrived.TheVariants as arrivals
+use Rattle.session_core.specs.declared.replies.Collected.{Collected}
 use Rattle.session_core.specs.Answers.{has_reason}
-use Rattle.session_core.specs.Journal.{Call, Entry, Entered, Journal, IsJournal, IsAllowed, ToTakeInward, TakeInward, counted, state_of, step, entered_by, after_entry, reply_of}
+use Rattle.session_core.specs.Journal.{Call, Arrive, Collect, TakeInward, Entry, Entered, Journal, IsJournal, IsAllowed, ToArrive, ToCollect, ToTakeInward, counted, state_of, step, entered_by, after_entry, reply_of}
+use Rattle.session_core.specs.Kept.{kept_of}
+use Rattle.session_core.specs.Machine.{body_cost, is_full, bytes_for}
 use Rattle.session_core.specs.Passed.{passed_of, given_in}
+use Rattle.session_core.specs.Run.{IsRun, IsLongestRun, arrivals_of, run_of}
 use Rattle.session_core.specs.State.{answers, inward, waiting, is_over}
+use Rattle.session_core.specs.Time.{time_applied}
 use Rattle.session_laws.specs.Growing.{Grows, with_later}
 use Rattle.session_laws.specs.Items.{items_taken}
+use Rattle.session_laws.specs.Tickets.{Tells}
 
 pub record KeptLaws (journal : Journal) : Type 0 where
+  -- what was processed is, while the session goes on, the longest unbroken run of the ids that arrived, each with what
+  -- arrived first; and each copy of it is the first that arrived with its id whether the session goes on or not
+  pub run : is_over (state_of journal) ≡ false → IsLongestRun journal.opening.request.rid (arrivals_of journal) (run_of journal)
+  pub run_each : IsRun journal.opening.request.rid (arrivals_of journal) (run_of journal)
   -- the state after a call is the state after its entry, and a call without one changes nothing
   pub entered : (call : Call) (entered : Entered) → entered_by (state_of journal) call ≡ Some entered
       → (step (state_of journal) call).0 ≡ after_entry (state_of journal) entered
@@ -27,3 +40,12 @@ pub record KeptLaws (journal : Journal) : Type 0 where
   pub given : items_taken (answers (state_of journal)) ++ waiting (state_of journal) ≡ given_in journal
   -- no request is held that has a reason to be answered
   pub settled : has_reason (state_of journal) ≡ false
+  -- where the answer of an id is kept once time was applied, and the session goes on, a copy of that id is given its bytes
+  pub repeats : (request : Request) (body : List ℕ) (now : ℕ) (answer : KeptAnswer) → is_over (time_applied (state_of journal) now) ≡ false
+      → is_full (state_of journal) (body_cost request body) ≡ false → kept_of (time_applied (state_of journal) now) request.rid ≡ Some answer
+      → reply_of journal (Arrive request body now) ≡ ToArrive (arrivals.Answer answer.bytes)
+  -- what an id was given it is given ever after
+  pub same_bytes : (later : List Entry) → IsJournal (with_later journal later) → (rid : ℕ) (bytes : List ℕ) → bytes_for (state_of journal) rid ≡ Some bytes
+      → bytes_for (state_of (with_later journal later)) rid ≡ Some bytes
+  -- of a ticket this is told, and nothing else
+  pub collects : (number : ℕ) (told : Collected) → (reply_of journal (Collect number) ≡ ToCollect told) ↔ Tells (state_of journal) number told

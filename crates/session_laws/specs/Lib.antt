@@ -1,3 +1,4 @@
 pub mod Laws
 pub mod Items
 pub mod Growing
+pub mod Tickets

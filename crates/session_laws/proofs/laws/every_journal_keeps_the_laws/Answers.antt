@@ -1,20 +1,28 @@
-use Rattle.std.proofs.Common.{◌∙◌, ap, take}
-use Rattle.session_core.specs.Journal.{state_of, ToTakeInward}
+use Rattle.std.proofs.Common.{◌∙◌, ap, take, slice_get}
+use Rattle.session_core.specs.Journal.{state_of, ToArrive, ToTakeInward}
 use Rattle.session_core.specs.Machine.{opened}
 use Rattle.session_core.specs.State.{inward}
-use Rattle.std.proofs.Common.{slice_get}
+use Rattle.session_core.specs.Time.{time_applied}
+use Rattle.session_laws.proofs.Bytes.{IsFirstAnswer, first_answer_steady, repeat_gets}
 use Rattle.session_laws.proofs.Calls.{as_entered, unentered, takes_next}
+use Rattle.session_laws.proofs.Clear.{every_clear}
 use Rattle.session_laws.proofs.Counts.{every_counts}
 use Rattle.session_laws.proofs.Ended.{ended_stays}
-use Rattle.session_laws.proofs.Grows.{steady-all, every_grows}
-use Rattle.session_laws.proofs.GivenLemmas.{IsGiven, given_steady, given_is, opened_given}
+use Rattle.session_laws.proofs.Followed.{every_run, every_longest}
 use Rattle.session_laws.proofs.GivenIn.{every_given}
+use Rattle.session_laws.proofs.GivenLemmas.{IsGiven, given_steady, given_is, opened_given}
+use Rattle.session_laws.proofs.Grows.{steady-all, every_grows, ending_stays}
+use Rattle.session_laws.proofs.LawsOf.{collects_both, every_first_answer, every_same_bytes, living_before}
 use Rattle.session_laws.proofs.Reasons.{every_settled}
+use Rattle.session_laws.proofs.SoundLemmas.{IsSound, sound_steady}
+use Rattle.session_laws.proofs.Steadily.{steady-time}
 use Rattle.session_laws.proofs.laws.every_journal_keeps_the_laws.Goals as goal
 
 pub returns : goal.returns
 returns c = record {
   laws = λ journal made. record {
+    run = every_longest journal made;
+    run_each = every_run journal made;
     entered = as_entered (state_of journal);
     unentered = unentered (state_of journal);
     grows = every_grows journal;
@@ -24,5 +32,11 @@ returns c = record {
     takes = ap ToTakeInward (takes_next (state_of journal) (slice_get (inward (state_of journal)) (state_of journal).passed));
     given = given_is (state_of journal) (steady-all IsGiven given_steady (opened journal.opening) journal.entries made.1 (opened_given journal.opening)) ∙ every_given journal made;
     settled = every_settled journal made;
+    repeats = λ request body now answer on room kept. ap ToArrive (repeat_gets (state_of journal) request body now answer
+        (living_before (state_of journal) (time_applied (state_of journal) now) (steady-time _ (ending_stays (state_of journal)) (state_of journal) now (λ ending is. is)) on) room on
+        (steady-time IsSound sound_steady (state_of journal) now (every_clear journal made).0)
+        (steady-time IsFirstAnswer first_answer_steady (state_of journal) now (every_first_answer journal made)) kept);
+    same_bytes = every_same_bytes journal;
+    collects = collects_both journal;
   };
 }
