@@ -18,3 +18,4 @@ pub mod Clear
 pub mod Followed
 pub mod TicketLemmas
 pub mod LawsOf
+pub mod Carried

@@ -1,5 +1,6 @@
 -- The laws of a session: what every journal that calls made keeps.
-use Rattle.std.specs.Prelude.{◌≡◌, ◌↔◌, ℕ, true, false, ◌++◌, List, Some, None, take, slice_get}
+use Rattle.std.specs.Prelude.{◌≡◌, ◌↔◌, ℕ, true, false, ◌++◌, List, Some, None, length, take, slice_get}
+use Rattle.bosh_types.specs.declared.inward.Inward.{Inward}
 use Rattle.bosh_types.specs.declared.kept.KeptAnswer.{KeptAnswer}
 use Rattle.session_attrs.specs.declared.request.Request.{Request}
 use Rattle.session_core.specs.declared.replies.Arrived.TheVariants as arrivals
@@ -14,6 +15,7 @@ use Rattle.session_core.specs.State.{answers, inward, waiting, is_over}
 use Rattle.session_core.specs.Time.{time_applied}
 use Rattle.session_laws.specs.Growing.{Grows, with_later}
 use Rattle.session_laws.specs.Items.{items_taken}
+use Rattle.session_laws.specs.OneBody.{SendsOneBody, RunCarries, carried}
 use Rattle.session_laws.specs.Tickets.{Tells}
 
 pub record KeptLaws (journal : Journal) : Type 0 where
@@ -21,6 +23,9 @@ pub record KeptLaws (journal : Journal) : Type 0 where
   -- arrived first; and each copy of it is the first that arrived with its id whether the session goes on or not
   pub run : is_over (state_of journal) ≡ false → IsLongestRun journal.opening.request.rid (arrivals_of journal) (run_of journal)
   pub run_each : IsRun journal.opening.request.rid (arrivals_of journal) (run_of journal)
+  -- of a client that sends one body for each id, what may go inward is what the bodies of the run's ids carry, each once
+  pub one_body : (bodies : ℕ → List ℕ) (items : ℕ → List Inward) → SendsOneBody bodies journal → RunCarries bodies items journal
+      → inward (state_of journal) ≡ carried items journal.opening.request.rid (length (run_of journal))
   -- the state after a call is the state after its entry, and a call without one changes nothing
   pub entered : (call : Call) (entered : Entered) → entered_by (state_of journal) call ≡ Some entered
       → (step (state_of journal) call).0 ≡ after_entry (state_of journal) entered

@@ -5,6 +5,7 @@ use Rattle.session_core.specs.State.{inward}
 use Rattle.session_core.specs.Time.{time_applied}
 use Rattle.session_laws.proofs.Bytes.{IsFirstAnswer, first_answer_steady, repeat_gets}
 use Rattle.session_laws.proofs.Calls.{as_entered, unentered, takes_next}
+use Rattle.session_laws.proofs.Carried.{every_one_body}
 use Rattle.session_laws.proofs.Clear.{every_clear}
 use Rattle.session_laws.proofs.Counts.{every_counts}
 use Rattle.session_laws.proofs.Ended.{ended_stays}
@@ -23,6 +24,7 @@ returns c = record {
   laws = λ journal made. record {
     run = every_longest journal made;
     run_each = every_run journal made;
+    one_body = every_one_body journal made (every_run journal made);
     entered = as_entered (state_of journal);
     unentered = unentered (state_of journal);
     grows = every_grows journal;
