@@ -19,3 +19,7 @@ pub mod Followed
 pub mod TicketLemmas
 pub mod LawsOf
 pub mod Carried
+pub mod Phases
+pub mod RuleLemmas
+pub mod EndsBack
+pub mod EndsForth

@@ -90,6 +90,14 @@ module _ (P : PlainSession → Type 0) where
   pub advanced-by : Processing P → (s : PlainSession) → P s → P (advanced s)
   advanced-by keeps s p = advanced_in-by keeps (greatest_rid - last_of s) s p
 
+  -- what holds where silence ends it, and where it doesn't
+  pub silenced_as : (s : PlainSession) → (is_over s ≡ false → is_silent s ≡ true → P (ended (endings.Silent (quiet_of s) s.now) s)) → (not (is_over s) && is_silent s ≡ false → P s) → P (silenced s)
+  silenced_as s silent other = split P (not (is_over s) && is_silent s) (ended (endings.Silent (quiet_of s) s.now) s) s
+      (λ is.
+      let both = both_true (not (is_over s)) (is_silent s) is in
+      silent (not_true (is_over s) both.0) both.1)
+      other
+
   silenced-by : Waiting P → (s : PlainSession) → P s → P (silenced s)
   silenced-by keeps s p = split P (not (is_over s) && is_silent s) (ended (endings.Silent (quiet_of s) s.now) s) s
       (λ is.

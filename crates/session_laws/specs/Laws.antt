@@ -1,15 +1,18 @@
 -- The laws of a session: what every journal that calls made keeps.
 use Rattle.std.specs.Prelude.{◌≡◌, ◌↔◌, ℕ, true, false, ◌++◌, List, Some, None, length, take, slice_get}
+use Rattle.bosh_types.specs.declared.ending.Ending.{Ending}
 use Rattle.bosh_types.specs.declared.inward.Inward.{Inward}
 use Rattle.bosh_types.specs.declared.kept.KeptAnswer.{KeptAnswer}
 use Rattle.session_attrs.specs.declared.request.Request.{Request}
 use Rattle.session_core.specs.declared.replies.Arrived.TheVariants as arrivals
 use Rattle.session_core.specs.declared.replies.Collected.{Collected}
 use Rattle.session_core.specs.Answers.{has_reason}
+use Rattle.session_core.specs.Facts.{Fact}
 use Rattle.session_core.specs.Journal.{Call, Arrive, Collect, TakeInward, Entry, Entered, Journal, IsJournal, IsAllowed, ToArrive, ToCollect, ToTakeInward, counted, state_of, step, entered_by, after_entry, reply_of}
 use Rattle.session_core.specs.Kept.{kept_of}
 use Rattle.session_core.specs.Machine.{body_cost, is_full, bytes_for}
 use Rattle.session_core.specs.Passed.{passed_of, given_in}
+use Rattle.session_core.specs.Points.{tested_at}
 use Rattle.session_core.specs.Run.{IsRun, IsLongestRun, arrivals_of, run_of}
 use Rattle.session_core.specs.State.{answers, inward, waiting, is_over}
 use Rattle.session_core.specs.Time.{time_applied}
@@ -32,6 +35,10 @@ pub record KeptLaws (journal : Journal) : Type 0 where
   pub unentered : (call : Call) → entered_by (state_of journal) call ≡ None → (step (state_of journal) call).0 ≡ state_of journal
   -- a longer journal begins with what this one had
   pub grows : (later : List Entry) → IsJournal (with_later journal later) → Grows (state_of journal) (state_of (with_later journal later))
+  -- a session that goes on ends with an entry exactly where the fact of that ending holds there, with its numbers
+  pub ends : (call : Call) (entered : Entered) (ending : Ending) → IsAllowed call → entered_by (state_of journal) call ≡ Some entered → is_over (state_of journal) ≡ false
+      → ((after_entry (state_of journal) entered).ending ≡ Some ending)
+      ↔ Fact (tested_at (state_of journal) entered) entered (after_entry (state_of journal) entered) ending
   -- after the ending nothing changes but what was collected and passed on
   pub ended : (call : Call) (entered : Entered) → IsAllowed call → entered_by (state_of journal) call ≡ Some entered → is_over (state_of journal) ≡ true
       → after_entry (state_of journal) entered

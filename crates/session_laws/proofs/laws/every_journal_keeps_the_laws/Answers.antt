@@ -17,6 +17,8 @@ use Rattle.session_laws.proofs.LawsOf.{collects_both, every_first_answer, every_
 use Rattle.session_laws.proofs.Reasons.{every_settled}
 use Rattle.session_laws.proofs.SoundLemmas.{IsSound, sound_steady}
 use Rattle.session_laws.proofs.Steadily.{steady-time}
+use Rattle.session_laws.proofs.EndsBack.{every_ends}
+use Rattle.session_laws.proofs.EndsForth.{ending_fact, fact_ending}
 use Rattle.session_laws.proofs.laws.every_journal_keeps_the_laws.Goals as goal
 
 pub returns : goal.returns
@@ -28,6 +30,10 @@ returns c = record {
     entered = as_entered (state_of journal);
     unentered = unentered (state_of journal);
     grows = every_grows journal;
+    ends = λ call entered ending allowed is on. (
+      λ ends_so. ending_fact (state_of journal) call allowed entered is on (every_ends journal made) ending ends_so,
+      λ fact. fact_ending (state_of journal) call allowed entered is (every_ends journal made) ending fact,
+    );
     ended = λ call entered allowed is over. ended_stays (state_of journal) call allowed entered is over;
     counts = (every_counts journal made).0;
     passed = ap (λ n. take n (inward (state_of journal))) (every_counts journal made).1;
