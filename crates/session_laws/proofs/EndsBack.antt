@@ -195,10 +195,10 @@ Processed s = IsSound s × NoTerminate s × TerminateEnds s × ClosingEnds s × 
 or_false : (a b : Bool) → a ≡ false → b ≡ false → a || b || false ≡ false
 or_false a b is also = cc
 
-any_push : (copies : List RequestCopy) (copy : RequestCopy) (b : Bool) → copy.request.terminate ≡ b → list_any (λ copy. copy.request.terminate) (copies ++ copy ∷ []) ≡ (list_any (λ copy. copy.request.terminate) copies || (b || false))
+pub any_push : (copies : List RequestCopy) (copy : RequestCopy) (b : Bool) → copy.request.terminate ≡ b → list_any (λ copy. copy.request.terminate) (copies ++ copy ∷ []) ≡ (list_any (λ copy. copy.request.terminate) copies || (b || false))
 any_push copies copy b is = list_any-append (λ (c : RequestCopy). c.request.terminate) copies (copy ∷ []) ∙ ap (λ x. list_any (λ (c : RequestCopy). c.request.terminate) copies || (x || false)) is
 
-or_none : (a : Bool) → a ≡ false → (a || (false || false)) ≡ false
+pub or_none : (a : Bool) → a ≡ false → (a || (false || false)) ≡ false
 or_none true is = absurd (true_false is)
 or_none false is = refl
 

@@ -59,7 +59,7 @@ repeat_followed arrivals copy first standing over f stands = record {
 }
 
 -- one more arrives, and stands
-new_followed : (arrivals : List RequestCopy) (copy : RequestCopy) (first : ℕ) (standing : List RequestCopy) → Follows arrivals first standing false
+pub new_followed : (arrivals : List RequestCopy) (copy : RequestCopy) (first : ℕ) (standing : List RequestCopy) → Follows arrivals first standing false
     → first < id_of copy → at_id (map with_id standing) (id_of copy) ≡ None → Follows (arrivals ++ copy ∷ []) first (standing ++ copy ∷ []) false
 new_followed arrivals copy first standing f later none = record {
   each = λ rid found at. elim (cases_eq rid (id_of copy)) [
@@ -78,7 +78,7 @@ new_followed arrivals copy first standing f later none = record {
 }
 
 -- the same copies stand, and it went on
-unmoved : (arrivals : List RequestCopy) (s u : PlainSession) → u.standing ≡ s.standing → u.creation ≡ s.creation → is_over s ≡ false → IsFollowed arrivals s → IsFollowed arrivals u
+pub unmoved : (arrivals : List RequestCopy) (s u : PlainSession) → u.standing ≡ s.standing → u.creation ≡ s.creation → is_over s ≡ false → IsFollowed arrivals s → IsFollowed arrivals u
 unmoved arrivals s u standing creation on f = record {
   each = λ rid copy at. f.each rid copy (ap (λ copies. at_id (map with_id copies) rid) (sym standing) ∙ at);
   all = λ goes rid later none. f.all on rid (subst (λ (copy : RequestCopy). id_of copy < rid) creation later) (ap (λ copies. at_id (map with_id copies) rid) (sym standing) ∙ none);
@@ -163,7 +163,7 @@ arrived_now t request body = arrival-by t request body (λ r. r.0.now ≡ t.now)
       replied_now u request.rid (bytes_for u request.rid) ∙ ap (λ (v : PlainSession). v.now) (settled_leaves (advanced p)) ∙ ap (λ (v : PlainSession). v.now) (advanced_leaves p);
 })
 
-timed_followed : (before : List RequestCopy) (s : PlainSession) (now : ℕ) → is_over s ≡ false → IsFollowed before s → IsFollowed before (time_applied s now)
+pub timed_followed : (before : List RequestCopy) (s : PlainSession) (now : ℕ) → is_over s ≡ false → IsFollowed before s → IsFollowed before (time_applied s now)
 timed_followed before s now on f = unmoved before s (time_applied s now) (ap (λ (v : PlainSession). v.standing) (time_leaves s now)) (ap (λ (v : PlainSession). v.creation) (time_leaves s now)) on f
 
 item_adds : (before : List RequestCopy) (s t : PlainSession) (item : Outward) (moment : ℕ) → is_over t ≡ false → IsFollowed before t → t.now ≡ moment
@@ -231,7 +231,7 @@ pub record Tells (o : Opening) (past : List Entry) (s : PlainSession) : Type 0 w
   pub follows : IsFollowed (arrivals_with o past) s
   pub now : s.now ≡ moment_of o.now past
 
-tells_more : (o : Opening) (past : List Entry) (s : PlainSession) (call : Call) (entry : Entry) → IsAllowed call → entered_by s call ≡ Some entry.entered → Tells o past s → Tells o (past ++ entry ∷ []) (after_entry s entry.entered)
+pub tells_more : (o : Opening) (past : List Entry) (s : PlainSession) (call : Call) (entry : Entry) → IsAllowed call → entered_by s call ≡ Some entry.entered → Tells o past s → Tells o (past ++ entry ∷ []) (after_entry s entry.entered)
 tells_more o past s call entry allowed is t =
     let a = entry_adds (arrivals_with o past) s call allowed entry.entered is t.sound t.follows in
     record {
@@ -241,14 +241,16 @@ tells_more o past s call entry allowed is t =
       now = a.now ∙ ap (λ m. moment_after m entry.entered) t.now ∙ sym (moment-push o.now past entry);
     }
 
+pub opened_tells : (o : Opening) → Tells o [] (opened o)
+opened_tells o = record {
+  sound = opened_sound o;
+  follows = record { each = λ rid copy at. absurd (cc); all = λ on rid later none. All-cons (λ (c : RequestCopy). id_of c ≢ rid) (creation_of o) [] (λ same. absurd (omega arith)) (All-nil (λ (c : RequestCopy). id_of c ≢ rid)) };
+  now = refl;
+}
+
 pub every_tells : (journal : Journal) → IsJournal journal → Tells journal.opening journal.entries (state_of journal)
 every_tells journal made = along (opened journal.opening) (Tells journal.opening)
-    (λ past s call entry allowed same is t. tells_more journal.opening past s call entry allowed is t)
-    journal.entries made.1 (record {
-      sound = opened_sound journal.opening;
-      follows = record { each = λ rid copy at. absurd (cc); all = λ on rid later none. All-cons (λ (c : RequestCopy). id_of c ≢ rid) (creation_of journal.opening) [] (λ same. absurd (omega arith)) (All-nil (λ (c : RequestCopy). id_of c ≢ rid)) };
-      now = refl;
-    })
+    (λ past s call entry allowed same is t. tells_more journal.opening past s call entry allowed is t) journal.entries made.1 (opened_tells journal.opening)
 
 -- the creation is what the opening brought
 pub every_creation : (journal : Journal) → IsJournal journal → (state_of journal).creation ≡ creation_of journal.opening

@@ -23,3 +23,4 @@ pub mod Phases
 pub mod RuleLemmas
 pub mod EndsBack
 pub mod EndsForth
+pub mod RunAtEnd

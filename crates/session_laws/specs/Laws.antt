@@ -13,7 +13,7 @@ use Rattle.session_core.specs.Kept.{kept_of}
 use Rattle.session_core.specs.Machine.{body_cost, is_full, bytes_for}
 use Rattle.session_core.specs.Passed.{passed_of, given_in}
 use Rattle.session_core.specs.Points.{tested_at}
-use Rattle.session_core.specs.Run.{IsRun, IsLongestRun, arrivals_of, run_of}
+use Rattle.session_core.specs.Run.{IsRun, IsLongestRun, KeepsRules, IsRunAtEnd, arrivals_of, run_of}
 use Rattle.session_core.specs.State.{answers, inward, waiting, is_over}
 use Rattle.session_core.specs.Time.{time_applied}
 use Rattle.session_laws.specs.Growing.{Grows, with_later}
@@ -26,6 +26,10 @@ pub record KeptLaws (journal : Journal) : Type 0 where
   -- arrived first; and each copy of it is the first that arrived with its id whether the session goes on or not
   pub run : is_over (state_of journal) ≡ false → IsLongestRun journal.opening.request.rid (arrivals_of journal) (run_of journal)
   pub run_each : IsRun journal.opening.request.rid (arrivals_of journal) (run_of journal)
+  -- each copy of the run after the creation broke no rule when it and all lower ids had come, and only the last may be a
+  -- terminate; once the session has ended, the run stops there, before a copy that broke a rule, or where nothing more had come
+  pub run_rules : KeepsRules journal (state_of journal).processed
+  pub run_at_end : is_over (state_of journal) ≡ true → IsRunAtEnd journal (state_of journal).processed
   -- of a client that sends one body for each id, what may go inward is what the bodies of the run's ids carry, each once
   pub one_body : (bodies : ℕ → List ℕ) (items : ℕ → List Inward) → SendsOneBody bodies journal → RunCarries bodies items journal
       → inward (state_of journal) ≡ carried items journal.opening.request.rid (length (run_of journal))

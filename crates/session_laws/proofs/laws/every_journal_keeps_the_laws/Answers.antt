@@ -19,6 +19,7 @@ use Rattle.session_laws.proofs.SoundLemmas.{IsSound, sound_steady}
 use Rattle.session_laws.proofs.Steadily.{steady-time}
 use Rattle.session_laws.proofs.EndsBack.{every_ends}
 use Rattle.session_laws.proofs.EndsForth.{ending_fact, fact_ending}
+use Rattle.session_laws.proofs.RunAtEnd.{every_at_end, every_ruled}
 use Rattle.session_laws.proofs.laws.every_journal_keeps_the_laws.Goals as goal
 
 pub returns : goal.returns
@@ -26,6 +27,8 @@ returns c = record {
   laws = λ journal made. record {
     run = every_longest journal made;
     run_each = every_run journal made;
+    run_rules = (every_ruled journal made).0;
+    run_at_end = every_at_end journal made;
     one_body = every_one_body journal made (every_run journal made);
     entered = as_entered (state_of journal);
     unentered = unentered (state_of journal);
