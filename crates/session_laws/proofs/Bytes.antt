@@ -58,7 +58,7 @@ pub first_answer_steady : Steady IsFirstAnswer
 first_answer_steady = record {
   ends = λ t ending on p. p;
   aside = λ t tickets now last_arrival passed counted p. p;
-  answers = λ t oldest later front is on taken p. p;
+  answers = λ t oldest later front is on reason taken p. p;
   processes = λ t copy on stands broken p. p;
   stands = λ t copy above none small p. p;
   gives = λ t item p. p;

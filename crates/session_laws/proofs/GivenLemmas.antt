@@ -72,7 +72,7 @@ pub given_steady : Steady IsGiven
 given_steady = record {
   ends = λ t ending on p. p;
   aside = λ t tickets now last_arrival passed counted p. p;
-  answers = λ t oldest later front is on taken p. given_answers t oldest _ taken p;
+  answers = λ t oldest later front is on reason taken p. given_answers t oldest _ taken p;
   processes = λ t copy on stands broken p. p;
   stands = λ t copy above none small p. p;
   gives = λ t item p. (p.0 ++ item ∷ [], sym (append_assoc (items_taken (answers t)) p.0 (item ∷ [])) ∙ ap (λ items. items ++ item ∷ []) p.1);

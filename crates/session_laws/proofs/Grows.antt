@@ -24,7 +24,7 @@ module _ (s : PlainSession) where
   told_stays = record {
     ends = λ t ending on p. p;
     aside = λ t tickets now last_arrival passed counted p. p;
-    answers = λ t oldest later front is on taken p. p;
+    answers = λ t oldest later front is on reason taken p. p;
     processes = λ t copy on stands broken p. p;
     stands = λ t copy above none small p. p;
     gives = λ t item p. p;
@@ -34,7 +34,7 @@ module _ (s : PlainSession) where
   standing_grows = record {
     ends = λ t ending on p. p;
     aside = λ t tickets now last_arrival passed counted p. p;
-    answers = λ t oldest later front is on taken p. p;
+    answers = λ t oldest later front is on reason taken p. p;
     processes = λ t copy on stands broken p. p;
     stands = λ t copy above none small p. begins_push s.standing t.standing copy p;
     gives = λ t item p. p;
@@ -44,7 +44,7 @@ module _ (s : PlainSession) where
   processed_grows = record {
     ends = λ t ending on p. p;
     aside = λ t tickets now last_arrival passed counted p. p;
-    answers = λ t oldest later front is on taken p. p;
+    answers = λ t oldest later front is on reason taken p. p;
     processes = λ t copy on stands broken p. begins_push s.processed t.processed copy p;
     stands = λ t copy above none small p. p;
     gives = λ t item p. p;
@@ -54,7 +54,7 @@ module _ (s : PlainSession) where
   answered_grows = record {
     ends = λ t ending on p. p;
     aside = λ t tickets now last_arrival passed counted p. p;
-    answers = λ t oldest later front is on taken p. begins_push s.answered t.answered _ p;
+    answers = λ t oldest later front is on reason taken p. begins_push s.answered t.answered _ p;
     processes = λ t copy on stands broken p. p;
     stands = λ t copy above none small p. p;
     gives = λ t item p. p;
@@ -64,7 +64,7 @@ module _ (s : PlainSession) where
   given_grows = record {
     ends = λ t ending on p. p;
     aside = λ t tickets now last_arrival passed counted p. p;
-    answers = λ t oldest later front is on taken p. p;
+    answers = λ t oldest later front is on reason taken p. p;
     processes = λ t copy on stands broken p. p;
     stands = λ t copy above none small p. p;
     gives = λ t item p. begins_push s.given t.given item p;
@@ -80,7 +80,7 @@ module _ (s : PlainSession) where
   ending_stays = record {
     ends = λ t other on p ending is. absurd (over_now t ending on (p ending is));
     aside = λ t tickets now last_arrival passed counted p. p;
-    answers = λ t oldest later front is on taken p. p;
+    answers = λ t oldest later front is on reason taken p. p;
     processes = λ t copy on stands broken p. p;
     stands = λ t copy above none small p. p;
     gives = λ t item p. p;

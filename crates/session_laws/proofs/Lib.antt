@@ -24,3 +24,5 @@ pub mod RuleLemmas
 pub mod EndsBack
 pub mod EndsForth
 pub mod RunAtEnd
+pub mod AnswersGiven
+pub mod ReplyLemmas

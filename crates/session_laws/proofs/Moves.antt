@@ -114,7 +114,7 @@ pub record Steady (P : PlainSession → Type 0) : Type 0 where
   pub aside : (s : PlainSession) (tickets : List Issued) (now last_arrival passed counted : ℕ) → P s
       → P (record s { tickets = tickets; now = now; last_arrival = last_arrival; passed = passed; counted = counted })
   pub answers : (s : PlainSession) (oldest : RequestCopy) (later : List RequestCopy) (front : Front)
-      → held s ≡ oldest ∷ later → is_over s ≡ false → front_for s oldest ≡ front → P s → P (with_answer s (id_of oldest) front)
+      → held s ≡ oldest ∷ later → is_over s ≡ false → has_reason s ≡ true → front_for s oldest ≡ front → P s → P (with_answer s (id_of oldest) front)
   pub processes : (s : PlainSession) (copy : RequestCopy) → is_over s ≡ false → standing_at s (last_of s + 1) ≡ Some copy
       → broken_rule (asked_of s) copy ≡ None → P s → P (with_copy s copy)
   pub stands : (s : PlainSession) (copy : RequestCopy) → last_of s < id_of copy → standing_at s (id_of copy) ≡ None → id_of copy ≤ greatest_rid
@@ -124,8 +124,8 @@ pub record Steady (P : PlainSession → Type 0) : Type 0 where
 module _ (P : PlainSession → Type 0) (steady : Steady P) where
   pub answering : Answering P
   answering = record {
-    stanzas = λ s oldest later items is on reason front p. steady.answers s oldest later (OfStanzas items) is on front p;
-    closes = λ s oldest later stream closing is on reason front p. steady.ends (with_answer s (id_of oldest) (OfClosing stream closing)) (endings.Closed closing (id_of oldest)) on (steady.answers s oldest later (OfClosing stream closing) is on front p);
+    stanzas = λ s oldest later items is on reason front p. steady.answers s oldest later (OfStanzas items) is on reason front p;
+    closes = λ s oldest later stream closing is on reason front p. steady.ends (with_answer s (id_of oldest) (OfClosing stream closing)) (endings.Closed closing (id_of oldest)) on (steady.answers s oldest later (OfClosing stream closing) is on reason front p);
   }
 
   pub processing : Processing P

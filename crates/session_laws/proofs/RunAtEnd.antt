@@ -61,7 +61,7 @@ key_steady : (newkey : Option (List ℕ)) → Steady (HasKey newkey)
 key_steady newkey = record {
   ends = λ t ending on p. p;
   aside = λ t tickets now last_arrival passed counted p. p;
-  answers = λ t oldest later front is on taken p. p;
+  answers = λ t oldest later front is on reason taken p. p;
   processes = λ t copy on stands broken p. ap (λ key. current_after key copy.request.key copy.request.newkey) p ∙ sym (key-push newkey t.processed copy);
   stands = λ t copy above none small p. p;
   gives = λ t item p. p;

@@ -30,7 +30,7 @@ pub sound_steady : Steady IsSound
 sound_steady = record {
   ends = λ t ending on p. p;
   aside = λ t tickets now last_arrival passed counted p. p;
-  answers = λ t oldest later front is on taken p.
+  answers = λ t oldest later front is on reason taken p.
       let within : length t.answered < length t.processed = get_within t.processed (length t.answered) oldest (get_drop (length t.answered) t.processed oldest later is) in
       let answer : Answered = record { rid = id_of oldest; bytes = _; moment = t.now; front = front } in
       record {

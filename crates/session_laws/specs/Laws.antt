@@ -1,24 +1,31 @@
 -- The laws of a session: what every journal that calls made keeps.
-use Rattle.std.specs.Prelude.{◌≡◌, ◌↔◌, ℕ, true, false, ◌++◌, List, Some, None, length, take, slice_get}
+use Rattle.std.specs.Prelude.{◌≡◌, ◌↔◌, ◌+◌, ◌<◌, ◌≤◌, ℕ, true, false, ◌++◌, List, Some, None, length, take, slice_get}
 use Rattle.bosh_types.specs.declared.ending.Ending.{Ending}
 use Rattle.bosh_types.specs.declared.inward.Inward.{Inward}
 use Rattle.bosh_types.specs.declared.kept.KeptAnswer.{KeptAnswer}
 use Rattle.session_attrs.specs.declared.request.Request.{Request}
 use Rattle.session_core.specs.declared.replies.Arrived.TheVariants as arrivals
+use Rattle.session_core.specs.declared.outward.Front.TheVariants.{OfStanzas}
+use Rattle.session_core.specs.declared.outward.Outward.{Outward}
 use Rattle.session_core.specs.declared.replies.Collected.{Collected}
-use Rattle.session_core.specs.Answers.{has_reason}
+use Rattle.session_core.specs.declared.replies.Taken.TheVariants as takings
+use Rattle.session_core.specs.declared.replies.Ticked.TheVariants.{Quiet}
+use Rattle.session_core.specs.Answers.{has_reason, front_of}
+use Rattle.session_core.specs.Endings.{last_word}
 use Rattle.session_core.specs.Facts.{Fact}
-use Rattle.session_core.specs.Journal.{Call, Arrive, Collect, TakeInward, Entry, Entered, Journal, IsJournal, IsAllowed, ToArrive, ToCollect, ToTakeInward, counted, state_of, step, entered_by, after_entry, reply_of}
+use Rattle.session_core.specs.Journal.{Call, Arrive, Collect, Back, Tick, TakeInward, Entry, Entered, Journal, IsJournal, IsAllowed, ToArrive, ToCollect, ToBack, ToTick, ToTakeInward, counted, state_of, step, entered_by, after_entry, reply_of}
 use Rattle.session_core.specs.Kept.{kept_of}
-use Rattle.session_core.specs.Machine.{body_cost, is_full, bytes_for}
+use Rattle.session_core.specs.Machine.{first_answer, body_cost, is_full, bytes_for, has_room}
 use Rattle.session_core.specs.Passed.{passed_of, given_in}
 use Rattle.session_core.specs.Points.{tested_at}
 use Rattle.session_core.specs.Run.{IsRun, IsLongestRun, KeepsRules, IsRunAtEnd, arrivals_of, run_of}
-use Rattle.session_core.specs.State.{answers, inward, waiting, is_over}
-use Rattle.session_core.specs.Time.{time_applied}
+use Rattle.session_core.specs.State.{Answered, answers, answered_of, inward, waiting, is_over}
+use Rattle.session_core.specs.Time.{time_applied, is_due}
+use Rattle.session_laws.specs.Answering.{WasGiven, IsLongestFront}
 use Rattle.session_laws.specs.Growing.{Grows, with_later}
 use Rattle.session_laws.specs.Items.{items_taken}
 use Rattle.session_laws.specs.OneBody.{SendsOneBody, RunCarries, carried}
+use Rattle.session_laws.specs.Replies.{IsOpenId, IsToldTo, MayTake}
 use Rattle.session_laws.specs.Tickets.{Tells}
 
 pub record KeptLaws (journal : Journal) : Type 0 where
@@ -65,3 +72,31 @@ pub record KeptLaws (journal : Journal) : Type 0 where
       → bytes_for (state_of (with_later journal later)) rid ≡ Some bytes
   -- of a ticket this is told, and nothing else
   pub collects : (number : ℕ) (told : Collected) → (reply_of journal (Collect number) ≡ ToCollect told) ↔ Tells (state_of journal) number told
+  -- the creation has its own answer; the others go on by one from its id, and only what was processed is answered
+  pub created : (state_of journal).created ≡ first_answer journal.opening
+  pub answer_ids : (k : ℕ) (answer : Answered) → slice_get (answers (state_of journal)) k ≡ Some answer → answer.rid ≡ journal.opening.request.rid + k
+  pub answers_processed : length (state_of journal).answered ≤ length (state_of journal).processed
+  -- each answer was given for a reason, to the oldest held request, with what was due to it
+  pub answered : (k : ℕ) (answer : Answered) → slice_get (state_of journal).answered k ≡ Some answer → WasGiven (state_of journal) k answer
+  -- what is due of the items that wait is the longest front that one answer may take, where no closing comes first
+  pub fronts : (items front : List Outward) → front_of items ≡ OfStanzas front → IsLongestFront items front
+  -- an id that wasn't answered before the ending is given its last word
+  pub last_words : (rid : ℕ) (ending : Ending) → (state_of journal).ending ≡ Some ending → answered_of (state_of journal) < rid
+      → bytes_for (state_of journal) rid ≡ Some (last_word (answered_of (state_of journal)) ending rid)
+  -- a copy waits exactly where the session goes on and its id is open after the call, with the next ticket
+  pub parked : (request : Request) (body : List ℕ) (now number : ℕ) → IsAllowed (Arrive request body now) → is_over (state_of journal) ≡ false
+      → (reply_of journal (Arrive request body now) ≡ ToArrive (arrivals.Parked number))
+      ↔ ((number ≡ length (state_of journal).tickets + 1) × IsOpenId (step (state_of journal) (Arrive request body now)).0 request.rid)
+  -- a copy that is answered is told what its id was given, or that it found no place
+  pub told : (request : Request) (body : List ℕ) (now : ℕ) (bytes : List ℕ) → IsAllowed (Arrive request body now) → is_over (state_of journal) ≡ false
+      → reply_of journal (Arrive request body now) ≡ ToArrive (arrivals.Answer bytes) → IsToldTo (step (state_of journal) (Arrive request body now)).0 request.rid bytes
+  -- a copy is told that the session is over exactly where it had ended before
+  pub over : (request : Request) (body : List ℕ) (now : ℕ) → IsAllowed (Arrive request body now)
+      → (reply_of journal (Arrive request body now) ≡ ToArrive arrivals.Over) ↔ (is_over (state_of journal) ≡ true)
+  -- a stanza of the server finds no room, or is taken, exactly so
+  pub full : (stream : ℕ) (stanza : List ℕ) (now : ℕ) → (reply_of journal (Back stream stanza now) ≡ ToBack takings.Full)
+      ↔ (MayTake (state_of journal) stream stanza now × (has_room (time_applied (state_of journal) now) stanza ≡ false))
+  pub done : (stream : ℕ) (stanza : List ℕ) (now : ℕ) → (reply_of journal (Back stream stanza now) ≡ ToBack takings.Done)
+      ↔ (MayTake (state_of journal) stream stanza now × (has_room (time_applied (state_of journal) now) stanza ≡ true))
+  -- nothing changes by time alone exactly where nothing is due
+  pub quiet : (now : ℕ) → (reply_of journal (Tick now) ≡ ToTick Quiet) ↔ (is_due (state_of journal) now ≡ false)

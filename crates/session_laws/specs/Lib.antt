@@ -3,3 +3,5 @@ pub mod Items
 pub mod Growing
 pub mod Tickets
 pub mod OneBody
+pub mod Answering
+pub mod Replies

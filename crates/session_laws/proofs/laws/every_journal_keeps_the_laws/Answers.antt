@@ -13,13 +13,15 @@ use Rattle.session_laws.proofs.Followed.{every_run, every_longest}
 use Rattle.session_laws.proofs.GivenIn.{every_given}
 use Rattle.session_laws.proofs.GivenLemmas.{IsGiven, given_steady, given_is, opened_given}
 use Rattle.session_laws.proofs.Grows.{steady-all, every_grows, ending_stays}
-use Rattle.session_laws.proofs.LawsOf.{collects_both, every_first_answer, every_same_bytes, living_before}
+use Rattle.session_laws.proofs.LawsOf.{every_created, every_answer_id, every_parked, every_answer_told, every_over, every_full, every_done, every_quiet, collects_both, every_first_answer, every_same_bytes, living_before}
 use Rattle.session_laws.proofs.Reasons.{every_settled}
 use Rattle.session_laws.proofs.SoundLemmas.{IsSound, sound_steady}
 use Rattle.session_laws.proofs.Steadily.{steady-time}
 use Rattle.session_laws.proofs.EndsBack.{every_ends}
 use Rattle.session_laws.proofs.EndsForth.{ending_fact, fact_ending}
 use Rattle.session_laws.proofs.RunAtEnd.{every_at_end, every_ruled}
+use Rattle.session_laws.proofs.AnswersGiven.{every_answer, front_longest}
+use Rattle.session_laws.proofs.ReplyLemmas.{last_words}
 use Rattle.session_laws.proofs.laws.every_journal_keeps_the_laws.Goals as goal
 
 pub returns : goal.returns
@@ -49,5 +51,17 @@ returns c = record {
         (steady-time IsFirstAnswer first_answer_steady (state_of journal) now (every_first_answer journal made)) kept);
     same_bytes = every_same_bytes journal;
     collects = collects_both journal;
+    created = every_created journal made;
+    answer_ids = every_answer_id journal made;
+    answers_processed = ((every_clear journal made).0).few;
+    answered = every_answer journal made;
+    fronts = front_longest;
+    last_words = λ rid ending is beyond. last_words (state_of journal) rid ending (every_clear journal made).0 (every_first_answer journal made) is beyond;
+    parked = every_parked journal made;
+    told = every_answer_told journal made;
+    over = every_over journal made;
+    full = every_full (state_of journal);
+    done = every_done (state_of journal);
+    quiet = every_quiet (state_of journal);
   };
 }
