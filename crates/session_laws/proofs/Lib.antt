@@ -23,6 +23,10 @@ pub mod Phases
 pub mod RuleLemmas
 pub mod EndsBack
 pub mod EndsForth
+pub mod JournalLemmas
+pub mod AckLemmas
+pub mod RunRules
 pub mod RunAtEnd
 pub mod AnswersGiven
 pub mod ReplyLemmas
+pub mod KeptBoth

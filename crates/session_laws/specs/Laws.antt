@@ -1,5 +1,5 @@
 -- The laws of a session: what every journal that calls made keeps.
-use Rattle.std.specs.Prelude.{◌≡◌, ◌↔◌, ◌+◌, ◌<◌, ◌≤◌, ℕ, true, false, ◌++◌, List, Some, None, length, take, slice_get}
+use Rattle.std.specs.Prelude.{◌≡◌, ◌↔◌, ◌+◌, ◌<◌, ◌≤◌, ℕ, true, false, ◌++◌, List, Some, None, IsSome, length, take, slice_get}
 use Rattle.bosh_types.specs.declared.ending.Ending.{Ending}
 use Rattle.bosh_types.specs.declared.inward.Inward.{Inward}
 use Rattle.bosh_types.specs.declared.kept.KeptAnswer.{KeptAnswer}
@@ -21,6 +21,7 @@ use Rattle.session_core.specs.Points.{tested_at}
 use Rattle.session_core.specs.Run.{IsRun, IsLongestRun, KeepsRules, IsRunAtEnd, arrivals_of, run_of}
 use Rattle.session_core.specs.State.{Answered, answers, answered_of, inward, waiting, is_over}
 use Rattle.session_core.specs.Time.{time_applied, is_due}
+use Rattle.session_laws.specs.Acknowledging.{IsKept}
 use Rattle.session_laws.specs.Answering.{WasGiven, IsLongestFront}
 use Rattle.session_laws.specs.Growing.{Grows, with_later}
 use Rattle.session_laws.specs.Items.{items_taken}
@@ -63,6 +64,8 @@ pub record KeptLaws (journal : Journal) : Type 0 where
   pub given : items_taken (answers (state_of journal)) ++ waiting (state_of journal) ≡ given_in journal
   -- no request is held that has a reason to be answered
   pub settled : has_reason (state_of journal) ≡ false
+  -- an answer is kept exactly by the rule
+  pub kept : (rid : ℕ) → IsSome (kept_of (state_of journal) rid) ↔ IsKept journal rid
   -- where the answer of an id is kept once time was applied, and the session goes on, a copy of that id is given its bytes
   pub repeats : (request : Request) (body : List ℕ) (now : ℕ) (answer : KeptAnswer) → is_over (time_applied (state_of journal) now) ≡ false
       → is_full (state_of journal) (body_cost request body) ≡ false → kept_of (time_applied (state_of journal) now) request.rid ≡ Some answer

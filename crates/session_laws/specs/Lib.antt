@@ -5,3 +5,4 @@ pub mod Tickets
 pub mod OneBody
 pub mod Answering
 pub mod Replies
+pub mod Acknowledging

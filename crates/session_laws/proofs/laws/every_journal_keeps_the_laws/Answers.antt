@@ -22,6 +22,7 @@ use Rattle.session_laws.proofs.EndsForth.{ending_fact, fact_ending}
 use Rattle.session_laws.proofs.RunAtEnd.{every_at_end, every_ruled}
 use Rattle.session_laws.proofs.AnswersGiven.{every_answer, front_longest}
 use Rattle.session_laws.proofs.ReplyLemmas.{last_words}
+use Rattle.session_laws.proofs.KeptBoth.{every_kept}
 use Rattle.session_laws.proofs.laws.every_journal_keeps_the_laws.Goals as goal
 
 pub returns : goal.returns
@@ -45,6 +46,7 @@ returns c = record {
     takes = ap ToTakeInward (takes_next (state_of journal) (slice_get (inward (state_of journal)) (state_of journal).passed));
     given = given_is (state_of journal) (steady-all IsGiven given_steady (opened journal.opening) journal.entries made.1 (opened_given journal.opening)) ∙ every_given journal made;
     settled = every_settled journal made;
+    kept = every_kept journal made;
     repeats = λ request body now answer on room kept. ap ToArrive (repeat_gets (state_of journal) request body now answer
         (living_before (state_of journal) (time_applied (state_of journal) now) (steady-time _ (ending_stays (state_of journal)) (state_of journal) now (λ ending is. is)) on) room on
         (steady-time IsSound sound_steady (state_of journal) now (every_clear journal made).0)
