@@ -23,7 +23,7 @@ head_is : {X : Type 0} (e x : X) (a l b : List X) → e ∷ a ≡ x ∷ l → x 
 head_is e x a l b is = cc
 
 -- of two places in a list, one is the other or comes after it
-two_places : {X : Type 0} (b b' : List X) (e e' : X) (a a' : List X) → b ++ e ∷ a ≡ b' ++ e' ∷ a' → ((b ≡ b') × (e ≡ e')) ⊎ (((m : List X) × (b' ≡ b ++ e ∷ m)) ⊎ ((m : List X) × (b ≡ b' ++ e' ∷ m)))
+pub two_places : {X : Type 0} (b b' : List X) (e e' : X) (a a' : List X) → b ++ e ∷ a ≡ b' ++ e' ∷ a' → ((b ≡ b') × (e ≡ e')) ⊎ (((m : List X) × (b' ≡ b ++ e ∷ m)) ⊎ ((m : List X) × (b ≡ b' ++ e' ∷ m)))
 two_places [] [] e e' a a' is = inl (refl, cc)
 two_places [] (x ∷ b') e e' a a' is = inr (inl (b', head_is e x a (b' ++ e' ∷ a') b' is))
 two_places (x ∷ b) [] e e' a a' is = inr (inr (b, cc))

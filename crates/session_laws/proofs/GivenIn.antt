@@ -25,7 +25,7 @@ points-push s [] entry = refl
 points-push s (first ∷ past) entry = ap (λ points. record { before = s; entered = first.entered } ∷ points) (points-push (after_entry s first.entered) past entry)
 
 -- the item that was given, if one was taken
-abbrev one : Option Outward → List Outward
+abbrev pub one : Option Outward → List Outward
 one o = filter_map (λ (x : Option Outward). x) (o ∷ [])
 
 given_left : (s : PlainSession) (given : List Outward) → s.given ≡ given → (settled s).given ≡ given
@@ -53,13 +53,13 @@ timed_given s now = ap (λ (u : PlainSession). u.given) (time_leaves s now)
 none_given : (given more : List Outward) → given ≡ more → given ≡ more ++ []
 none_given given more is = is ∙ sym (append-nil more)
 
-abbrev Gives : PlainSession → Option Outward → List Outward → Type 0
+abbrev pub Gives : PlainSession → Option Outward → List Outward → Type 0
 Gives s o given = given ≡ s.given ++ one o
 
 item_given : (s t : PlainSession) (item : Outward) → t.given ≡ s.given → Gives s (Some item) (settled (record t { given = t.given ++ item ∷ [] })).given
 item_given s t item is = given_left (record t { given = t.given ++ item ∷ [] }) _ (ap (λ given. given ++ item ∷ []) is)
 
-entry_gives : (s : PlainSession) (call : Call) → IsAllowed call → (entered : Entered) → entered_by s call ≡ Some entered → Gives s (given_by s entered) (after_entry s entered).given
+pub entry_gives : (s : PlainSession) (call : Call) → IsAllowed call → (entered : Entered) → entered_by s call ≡ Some entered → Gives s (given_by s entered) (after_entry s entered).given
 entry_gives s call allowed entered is = entry-by s (λ e u. Gives s (given_by s e) u.given) (record {
   arrives = λ request body now allowed on room. none_given _ s.given (arrived_given (with_cost (body_cost request body) (time_applied s now)) request body ∙ timed_given s now);
   backs = λ stream stanza now allowed on room.

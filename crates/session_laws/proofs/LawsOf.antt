@@ -1,5 +1,6 @@
 -- The laws of a journal, together.
 use Rattle.std.proofs.Common.{◌≡◌, ◌↔◌, ◌+◌, suc, arith, length, slice_get, ℕ, true, false, ◌∙◌, sym, ap, List, Some, subst, is_some, refl, inl, inr}
+use Rattle.bosh_types.specs.declared.ending.Closing.{Closing}
 use Rattle.session_attrs.specs.declared.request.Request.{Request}
 use Rattle.session_core.specs.declared.copy.RequestCopy.{RequestCopy}
 use Rattle.session_core.specs.declared.replies.Arrived.{Arrived}
@@ -11,14 +12,14 @@ use Rattle.session_core.specs.declared.replies.Ticked.{Ticked}
 use Rattle.session_core.specs.declared.replies.Ticked.TheVariants.{Quiet}
 use Rattle.session_core.specs.Copy.{id_of}
 use Rattle.session_core.specs.Journal.{Arrive, Collect, Entry, Journal, IsJournal, IsAllowed, ToArrive, ToCollect, ToBack, ToTick, state_of, step, reply_of}
-use Rattle.session_core.specs.Machine.{opened, first_answer, arrive, back, tick, has_room, collect, bytes_for}
+use Rattle.session_core.specs.Machine.{opened, first_answer, arrive, back, back_closed, is_full, plain_cost, takes_items, tick, has_room, collect, bytes_for}
 use Rattle.session_core.specs.State.{PlainSession, Answered, answers, is_over}
 use Rattle.session_core.specs.Time.{time_applied, is_due}
 use Rattle.session_laws.specs.Growing.{with_later}
 use Rattle.session_laws.specs.Replies.{IsOpenId, IsToldTo, MayTake}
 use Rattle.session_laws.proofs.Followed.{every_creation}
 use Rattle.session_laws.proofs.Read.{read-rid}
-use Rattle.session_laws.proofs.ReplyLemmas.{Told, arrive_told, arrive_over, back_full, back_done, tick_quiet, answer_ids}
+use Rattle.session_laws.proofs.ReplyLemmas.{Told, arrive_told, arrive_over, back_full, back_done, tick_quiet, closed_done, answer_ids}
 use Rattle.session_laws.specs.Tickets.{Tells}
 use Rattle.session_laws.proofs.Bytes.{IsFirstAnswer, first_answer_steady, bytes_stay}
 use Rattle.session_laws.proofs.Grows.{told_stays, steady-all, after_append, made_later}
@@ -124,3 +125,9 @@ every_created journal made = (steady-all _ (told_stays (opened journal.opening))
 pub every_answer_id : (journal : Journal) → IsJournal journal → (k : ℕ) (answer : Answered) → slice_get (answers (state_of journal)) k ≡ Some answer → answer.rid ≡ journal.opening.request.rid + k
 every_answer_id journal made k answer is =
     answer_ids (state_of journal) (every_clear journal made).0 (every_first_answer journal made) k answer is ∙ ap (λ (c : RequestCopy). id_of c + k) (every_creation journal made)
+
+pub every_closed : (s : PlainSession) (stream : ℕ) (closing : Closing) (now : ℕ) → (ToBack (back_closed s stream closing now).1 ≡ ToBack takings.Done) ↔ ((is_over s ≡ false) × (is_full s plain_cost ≡ false) × (takes_items (time_applied s now) stream ≡ true))
+every_closed s stream closing now = (
+  λ is. (closed_done s stream closing now).0 (to_back (back_closed s stream closing now).1 takings.Done is),
+  λ may. ap ToBack ((closed_done s stream closing now).1 may),
+)

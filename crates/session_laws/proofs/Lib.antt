@@ -30,3 +30,5 @@ pub mod RunAtEnd
 pub mod AnswersGiven
 pub mod ReplyLemmas
 pub mod KeptBoth
+pub mod OneRun
+pub mod ServedLemmas

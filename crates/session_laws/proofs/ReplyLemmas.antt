@@ -6,6 +6,7 @@ use Rattle.std.proofs.lemmas.Bool.{leb-true, leb-false}
 use Rattle.std.proofs.lemmas.Bool.Decides.{nat_tests}
 use Rattle.bosh_types.specs.ById.{at_id}
 use Rattle.bosh_types.specs.Rid.{greatest_rid}
+use Rattle.bosh_types.specs.declared.ending.Closing.{Closing}
 use Rattle.bosh_types.specs.declared.ending.Ending.{Ending}
 use Rattle.bosh_types.specs.declared.ending.Ending.TheVariants as endings
 use Rattle.bosh_types.specs.declared.kept.KeptAnswer.{KeptAnswer}
@@ -21,7 +22,7 @@ use Rattle.session_core.specs.Answers.{settled}
 use Rattle.session_core.specs.Copy.{id_of}
 use Rattle.session_core.specs.Endings.{last_word, ended}
 use Rattle.session_core.specs.Kept.{kept_answer, answer_at, lowest_kept}
-use Rattle.session_core.specs.Machine.{advanced, placed, bytes_for, wait_at, copy_now, arrived_in_time, arrive, with_cost, body_cost, stanza_cost, plain_cost, is_full, reopened, replace, takes_items, has_room, back, tick, full_with}
+use Rattle.session_core.specs.Machine.{advanced, placed, bytes_for, wait_at, copy_now, arrived_in_time, arrive, with_cost, body_cost, stanza_cost, plain_cost, is_full, reopened, replace, takes_items, has_room, back, tick, full_with, back_closed}
 use Rattle.session_core.specs.State.{PlainSession, Answered, answers, first_of, last_of, answered_of, standing_at, is_over}
 use Rattle.session_core.specs.Time.{time_applied, is_due}
 use Rattle.session_core.specs.Window.{is_open}
@@ -222,19 +223,13 @@ full_by false false false room s f t g = (λ is. absurd (over_full is), λ may. 
 full_by false false true true s f t g = (λ is. absurd (done_full is), λ may. absurd (true_false may.1))
 full_by false false true false s f t g = (λ is. ((refl, refl, refl), refl), λ may. refl)
 
+over_done : takings.Over ≡ takings.Done → ⊥
+over_done is = cc
+
 done_by : (over full takes room : Bool) (s f t g : PlainSession) → ((Taking over full takes room s f t g).1 ≡ takings.Done) ↔ (((over ≡ false) × (full ≡ false) × (takes ≡ true)) × (room ≡ true))
 done_by true full takes room s f t g = (λ is. absurd (over_done is), λ may. absurd (true_false (may.0).0))
-  where
-    over_done : takings.Over ≡ takings.Done → ⊥
-    over_done is = cc
 done_by false true takes room s f t g = (λ is. absurd (over_done is), λ may. absurd (true_false (may.0).1))
-  where
-    over_done : takings.Over ≡ takings.Done → ⊥
-    over_done is = cc
 done_by false false false room s f t g = (λ is. absurd (over_done is), λ may. absurd (true_false (sym (may.0).2)))
-  where
-    over_done : takings.Over ≡ takings.Done → ⊥
-    over_done is = cc
 done_by false false true true s f t g = (λ is. ((refl, refl, refl), refl), λ may. refl)
 done_by false false true false s f t g = (λ is. absurd (done_full (sym is)), λ may. absurd (true_false (sym may.1)))
 
@@ -263,3 +258,16 @@ quiet_by false full s f g = (λ is. refl, λ due. refl)
 -- nothing is due
 pub tick_quiet : (s : PlainSession) (now : ℕ) → ((tick s now).1 ≡ Quiet) ↔ (is_due s now ≡ false)
 tick_quiet s now = quiet_by (is_due s now) (is_full s plain_cost) _ _ _
+
+abbrev Closes : Bool → Bool → Bool → PlainSession → PlainSession → PlainSession → PlainSession → PlainSession × Taken
+Closes over full takes s f t g = if over then (s, takings.Over) else if full then (f, takings.Over) else if takes then (g, takings.Done) else (t, takings.Over)
+
+closed_by : (over full takes : Bool) (s f t g : PlainSession) → ((Closes over full takes s f t g).1 ≡ takings.Done) ↔ ((over ≡ false) × (full ≡ false) × (takes ≡ true))
+closed_by true full takes s f t g = (λ is. absurd (over_done is), λ may. absurd (true_false may.0))
+closed_by false true takes s f t g = (λ is. absurd (over_done is), λ may. absurd (true_false may.1))
+closed_by false false false s f t g = (λ is. absurd (over_done is), λ may. absurd (true_false (sym may.2)))
+closed_by false false true s f t g = (λ is. (refl, refl, refl), λ may. refl)
+
+-- a closing is taken
+pub closed_done : (s : PlainSession) (stream : ℕ) (closing : Closing) (now : ℕ) → ((back_closed s stream closing now).1 ≡ takings.Done) ↔ ((is_over s ≡ false) × (is_full s plain_cost ≡ false) × (takes_items (time_applied s now) stream ≡ true))
+closed_done s stream closing now = closed_by (is_over s) (is_full s plain_cost) (takes_items (time_applied s now) stream) _ _ _ _

@@ -1,21 +1,25 @@
 -- The laws of a session: what every journal that calls made keeps.
-use Rattle.std.specs.Prelude.{◌≡◌, ◌↔◌, ◌+◌, ◌<◌, ◌≤◌, ℕ, true, false, ◌++◌, List, Some, None, IsSome, length, take, slice_get}
+use Rattle.std.specs.Prelude.{◌≡◌, ◌↔◌, ◌+◌, ◌<◌, ◌≤◌, ℕ, true, false, ◌++◌, List, [], Some, None, IsSome, length, take, slice_get}
+use Rattle.bosh_types.specs.declared.ending.Closing.{Closing}
 use Rattle.bosh_types.specs.declared.ending.Ending.{Ending}
 use Rattle.bosh_types.specs.declared.inward.Inward.{Inward}
 use Rattle.bosh_types.specs.declared.kept.KeptAnswer.{KeptAnswer}
 use Rattle.session_attrs.specs.declared.request.Request.{Request}
 use Rattle.session_core.specs.declared.replies.Arrived.TheVariants as arrivals
+use Rattle.session_core.specs.declared.copy.RequestCopy.{RequestCopy}
 use Rattle.session_core.specs.declared.outward.Front.TheVariants.{OfStanzas}
 use Rattle.session_core.specs.declared.outward.Outward.{Outward}
 use Rattle.session_core.specs.declared.replies.Collected.{Collected}
 use Rattle.session_core.specs.declared.replies.Taken.TheVariants as takings
 use Rattle.session_core.specs.declared.replies.Ticked.TheVariants.{Quiet}
 use Rattle.session_core.specs.Answers.{has_reason, front_of}
+use Rattle.session_core.specs.Copy.{is_pause}
 use Rattle.session_core.specs.Endings.{last_word}
 use Rattle.session_core.specs.Facts.{Fact}
-use Rattle.session_core.specs.Journal.{Call, Arrive, Collect, Back, Tick, TakeInward, Entry, Entered, Journal, IsJournal, IsAllowed, ToArrive, ToCollect, ToBack, ToTick, ToTakeInward, counted, state_of, step, entered_by, after_entry, reply_of}
+use Rattle.session_core.specs.Journal.{Call, Arrive, Collect, Back, BackClosed, Tick, TakeInward, Entry, Entered, Journal, IsJournal, IsAllowed, ToArrive, ToCollect, ToBack, ToTick, ToTakeInward, counted, state_of, step, entered_by, after_entry, reply_of}
 use Rattle.session_core.specs.Kept.{kept_of}
-use Rattle.session_core.specs.Machine.{first_answer, body_cost, is_full, bytes_for, has_room}
+use Rattle.session_core.specs.Machine.{first_answer, body_cost, is_full, plain_cost, bytes_for, has_room, takes_items}
+use Rattle.session_core.specs.Outward.{items_in}
 use Rattle.session_core.specs.Passed.{passed_of, given_in}
 use Rattle.session_core.specs.Points.{tested_at}
 use Rattle.session_core.specs.Run.{IsRun, IsLongestRun, KeepsRules, IsRunAtEnd, arrivals_of, run_of}
@@ -79,8 +83,14 @@ pub record KeptLaws (journal : Journal) : Type 0 where
   pub created : (state_of journal).created ≡ first_answer journal.opening
   pub answer_ids : (k : ℕ) (answer : Answered) → slice_get (answers (state_of journal)) k ≡ Some answer → answer.rid ≡ journal.opening.request.rid + k
   pub answers_processed : length (state_of journal).answered ≤ length (state_of journal).processed
-  -- each answer was given for a reason, to the oldest held request, with what was due to it
+  -- each answer was given for a reason, to the oldest held request, with what was due to it; one item at least, where one
+  -- waited and the request was no pause
   pub answered : (k : ℕ) (answer : Answered) → slice_get (state_of journal).answered k ≡ Some answer → WasGiven (state_of journal) k answer
+  pub served : (k : ℕ) (answer : Answered) (given : WasGiven (state_of journal) k answer) → is_pause given.oldest ≡ false → 1 ≤ length (waiting given.earlier)
+      → 1 ≤ length (items_in answer.front)
+  -- a pause takes nothing
+  pub pauses : (k : ℕ) (copy : RequestCopy) (answer : Answered) → slice_get (state_of journal).processed k ≡ Some copy → slice_get (state_of journal).answered k ≡ Some answer
+      → is_pause copy ≡ true → answer.front ≡ OfStanzas []
   -- what is due of the items that wait is the longest front that one answer may take, where no closing comes first
   pub fronts : (items front : List Outward) → front_of items ≡ OfStanzas front → IsLongestFront items front
   -- an id that wasn't answered before the ending is given its last word
@@ -101,5 +111,7 @@ pub record KeptLaws (journal : Journal) : Type 0 where
       ↔ (MayTake (state_of journal) stream stanza now × (has_room (time_applied (state_of journal) now) stanza ≡ false))
   pub done : (stream : ℕ) (stanza : List ℕ) (now : ℕ) → (reply_of journal (Back stream stanza now) ≡ ToBack takings.Done)
       ↔ (MayTake (state_of journal) stream stanza now × (has_room (time_applied (state_of journal) now) stanza ≡ true))
+  pub closed : (stream : ℕ) (closing : Closing) (now : ℕ) → (reply_of journal (BackClosed stream closing now) ≡ ToBack takings.Done)
+      ↔ ((is_over (state_of journal) ≡ false) × (is_full (state_of journal) plain_cost ≡ false) × (takes_items (time_applied (state_of journal) now) stream ≡ true))
   -- nothing changes by time alone exactly where nothing is due
   pub quiet : (now : ℕ) → (reply_of journal (Tick now) ≡ ToTick Quiet) ↔ (is_due (state_of journal) now ≡ false)

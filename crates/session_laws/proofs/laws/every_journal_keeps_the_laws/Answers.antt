@@ -1,4 +1,4 @@
-use Rattle.std.proofs.Common.{◌∙◌, ap, take, slice_get}
+use Rattle.std.proofs.Common.{arith, ◌∙◌, ap, take, slice_get}
 use Rattle.session_core.specs.Journal.{state_of, ToArrive, ToTakeInward}
 use Rattle.session_core.specs.Machine.{opened}
 use Rattle.session_core.specs.State.{inward}
@@ -13,7 +13,7 @@ use Rattle.session_laws.proofs.Followed.{every_run, every_longest}
 use Rattle.session_laws.proofs.GivenIn.{every_given}
 use Rattle.session_laws.proofs.GivenLemmas.{IsGiven, given_steady, given_is, opened_given}
 use Rattle.session_laws.proofs.Grows.{steady-all, every_grows, ending_stays}
-use Rattle.session_laws.proofs.LawsOf.{every_created, every_answer_id, every_parked, every_answer_told, every_over, every_full, every_done, every_quiet, collects_both, every_first_answer, every_same_bytes, living_before}
+use Rattle.session_laws.proofs.LawsOf.{every_created, every_answer_id, every_parked, every_answer_told, every_over, every_full, every_done, every_closed, every_quiet, collects_both, every_first_answer, every_same_bytes, living_before}
 use Rattle.session_laws.proofs.Reasons.{every_settled}
 use Rattle.session_laws.proofs.SoundLemmas.{IsSound, sound_steady}
 use Rattle.session_laws.proofs.Steadily.{steady-time}
@@ -23,6 +23,8 @@ use Rattle.session_laws.proofs.RunAtEnd.{every_at_end, every_ruled}
 use Rattle.session_laws.proofs.AnswersGiven.{every_answer, front_longest}
 use Rattle.session_laws.proofs.ReplyLemmas.{last_words}
 use Rattle.session_laws.proofs.KeptBoth.{every_kept}
+use Rattle.session_laws.proofs.ServedLemmas.{every_served, pause_takes}
+use Rattle.session_laws.proofs.Lists.{get_within}
 use Rattle.session_laws.proofs.laws.every_journal_keeps_the_laws.Goals as goal
 
 pub returns : goal.returns
@@ -57,6 +59,8 @@ returns c = record {
     answer_ids = every_answer_id journal made;
     answers_processed = ((every_clear journal made).0).few;
     answered = every_answer journal made;
+    served = every_served journal made;
+    pauses = λ k copy answer at given. pause_takes (state_of journal) k copy answer (every_answer journal made k answer given) (omega (arith, get_within (state_of journal).answered k answer given)) at;
     fronts = front_longest;
     last_words = λ rid ending is beyond. last_words (state_of journal) rid ending (every_clear journal made).0 (every_first_answer journal made) is beyond;
     parked = every_parked journal made;
@@ -64,6 +68,7 @@ returns c = record {
     over = every_over journal made;
     full = every_full (state_of journal);
     done = every_done (state_of journal);
+    closed = every_closed (state_of journal);
     quiet = every_quiet (state_of journal);
   };
 }
