@@ -1,0 +1,157 @@
+-- How far the client acknowledged, by the copies that were processed.
+use Rattle.std.proofs.Common.{◌≡◌, ℕ, suc, ◌+◌, ◌<◌, ◌≤◌, Bool, true, false, List, [], ◌∷◌, ◌++◌, Option, Some, None, length, take, map, slice_get, refl, sym, ◌∙◌, ap, ap₂, arith, append_assoc, subst, ◌⊎◌, inl, inr}
+use Rattle.std.proofs.lemmas.Bool.{cases_lt}
+use Rattle.std.proofs.lemmas.List.{take_at, take-append-le}
+use Rattle.ack_report.specs.Report.{keep_on}
+use Rattle.reply_keep.specs.PlainKeep.{PlainKeep, last_id, last_after}
+use Rattle.session_core.specs.declared.copy.RequestCopy.{RequestCopy}
+use Rattle.session_core.specs.Journal.{Entry, Journal}
+use Rattle.session_core.specs.Kept.{kept_answer}
+use Rattle.session_core.specs.Machine.{Opening, creation_of}
+use Rattle.session_core.specs.Run.{moment_after, arrival_in, arrivals_from, arrivals_with, HasNot, Completes, state_testing, KeepsRules}
+use Rattle.session_core.specs.State.{PlainSession, Answered, answers, answered_of}
+use Rattle.session_laws.specs.Acknowledging.{AckedIn}
+use Rattle.session_laws.proofs.JournalLemmas.{journal_with, has_not_before}
+use Rattle.session_laws.proofs.Lists.{get_push, get_push_still, get_within, get_last}
+use Rattle.session_laws.proofs.Followed.{moment_of}
+use Rattle.session_laws.proofs.SoundLemmas.{IsSound}
+use Rattle.session_laws.proofs.Bytes.{IsFirstAnswer}
+
+-- One entry completes a run of ids.
+
+head_is : {X : Type 0} (e x : X) (a l b : List X) → e ∷ a ≡ x ∷ l → x ∷ b ≡ e ∷ b
+head_is e x a l b is = cc
+
+-- of two places in a list, one is the other or comes after it
+pub two_places : {X : Type 0} (b b' : List X) (e e' : X) (a a' : List X) → b ++ e ∷ a ≡ b' ++ e' ∷ a' → ((b ≡ b') × (e ≡ e')) ⊎ (((m : List X) × (b' ≡ b ++ e ∷ m)) ⊎ ((m : List X) × (b ≡ b' ++ e' ∷ m)))
+two_places [] [] e e' a a' is = inl (refl, cc)
+two_places [] (x ∷ b') e e' a a' is = inr (inl (b', head_is e x a (b' ++ e' ∷ a') b' is))
+two_places (x ∷ b) [] e e' a a' is = inr (inr (b, cc))
+two_places (x ∷ b) (y ∷ b') e e' a a' is =
+    let same : x ≡ y = cc in
+    let rest : b ++ e ∷ a ≡ b' ++ e' ∷ a' = cc in
+    elim (two_places b b' e e' a a' rest) [
+      | inl here ↦ inl (ap₂ (λ z l. z ∷ l) same here.0, here.1)
+      | inr apart ↦ elim apart [
+        | inl later ↦ inr (inl (later.0, ap₂ (λ z l. z ∷ l) (sym same) later.1))
+        | inr earlier ↦ inr (inr (earlier.0, ap₂ (λ z l. z ∷ l) same earlier.1))
+      ]
+    ]
+
+arrivals-append : (moment : ℕ) (past later : List Entry) → arrivals_from moment (past ++ later) ≡ arrivals_from moment past ++ arrivals_from (moment_of moment past) later
+arrivals-append moment [] later = refl
+arrivals-append moment (entry ∷ past) later =
+    ap (λ l. arrival_in moment entry.entered ++ l) (arrivals-append (moment_after moment entry.entered) past later)
+    ∙ sym (append_assoc (arrival_in moment entry.entered) (arrivals_from (moment_after moment entry.entered) past) (arrivals_from (moment_of (moment_after moment entry.entered) past) later))
+
+-- what had not arrived with an entry had not before
+not_earlier : (o : Opening) (b : List Entry) (e : Entry) (m b' : List Entry) (rid : ℕ) → b' ≡ b ++ e ∷ m → HasNot (arrivals_with o b') rid → HasNot (arrivals_with o (b ++ e ∷ [])) rid
+not_earlier o b e m b' rid is none =
+    let all : arrivals_with o b' ≡ arrivals_with o (b ++ e ∷ []) ++ arrivals_from (moment_of o.now (b ++ e ∷ [])) m =
+    ap (arrivals_with o) (is ∙ sym (append_assoc b (e ∷ []) m)) ∙ ap (λ l. creation_of o ∷ l) (arrivals-append o.now (b ++ e ∷ []) m) in
+    has_not_before (arrivals_with o (b ++ e ∷ [])) _ rid (subst (λ l. HasNot l rid) all none)
+
+pub complete_one : (o : Opening) (entries : List Entry) (lower : List RequestCopy) (b : List Entry) (e : Entry) (a : List Entry) (b' : List Entry) (e' : Entry) (a' : List Entry) → entries ≡ b ++ e ∷ a → entries ≡ b' ++ e' ∷ a'
+    → Completes o b e lower → Completes o b' e' lower → (b ≡ b') × (e ≡ e')
+complete_one o entries lower b e a b' e' a' is is' completes completes' = elim (two_places b b' e e' a a' (sym is ∙ is')) [
+  | inl same ↦ same
+  | inr apart ↦ elim apart [
+    | inl later ↦ absurd (completes.arrived (completes'.not_yet).0 (completes'.not_yet).1 (not_earlier o b e later.0 b' _ later.1 (completes'.not_yet).2))
+    | inr earlier ↦ absurd (completes'.arrived (completes.not_yet).0 (completes.not_yet).1 (not_earlier o b' e' earlier.0 b _ earlier.1 (completes.not_yet).2))
+  ]
+]
+
+-- what is acknowledged, by these copies
+pub record Acknowledges (journal : Journal) (on : Bool) (acknowledged : ℕ) (processed : List RequestCopy) : Type 0 where
+  pub forth : on ≡ true → (rid : ℕ) → 1 ≤ rid → rid ≤ acknowledged → AckedIn journal processed rid
+  pub back : on ≡ true → (rid : ℕ) → AckedIn journal processed rid → rid ≤ acknowledged
+  pub off : on ≡ false → acknowledged ≡ 0
+
+-- one more entry changes nothing of what was processed before it
+pub acks_more : (o : Opening) (past : List Entry) (entry : Entry) (on : Bool) (acknowledged : ℕ) (processed : List RequestCopy) → KeepsRules (journal_with o past) processed → Acknowledges (journal_with o past) on acknowledged processed
+    → Acknowledges (journal_with o (past ++ entry ∷ [])) on acknowledged processed
+acks_more o past entry on acknowledged processed keeps acks = record {
+  forth = λ is rid some within.
+      let a = acks.forth is rid some within in
+      (a.0, a.1, a.2, a.3, a.4, a.5 ++ entry ∷ [], a.6, a.7, a.8, ap (λ es. es ++ entry ∷ []) a.9 ∙ append_assoc a.3 (a.4 ∷ a.5) (entry ∷ []), a.10, a.11);
+  back = λ is rid a.
+      let j = keeps.judged a.0 a.1 a.6 in
+      let same = complete_one o (past ++ entry ∷ []) (take a.0 processed) a.3 a.4 a.5 j.0 j.1 (j.2 ++ entry ∷ []) a.9 (ap (λ es. es ++ entry ∷ []) j.3 ∙ append_assoc j.0 (j.1 ∷ j.2) (entry ∷ [])) a.10 j.4 in
+      let within : rid ≤ answered_of (state_testing o j.0 j.1) = subst (λ (s : PlainSession). rid ≤ answered_of s) (ap₂ (state_testing o) same.0 same.1) a.11 in
+      acks.back is rid (a.0, a.1, a.2, j.0, j.1, j.2, a.6, a.7, a.8, j.3, j.4, within);
+  off = acks.off;
+}
+
+acked_push : (journal : Journal) (processed : List RequestCopy) (c : RequestCopy) (rid : ℕ) → AckedIn journal processed rid → AckedIn journal (processed ++ c ∷ []) rid
+acked_push journal processed c rid a =
+    let within : a.0 < length processed = get_within processed a.0 a.1 a.6 in
+    (a.0, a.1, a.2, a.3, a.4, a.5, get_push_still processed c a.0 a.1 a.6, a.7, a.8, a.9, subst (Completes journal.opening a.3 a.4) (sym (take-append-le a.0 processed (c ∷ []) (omega arith))) a.10, a.11)
+
+-- by an earlier copy, or by the new one
+acked_pop : (journal : Journal) (processed : List RequestCopy) (c : RequestCopy) (rid : ℕ) → AckedIn journal (processed ++ c ∷ []) rid
+    → AckedIn journal processed rid
+    ⊎ ((ack : ℕ) × (before : List Entry) × (entry : Entry) × (after : List Entry) × (c.request.ack ≡ Some ack) × (rid ≤ ack) × (journal.entries ≡ before ++ entry ∷ after) × Completes journal.opening before entry processed
+    × (rid ≤ answered_of (state_testing journal.opening before entry)))
+acked_pop journal processed c rid a = elim (get_push processed c a.0 a.1 a.6) [
+  | inl there ↦
+      let within : a.0 < length processed = get_within processed a.0 a.1 there in
+      inl (a.0, a.1, a.2, a.3, a.4, a.5, there, a.7, a.8, a.9, subst (Completes journal.opening a.3 a.4) (take-append-le a.0 processed (c ∷ []) (omega arith)) a.10, a.11)
+  | inr last ↦
+      inr (a.2, a.3, a.4, a.5, ap (λ (x : RequestCopy). x.request.ack) last.1 ∙ a.7, a.8, a.9, subst (Completes journal.opening a.3 a.4) (take_at processed (c ∷ []) a.0 (sym last.0)) a.10, a.11)
+]
+
+some_none : (o : Option ℕ) (n : ℕ) → o ≡ Some n → o ≡ None → ⊥
+some_none o n some none = cc
+
+some_same : (o : Option ℕ) (n m : ℕ) → o ≡ Some n → o ≡ Some m → n ≡ m
+some_same o n m one other = cc
+
+true_false : true ≡ false → ⊥
+true_false no' = cc
+
+-- one more copy is processed with this entry
+pub acks_push : (o : Opening) (past : List Entry) (entry : Entry) (processed : List RequestCopy) (c : RequestCopy) → Completes o past entry processed → (on : Bool) (plain : PlainKeep) → last_id plain.put ≡ answered_of (state_testing o past entry)
+    → Acknowledges (journal_with o (past ++ entry ∷ [])) on plain.acknowledged processed → (ack : Option ℕ) → c.request.ack ≡ ack
+    → Acknowledges (journal_with o (past ++ entry ∷ [])) on (keep_on on plain ack).acknowledged (processed ++ c ∷ [])
+acks_push o past entry processed c completes false plain last acks ack is = record {
+  forth = λ on. absurd (true_false (sym on));
+  back = λ on. absurd (true_false (sym on));
+  off = acks.off;
+}
+acks_push o past entry processed c completes true plain last acks None is = record {
+  forth = λ on rid some within. acked_push (journal_with o (past ++ entry ∷ [])) processed c rid (acks.forth on rid some within);
+  back = λ on rid a. elim (acked_pop (journal_with o (past ++ entry ∷ [])) processed c rid a) [
+    | inl earlier ↦ acks.back on rid earlier
+    | inr new ↦ absurd (some_none c.request.ack new.0 new.4 is)
+  ];
+  off = λ on. absurd (true_false on);
+}
+acks_push o past entry processed c completes true plain last acks (Some ack) is = record {
+  forth = λ on rid some within. elim (cases_lt plain.acknowledged rid) [
+    | inr old ↦ acked_push (journal_with o (past ++ entry ∷ [])) processed c rid (acks.forth on rid some old)
+    | inl new ↦ (length processed, c, ack, past, entry, [], get_last processed c, is, omega arith, refl, subst (Completes o past entry) (sym (take_at processed (c ∷ []) (length processed) refl)) completes, omega (arith, last))
+  ];
+  back = λ on rid a. elim (acked_pop (journal_with o (past ++ entry ∷ [])) processed c rid a) [
+    | inl earlier ↦ (
+        let old : rid ≤ plain.acknowledged = acks.back on rid earlier in
+        omega arith)
+    | inr new ↦
+        let same = complete_one o (past ++ entry ∷ []) processed new.1 new.2 new.3 past entry [] new.6 refl new.7 completes in
+        let within : rid ≤ answered_of (state_testing o past entry) = subst (λ (s : PlainSession). rid ≤ answered_of s) (ap₂ (state_testing o) same.0 same.1) new.8 in
+        let ack_is : new.0 ≡ ack = some_same c.request.ack new.0 ack new.4 is in
+        let reached : rid ≤ ack = omega (arith, new.5, ack_is) in
+        omega (arith, last)
+  ];
+  off = λ on. absurd (true_false on);
+}
+
+-- The id that was answered last.
+
+last_after-ids : (given : List Answered) (n : ℕ) → ((k : ℕ) (answer : Answered) → slice_get given k ≡ Some answer → answer.rid ≡ n + 1 + k) → last_after n (map kept_answer given) ≡ n + length given
+last_after-ids [] n ids = omega arith
+last_after-ids (answer ∷ given) n ids =
+    let here : answer.rid ≡ n + 1 = omega (arith, ids 0 answer refl) in
+    last_after-ids given answer.rid (λ k other at. omega (arith, ids (suc k) other at, here)) ∙ omega (arith, here)
+
+pub last_answered : (s : PlainSession) → IsSound s → IsFirstAnswer s → last_id (map kept_answer (answers s)) ≡ answered_of s
+last_answered s sound first = last_after-ids s.answered s.created.rid (λ k answer at. omega (arith, sound.ids k answer at, first)) ∙ omega (arith, first)

@@ -1,0 +1,238 @@
+-- How copies are processed: each broke no rule when it was tested, and why no more follow.
+use Rattle.std.proofs.Common.{◌≡◌, ◌≢◌, ℕ, zero, suc, ◌+◌, ◌<◌, ◌≤◌, true, false, List, [], ◌∷◌, ◌++◌, Option, Some, None, length, take, drop, map, slice_get, refl, sym, ◌∙◌, ap, ap₂, arith, subst, append_assoc, inl, inr}
+use Rattle.std.specs.List.{list_any}
+use Rattle.std.proofs.lemmas.Bool.{cases_lt}
+use Rattle.std.proofs.lemmas.List.{take_at, take-append-le, length_push}
+use Rattle.bosh_types.specs.ById.{at_id}
+use Rattle.bosh_types.specs.declared.ending.Ending.{Ending}
+use Rattle.bosh_types.specs.declared.terms.Terms.{Terms}
+use Rattle.key_sequence.specs.Current.{current_after}
+use Rattle.session_attrs.specs.declared.request.Request.{Request}
+use Rattle.session_core.specs.declared.copy.RequestCopy.{RequestCopy}
+use Rattle.session_core.specs.Copy.{id_of, with_id}
+use Rattle.session_core.specs.Journal.{Arrive, Made, Entered, Entry, Journal, after_entries}
+use Rattle.session_core.specs.Machine.{Opening, opened, creation_of, with_copy}
+use Rattle.session_core.specs.Points.{tested_at}
+use Rattle.session_core.specs.Rules.{Asks, asked_with, asked_of, broken_rule, prior_mark}
+use Rattle.session_core.specs.Run.{arrival_in, arrivals_with, IsFirstCopy, HasNot, key_after, state_testing, IsJudged, KeepsRules, Stops, AtTerminate, AtBreaker, AtEnd}
+use Rattle.session_core.specs.State.{PlainSession, Answered, first_of, last_of, answered_of, standing_at, is_over}
+use Rattle.session_core.specs.Time.{time_applied}
+use Rattle.session_core.specs.Kept.{keep_of}
+use Rattle.session_laws.proofs.AckLemmas.{Acknowledges, acks_push, last_answered}
+use Rattle.session_laws.proofs.Bytes.{IsFirstAnswer}
+use Rattle.session_laws.proofs.JournalLemmas.{journal_with}
+use Rattle.session_laws.proofs.Tests.{neither}
+use Rattle.session_laws.proofs.Lists.{get_push, get_within, get_some}
+use Rattle.session_laws.proofs.Moves.{Steady, Processing}
+use Rattle.session_laws.proofs.SoundLemmas.{IsSound}
+use Rattle.session_laws.proofs.Clear.{IsClear}
+use Rattle.session_laws.proofs.Followed.{IsFollowed, first_later, moment_of, arrivals-push}
+use Rattle.session_laws.proofs.EndsBack.{Processed, processed_processing, true_false, over_or_on}
+use Rattle.session_laws.proofs.Carried.{all_first}
+
+-- the key is the one that the processed copies leave
+key-push : (key : Option (List ℕ)) (copies : List RequestCopy) (copy : RequestCopy) → key_after key (copies ++ copy ∷ []) ≡ current_after (key_after key copies) copy.request.key copy.request.newkey
+key-push key [] copy = refl
+key-push key (first ∷ copies) copy = key-push (current_after key first.request.key first.request.newkey) copies copy
+
+abbrev pub HasKey : Option (List ℕ) → PlainSession → Type 0
+HasKey newkey s = s.key ≡ key_after newkey s.processed
+
+pub key_steady : (newkey : Option (List ℕ)) → Steady (HasKey newkey)
+key_steady newkey = record {
+  ends = λ t ending on p. p;
+  aside = λ t tickets now last_arrival passed counted p. p;
+  answers = λ t oldest later front is on reason taken p. p;
+  processes = λ t copy on stands broken p. ap (λ key. current_after key copy.request.key copy.request.newkey) p ∙ sym (key-push newkey t.processed copy);
+  stands = λ t copy above none small p. p;
+  gives = λ t item p. p;
+}
+
+-- one more entry
+judged_more : (o : Opening) (past : List Entry) (entry : Entry) (lower : List RequestCopy) (copy : RequestCopy) (verdict : Option Ending) → IsJudged (journal_with o past) lower copy verdict
+    → IsJudged (journal_with o (past ++ entry ∷ [])) lower copy verdict
+judged_more o past entry lower copy verdict j =
+    (j.0, j.1, j.2 ++ entry ∷ [], ap (λ es. es ++ entry ∷ []) j.3 ∙ append_assoc j.0 (j.1 ∷ j.2) (entry ∷ []), j.4, j.5)
+
+pub keeps_more : (o : Opening) (past : List Entry) (entry : Entry) (later : List RequestCopy) → KeepsRules (journal_with o past) later → KeepsRules (journal_with o (past ++ entry ∷ [])) later
+keeps_more o past entry later keeps = record {
+  judged = λ k copy is. judged_more o past entry (take k later) copy None (keeps.judged k copy is);
+  terminate = keeps.terminate;
+}
+
+pub arrivals_more : (o : Opening) (past : List Entry) (entry : Entry) → arrivals_with o (past ++ entry ∷ []) ≡ arrivals_with o past ++ arrival_in (moment_of o.now past) entry.entered
+arrivals_more o past entry = ap (λ arrivals. creation_of o ∷ arrivals) (arrivals-push o.now past entry)
+
+pub stops_more : (o : Opening) (past : List Entry) (entry : Entry) (later : List RequestCopy) → Stops (journal_with o past) later → Stops (journal_with o (past ++ entry ∷ [])) later
+stops_more o past entry later (AtTerminate before copy same last) = AtTerminate before copy same last
+stops_more o past entry later (AtBreaker copy ending first judged) =
+    AtBreaker copy ending (subst (λ arrivals. IsFirstCopy arrivals (o.request.rid + 1 + length later) copy) (sym (arrivals_more o past entry)) (first_later (arrivals_with o past) _ (o.request.rid + 1 + length later) copy first))
+    (judged_more o past entry later copy (Some ending) judged)
+stops_more o past entry later (AtEnd before last after same ends none none_now) =
+    AtEnd before last (after ++ entry ∷ []) (ap (λ es. es ++ entry ∷ []) same ∙ append_assoc before (last ∷ after) (entry ∷ [])) ends none none_now
+
+pub first_not : (arrivals : List RequestCopy) (rid : ℕ) (copy : RequestCopy) → IsFirstCopy arrivals rid copy → HasNot arrivals rid → ⊥
+first_not arrivals rid copy first none = all_first (λ (c : RequestCopy). id_of c ≢ rid) arrivals rid copy none first first.0
+
+-- the same terms and answers ask the same
+asked_same : (s t : PlainSession) (key : Option (List ℕ)) (copies : List RequestCopy) → t.creation ≡ s.creation → t.terms ≡ s.terms → t.created ≡ s.created → t.answered ≡ s.answered → asked_with s key copies ≡ asked_with t key copies
+asked_same s t key copies creation terms created answered =
+    ap (asked_by s.terms s.creation s.created) (sym answered) ∙ ap (λ c. asked_by s.terms s.creation c t.answered) (sym created)
+    ∙ ap (λ c. asked_by s.terms c t.created t.answered) (sym creation) ∙ ap (λ x. asked_by x t.creation t.created t.answered) (sym terms)
+  where
+    asked_by : Terms → RequestCopy → Answered → List Answered → Asks
+    asked_by terms creation created answered = record { key = key; terms = terms; held = length (drop (length answered) copies); prior = prior_mark creation copies created answered }
+
+pub any_none : (copies : List RequestCopy) (k : ℕ) (copy : RequestCopy) → list_any (λ (c : RequestCopy). c.request.terminate) copies ≡ false → slice_get copies k ≡ Some copy → copy.request.terminate ≡ true → ⊥
+any_none [] k copy none is last = absurd (cc)
+any_none (first ∷ copies) zero copy none is last =
+    let same : first ≡ copy = some_is first copy is in
+    true_false (sym last ∙ ap (λ (c : RequestCopy). c.request.terminate) (sym same) ∙ (neither first.request.terminate (list_any (λ (c : RequestCopy). c.request.terminate) copies) none).0)
+  where
+    some_is : (x y : RequestCopy) → Some x ≡ Some y → x ≡ y
+    some_is x y is = cc
+any_none (first ∷ copies) (suc k) copy none is last = any_none copies k copy (neither first.request.terminate (list_any (λ (c : RequestCopy). c.request.terminate) copies) none).1 is last
+
+-- Where no copy is processed.
+
+pub next_place : (o : Opening) (s : PlainSession) → s.creation ≡ creation_of o → last_of s + 1 ≡ o.request.rid + 1 + length s.processed
+next_place o s creation = omega (arith, ap id_of creation)
+
+-- nothing arrived with the id after the run of a session that goes on
+pub next_not : (o : Opening) (arrived : List RequestCopy) (s : PlainSession) → s.creation ≡ creation_of o → IsFollowed arrived s → IsClear s → is_over s ≡ false → HasNot arrived (o.request.rid + 1 + length s.processed)
+next_not o arrived s creation follows clear on =
+    subst (HasNot arrived) (next_place o s creation) (follows.all on (last_of s + 1) (omega arith) (clear on))
+
+module _ (o : Opening) (past : List Entry) (entry : Entry) (s : PlainSession) (same : s ≡ after_entries (opened o) past) where
+  pub testing_is : (e : Entered) → entry.entered ≡ e → state_testing o past entry ≡ tested_at s e
+  testing_is e is = ap₂ (λ u x. tested_at u x) (sym same) is
+
+  -- the session ended with this entry, and nothing had come that could be processed
+  pub at_end : (e : Entered) → entry.entered ≡ e → is_over s ≡ false → is_over (after_entries (opened o) (past ++ entry ∷ [])) ≡ true → (later : List RequestCopy) → HasNot (arrivals_with o past) (o.request.rid + 1 + length later)
+      → (is_over (tested_at s e) ≡ false → HasNot (arrivals_with o (past ++ entry ∷ [])) (o.request.rid + 1 + length later)) → Stops (journal_with o (past ++ entry ∷ [])) later
+  at_end e is on over later none none_now =
+      AtEnd past entry [] refl (record { goes_on = ap is_over (sym same) ∙ on; ends = over }) none (λ goes. none_now (ap is_over (sym (testing_is e is)) ∙ goes))
+
+-- Where copies are processed: an arrival, tested at this state.
+module _ (o : Opening) (past : List Entry) (entry : Entry) (s : PlainSession) (same : s ≡ after_entries (opened o) past) (request : Request) (body : List ℕ) (now : ℕ) (is : entry.entered ≡ Made (Arrive request body now)) where
+  abbrev pub tested : PlainSession
+  tested = time_applied s now
+
+  abbrev pub journal' : Journal
+  journal' = journal_with o (past ++ entry ∷ [])
+
+  -- what holds of each state in between
+  pub record Walks (p : PlainSession) (creation : RequestCopy) (terms : Terms) (created : Answered) (answered : List Answered) (standing processed : List RequestCopy) (key : Option (List ℕ)) : Type 0 where
+    pub creation_is : creation ≡ tested.creation
+    pub terms_are : terms ≡ tested.terms
+    pub created_is : created ≡ tested.created
+    pub answered_are : answered ≡ tested.answered
+    pub standing_is : standing ≡ p.standing
+    pub key_is : key ≡ key_after o.request.newkey processed
+    pub longer : length tested.processed ≤ length processed
+    pub keeps : KeepsRules journal' processed
+
+  abbrev pub Walk : PlainSession → PlainSession → Type 0
+  Walk p u =
+      Walks p u.creation u.terms u.created u.answered u.standing u.processed u.key × (is_over u ≡ true → Stops journal' u.processed)
+      × Acknowledges journal' u.reporting.on u.acknowledged u.processed
+
+  module _ (p : PlainSession) (creation : tested.creation ≡ creation_of o) (p_creation : p.creation ≡ tested.creation) (follows : IsFollowed (arrivals_with o (past ++ entry ∷ [])) p) (none : HasNot (arrivals_with o past) (o.request.rid + 1 + length tested.processed)) (first : IsFirstAnswer tested) where
+    place : (u : PlainSession) (k : ℕ) → u.creation ≡ tested.creation → first_of u + 1 + k ≡ o.request.rid + 1 + k
+    place u k is_creation = ap (λ (c : RequestCopy). id_of c + 1 + k) (is_creation ∙ creation)
+
+    stood : (u : PlainSession) (k : ℕ) (x : RequestCopy) → u.creation ≡ tested.creation → u.standing ≡ p.standing → standing_at u (first_of u + 1 + k) ≡ Some x → IsFirstCopy (arrivals_with o (past ++ entry ∷ [])) (o.request.rid + 1 + k) x
+    stood u k x is_creation is_standing stands =
+        subst (λ rid. IsFirstCopy (arrivals_with o (past ++ entry ∷ [])) rid x) (place u k is_creation)
+        (follows.each (first_of u + 1 + k) x (ap (λ copies. at_id (map with_id copies) (first_of u + 1 + k)) (sym is_standing) ∙ stands))
+
+    -- the copy is judged with this entry
+    pub judged_now : (u : PlainSession) (c : RequestCopy) (verdict : Option Ending) → IsSound u → Walk p u → standing_at u (last_of u + 1) ≡ Some c → broken_rule (asked_of u) c ≡ verdict → IsJudged journal' u.processed c verdict
+    judged_now u c verdict sound walk stands broken =
+        let w = walk.0 in
+        let next : first_of u + 1 + length u.processed ≡ last_of u + 1 = omega arith in
+        let asked : asked_with (state_testing o past entry) (key_after o.request.newkey u.processed) u.processed ≡ asked_of u =
+        ap (λ t. asked_with t (key_after o.request.newkey u.processed) u.processed) (testing_is o past entry s same (Made (Arrive request body now)) is)
+        ∙ asked_same tested u (key_after o.request.newkey u.processed) u.processed w.creation_is w.terms_are w.created_is w.answered_are
+        ∙ ap (λ key. asked_with u key u.processed) (sym w.key_is) in (
+          past,
+          entry,
+          [],
+          refl,
+          record {
+            arrived = λ k within nothing. elim (cases_lt k (length u.processed)) [
+              | inl earlier ↦
+                  let x = get_some u.processed k earlier in
+                  first_not (arrivals_with o (past ++ entry ∷ [])) (o.request.rid + 1 + k) x.0 (stood u k x.0 w.creation_is w.standing_is (sound.stand k x.0 x.1)) nothing
+              | inr last ↦
+                  let k_is : k ≡ length u.processed = omega arith in
+                  first_not (arrivals_with o (past ++ entry ∷ [])) (o.request.rid + 1 + k) c
+                  (stood u k c w.creation_is w.standing_is (ap (standing_at u) (ap (λ n. first_of u + 1 + n) k_is ∙ next) ∙ stands)) nothing
+            ];
+            not_yet = (length tested.processed, w.longer, none);
+          },
+          ap (λ asks. broken_rule asks c) asked ∙ broken,
+        )
+
+    -- what it acknowledges, and what those before it did
+    acks_with : (u : PlainSession) (c : RequestCopy) → IsSound u → Walk p u → standing_at u (last_of u + 1) ≡ Some c → broken_rule (asked_of u) c ≡ None → Acknowledges journal' u.reporting.on (with_copy u c).acknowledged (u.processed ++ c ∷ [])
+    unfolding judged_now
+    acks_with u c sound walk stands broken =
+        let w = walk.0 in
+        let j = judged_now u c None sound walk stands broken in
+        let u_first : IsFirstAnswer u = ap (λ (a : Answered). a.rid) w.created_is ∙ first ∙ ap id_of (sym w.creation_is) in
+        let count : answered_of u ≡ answered_of tested = ap₂ (λ (x : RequestCopy) (l : List Answered). id_of x + length l) w.creation_is w.answered_are in
+        acks_push o past entry u.processed c j.4 u.reporting.on (keep_of u)
+        (last_answered u sound u_first ∙ count ∙ ap answered_of (sym (testing_is o past entry s same (Made (Arrive request body now)) is))) walk.2 c.request.ack refl
+
+    keeps_push : (u : PlainSession) (c : RequestCopy) → KeepsRules journal' u.processed → list_any (λ (x : RequestCopy). x.request.terminate) u.processed ≡ false → IsJudged journal' u.processed c None → KeepsRules journal' (u.processed ++ c ∷ [])
+    keeps_push u c keeps no_terminate judged = record {
+      judged = λ k x at. elim (get_push u.processed c k x at) [
+        | inl there ↦
+            let within : k < length u.processed = get_within u.processed k x there in
+            subst (λ lower. IsJudged journal' lower x None) (sym (take-append-le k u.processed (c ∷ []) (omega arith))) (keeps.judged k x there)
+        | inr last ↦
+            subst (λ lower. IsJudged journal' lower x None) (sym (take_at u.processed (c ∷ []) k (sym last.0))) (subst (λ y. IsJudged journal' u.processed y None) last.1 judged)
+      ];
+      terminate = λ k x at ends_so. elim (get_push u.processed c k x at) [
+        | inl there ↦ absurd (any_none u.processed k x no_terminate there ends_so)
+        | inr last ↦ omega (arith, last.0, length_push u.processed c)
+      ];
+    }
+
+    walks_push : (u : PlainSession) (c : RequestCopy) → is_over u ≡ false → standing_at u (last_of u + 1) ≡ Some c → broken_rule (asked_of u) c ≡ None → Processed u × Walk p u
+        → Walks p u.creation u.terms u.created u.answered u.standing (u.processed ++ c ∷ []) (with_copy u c).key
+    walks_push u c on stands broken q =
+        let w = (q.1).0 in
+        record {
+          creation_is = w.creation_is;
+          terms_are = w.terms_are;
+          created_is = w.created_is;
+          answered_are = w.answered_are;
+          standing_is = w.standing_is;
+          key_is = ap (λ key. current_after key c.request.key c.request.newkey) w.key_is ∙ sym (key-push o.request.newkey u.processed c);
+          longer = omega (arith, w.longer, length_push u.processed c);
+          keeps = keeps_push u c w.keeps ((q.0).1 on) (judged_now u c None (q.0).0 q.1 stands broken);
+        }
+
+    pub walking : Processing (λ u. Processed u × Walk p u)
+    walking = record {
+      processes = λ u c on stands broken further q. (
+        processed_processing.processes u c on stands broken further q.0,
+        (walks_push u c on stands broken q, (λ over. absurd (over_or_on u over on)), acks_with u c (q.0).0 q.1 stands broken),
+      );
+      terminates = λ u c on stands broken last q. (
+        processed_processing.terminates u c on stands broken last q.0,
+        (walks_push u c on stands broken q, (λ over. AtTerminate u.processed c refl last), acks_with u c (q.0).0 q.1 stands broken),
+      );
+      breaks = λ u c ending on stands broken q. (
+        processed_processing.breaks u c ending on stands broken q.0,
+        (
+          (q.1).0,
+          λ over.
+              let next : first_of u + 1 + length u.processed ≡ last_of u + 1 = omega arith in
+              AtBreaker c ending (stood u (length u.processed) c ((q.1).0).creation_is ((q.1).0).standing_is (ap (standing_at u) next ∙ stands)) (judged_now u c (Some ending) (q.0).0 q.1 stands broken),
+          (q.1).2,
+        ),
+      );
+    }

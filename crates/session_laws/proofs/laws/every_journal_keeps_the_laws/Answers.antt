@@ -1,0 +1,74 @@
+use Rattle.std.proofs.Common.{arith, ◌∙◌, ap, take, slice_get}
+use Rattle.session_core.specs.Journal.{state_of, ToArrive, ToTakeInward}
+use Rattle.session_core.specs.Machine.{opened}
+use Rattle.session_core.specs.State.{inward}
+use Rattle.session_core.specs.Time.{time_applied}
+use Rattle.session_laws.proofs.Bytes.{IsFirstAnswer, first_answer_steady, repeat_gets}
+use Rattle.session_laws.proofs.Calls.{as_entered, unentered, takes_next}
+use Rattle.session_laws.proofs.Carried.{every_one_body}
+use Rattle.session_laws.proofs.Clear.{every_clear}
+use Rattle.session_laws.proofs.Counts.{every_counts}
+use Rattle.session_laws.proofs.Ended.{ended_stays}
+use Rattle.session_laws.proofs.Followed.{every_run, every_longest}
+use Rattle.session_laws.proofs.GivenIn.{every_given}
+use Rattle.session_laws.proofs.GivenLemmas.{IsGiven, given_steady, given_is, opened_given}
+use Rattle.session_laws.proofs.Grows.{steady-all, every_grows, ending_stays}
+use Rattle.session_laws.proofs.LawsOf.{every_created, every_answer_id, every_parked, every_answer_told, every_over, every_full, every_done, every_closed, every_quiet, collects_both, every_first_answer, every_same_bytes, living_before}
+use Rattle.session_laws.proofs.Reasons.{every_settled}
+use Rattle.session_laws.proofs.SoundLemmas.{IsSound, sound_steady}
+use Rattle.session_laws.proofs.Steadily.{steady-time}
+use Rattle.session_laws.proofs.EndsBack.{every_ends}
+use Rattle.session_laws.proofs.EndsForth.{ending_fact, fact_ending}
+use Rattle.session_laws.proofs.RunAtEnd.{every_at_end, every_ruled}
+use Rattle.session_laws.proofs.AnswersGiven.{every_answer, front_longest}
+use Rattle.session_laws.proofs.ReplyLemmas.{last_words}
+use Rattle.session_laws.proofs.KeptBoth.{every_kept}
+use Rattle.session_laws.proofs.ServedLemmas.{every_served, pause_takes}
+use Rattle.session_laws.proofs.Lists.{get_within}
+use Rattle.session_laws.proofs.laws.every_journal_keeps_the_laws.Goals as goal
+
+pub returns : goal.returns
+returns c = record {
+  laws = λ journal made. record {
+    run = every_longest journal made;
+    run_each = every_run journal made;
+    run_rules = (every_ruled journal made).0;
+    run_at_end = every_at_end journal made;
+    one_body = every_one_body journal made (every_run journal made);
+    entered = as_entered (state_of journal);
+    unentered = unentered (state_of journal);
+    grows = every_grows journal;
+    ends = λ call entered ending allowed is on. (
+      λ ends_so. ending_fact (state_of journal) call allowed entered is on (every_ends journal made) ending ends_so,
+      λ fact. fact_ending (state_of journal) call allowed entered is (every_ends journal made) ending fact,
+    );
+    ended = λ call entered allowed is over. ended_stays (state_of journal) call allowed entered is over;
+    counts = (every_counts journal made).0;
+    passed = ap (λ n. take n (inward (state_of journal))) (every_counts journal made).1;
+    takes = ap ToTakeInward (takes_next (state_of journal) (slice_get (inward (state_of journal)) (state_of journal).passed));
+    given = given_is (state_of journal) (steady-all IsGiven given_steady (opened journal.opening) journal.entries made.1 (opened_given journal.opening)) ∙ every_given journal made;
+    settled = every_settled journal made;
+    kept = every_kept journal made;
+    repeats = λ request body now answer on room kept. ap ToArrive (repeat_gets (state_of journal) request body now answer
+        (living_before (state_of journal) (time_applied (state_of journal) now) (steady-time _ (ending_stays (state_of journal)) (state_of journal) now (λ ending is. is)) on) room on
+        (steady-time IsSound sound_steady (state_of journal) now (every_clear journal made).0)
+        (steady-time IsFirstAnswer first_answer_steady (state_of journal) now (every_first_answer journal made)) kept);
+    same_bytes = every_same_bytes journal;
+    collects = collects_both journal;
+    created = every_created journal made;
+    answer_ids = every_answer_id journal made;
+    answers_processed = ((every_clear journal made).0).few;
+    answered = every_answer journal made;
+    served = every_served journal made;
+    pauses = λ k copy answer at given. pause_takes (state_of journal) k copy answer (every_answer journal made k answer given) (omega (arith, get_within (state_of journal).answered k answer given)) at;
+    fronts = front_longest;
+    last_words = λ rid ending is beyond. last_words (state_of journal) rid ending (every_clear journal made).0 (every_first_answer journal made) is beyond;
+    parked = every_parked journal made;
+    told = every_answer_told journal made;
+    over = every_over journal made;
+    full = every_full (state_of journal);
+    done = every_done (state_of journal);
+    closed = every_closed (state_of journal);
+    quiet = every_quiet (state_of journal);
+  };
+}

@@ -1,0 +1,8 @@
+pub mod Laws
+pub mod Items
+pub mod Growing
+pub mod Tickets
+pub mod OneBody
+pub mod Answering
+pub mod Replies
+pub mod Acknowledging

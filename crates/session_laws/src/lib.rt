@@ -1,0 +1,6 @@
+// The laws of a session: what every journal that calls make keeps.
+#![tactic(auto)]
+
+mod laws;
+
+pub use laws::{every_journal_keeps_the_laws, there_is_one_longest_run};
