@@ -32,3 +32,4 @@ pub mod ReplyLemmas
 pub mod KeptBoth
 pub mod OneRun
 pub mod ServedLemmas
+pub mod WrongRows
