@@ -33,3 +33,4 @@ pub mod KeptBoth
 pub mod OneRun
 pub mod ServedLemmas
 pub mod WrongRows
+pub mod OneEndedRun

@@ -22,7 +22,7 @@ use Rattle.session_core.specs.Machine.{first_answer, body_cost, is_full, plain_c
 use Rattle.session_core.specs.Outward.{items_in}
 use Rattle.session_core.specs.Passed.{passed_of, given_in}
 use Rattle.session_core.specs.Points.{tested_at}
-use Rattle.session_core.specs.Run.{IsRun, IsLongestRun, KeepsRules, IsRunAtEnd, arrivals_of, run_of}
+use Rattle.session_core.specs.Run.{IsRun, IsLongestRun, arrivals_of, run_of}
 use Rattle.session_core.specs.State.{Answered, answers, answered_of, inward, waiting, is_over}
 use Rattle.session_core.specs.Time.{time_applied, is_due}
 use Rattle.session_laws.specs.Acknowledging.{IsKept}
@@ -31,6 +31,7 @@ use Rattle.session_laws.specs.Growing.{Grows, with_later}
 use Rattle.session_laws.specs.Items.{items_taken}
 use Rattle.session_laws.specs.OneBody.{SendsOneBody, RunCarries, carried}
 use Rattle.session_laws.specs.Replies.{IsOpenId, IsToldTo, MayTake}
+use Rattle.session_laws.specs.RunEnded.{BreaksNoRule, IsRunOfEnded}
 use Rattle.session_laws.specs.Tickets.{Tells}
 
 pub record KeptLaws (journal : Journal) : Type 0 where
@@ -40,8 +41,8 @@ pub record KeptLaws (journal : Journal) : Type 0 where
   pub run_each : IsRun journal.opening.request.rid (arrivals_of journal) (run_of journal)
   -- each copy of the run after the creation broke no rule when it and all lower ids had come, and only the last may be a
   -- terminate; once the session has ended, the run stops there, before a copy that broke a rule, or where nothing more had come
-  pub run_rules : KeepsRules journal (state_of journal).processed
-  pub run_at_end : is_over (state_of journal) ≡ true → IsRunAtEnd journal (state_of journal).processed
+  pub run_rules : BreaksNoRule journal (state_of journal).processed
+  pub run_at_end : is_over (state_of journal) ≡ true → IsRunOfEnded journal (state_of journal).processed
   -- of a client that sends one body for each id, what may go inward is what the bodies of the run's ids carry, each once
   pub one_body : (bodies : ℕ → List ℕ) (items : ℕ → List Inward) → SendsOneBody bodies journal → RunCarries bodies items journal
       → inward (state_of journal) ≡ carried items journal.opening.request.rid (length (run_of journal))

@@ -6,3 +6,4 @@ pub mod OneBody
 pub mod Answering
 pub mod Replies
 pub mod Acknowledging
+pub mod RunEnded
