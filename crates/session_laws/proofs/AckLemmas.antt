@@ -9,6 +9,7 @@ use Rattle.session_core.specs.Journal.{Entry, Journal}
 use Rattle.session_core.specs.Kept.{kept_answer}
 use Rattle.session_core.specs.Machine.{Opening, creation_of}
 use Rattle.session_core.specs.Run.{moment_after, arrival_in, arrivals_from, arrivals_with, HasNot, Completes, state_testing}
+use Rattle.session_laws.proofs.Tests.{true_false}
 use Rattle.session_laws.specs.RunEnded.{BreaksNoRule}
 use Rattle.session_core.specs.State.{PlainSession, Answered, answers, answered_of}
 use Rattle.session_laws.specs.Acknowledging.{AckedIn}
@@ -106,9 +107,6 @@ some_none o n some none = cc
 
 some_same : (o : Option ℕ) (n m : ℕ) → o ≡ Some n → o ≡ Some m → n ≡ m
 some_same o n m one other = cc
-
-true_false : true ≡ false → ⊥
-true_false no' = cc
 
 -- one more copy is processed with this entry
 pub acks_push : (o : Opening) (past : List Entry) (entry : Entry) (processed : List RequestCopy) (c : RequestCopy) → Completes o past entry processed → (on : Bool) (plain : PlainKeep) → last_id plain.put ≡ answered_of (state_testing o past entry)

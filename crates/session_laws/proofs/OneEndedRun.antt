@@ -1,5 +1,5 @@
 -- There is one run of a session that has ended.
-use Rattle.std.proofs.Common.{◌≡◌, ℕ, suc, ◌+◌, ◌<◌, ◌≤◌, true, false, List, [], ◌∷◌, ◌++◌, Option, Some, None, is_some, length, take, slice_get, refl, sym, ◌∙◌, ap, ap₂, arith, subst, append_assoc, inl, inr}
+use Rattle.std.proofs.Common.{◌≡◌, ℕ, suc, ◌+◌, ◌<◌, ◌≤◌, true, false, List, [], ◌∷◌, ◌++◌, Some, None, is_some, length, take, slice_get, refl, sym, ◌∙◌, ap, ap₂, arith, subst, append_assoc, inl, inr}
 use Rattle.std.proofs.lemmas.Bool.{cases_lt}
 use Rattle.std.proofs.lemmas.List.{length_push}
 use Rattle.bosh_types.specs.declared.ending.Ending.{Ending}
@@ -13,12 +13,12 @@ use Rattle.session_core.specs.State.{PlainSession, is_over}
 use Rattle.session_core.specs.Time.{time_applied}
 use Rattle.session_laws.specs.RunEnded.{IsTried, GoesNoFurther, AtTerminate, AtBreaker, AtEnd, IsRunOfEnded}
 use Rattle.session_laws.proofs.AckLemmas.{two_places, complete_one, not_earlier}
-use Rattle.session_laws.proofs.EndsBack.{true_false, over_or_on}
+use Rattle.session_laws.proofs.EndsBack.{over_or_on}
 use Rattle.session_laws.proofs.Grows.{grows_all, ending_stays, made_later, after_append, made_rest}
 use Rattle.session_laws.proofs.Lists.{get_some, get_last}
 use Rattle.session_laws.proofs.OneRun.{one_first, same_elements}
 use Rattle.session_laws.proofs.Steadily.{steady-time}
-use Rattle.session_laws.proofs.Tests.{which}
+use Rattle.session_laws.proofs.Tests.{which, none_some, true_false}
 
 -- what has ended stays ended
 over_later : (s t : PlainSession) → ((ending : Ending) → s.ending ≡ Some ending → t.ending ≡ Some ending) → is_over s ≡ true → is_over t ≡ true
@@ -61,9 +61,6 @@ take_same : (run other : List RequestCopy) → length run ≤ length other → (
 take_same [] other within each = refl
 take_same (x ∷ run) [] within each = absurd (omega arith)
 take_same (x ∷ run) (y ∷ other) within each = ap₂ (λ z l. z ∷ l) (sym (each 0 x y refl refl)) (take_same run other (omega arith) (λ k a b at also. each (suc k) a b at also))
-
-none_some : (o : Option Ending) (ending : Ending) → o ≡ None → o ≡ Some ending → ⊥
-none_some o ending is also = cc
 
 module _ (journal : Journal) (made : IsJournal journal) (run other : List RequestCopy) (r : IsRunOfEnded journal run) (q : IsRunOfEnded journal other) where
   same_at : (k : ℕ) (x y : RequestCopy) → slice_get run k ≡ Some x → slice_get other k ≡ Some y → x ≡ y

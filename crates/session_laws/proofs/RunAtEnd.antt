@@ -27,7 +27,7 @@ use Rattle.session_laws.specs.RunEnded.{BreaksNoRule, GoesNoFurther, IsRunOfEnde
 use Rattle.session_core.specs.State.{PlainSession, first_of, last_of, answered_of, standing_at, is_over}
 use Rattle.session_core.specs.Time.{time_applied}
 use Rattle.session_core.specs.Window.{is_open}
-use Rattle.session_laws.proofs.Tests.{split, neither, is_or_not}
+use Rattle.session_laws.proofs.Tests.{split, neither, is_or_not, true_false}
 use Rattle.session_laws.proofs.Frames.{settled_leaves, time_leaves}
 use Rattle.session_laws.proofs.Moves.{advanced-by}
 use Rattle.session_laws.proofs.Steps.{arrival-by, entry-by, along, after-push}
@@ -35,7 +35,7 @@ use Rattle.session_laws.proofs.Steadily.{steady-entry, steady-time, is_none}
 use Rattle.session_laws.proofs.Clear.{advanced_clear}
 use Rattle.session_laws.proofs.Read.{read-rid}
 use Rattle.session_laws.proofs.Followed.{Follows, IsFollowed, Tells, tells_more, opened_tells, every_creation, every_run, unmoved, timed_followed, new_followed, moment_of, time_now}
-use Rattle.session_laws.proofs.EndsBack.{Ends, Processed, placed_processed, time_ends, entry_ends, opened_ends, true_false, over_or_on}
+use Rattle.session_laws.proofs.EndsBack.{Ends, Processed, placed_processed, time_ends, entry_ends, opened_ends, over_or_on}
 use Rattle.session_laws.proofs.Grows.{told_stays}
 use Rattle.session_laws.proofs.JournalLemmas.{journal_with, has_not_before}
 use Rattle.session_laws.proofs.AckLemmas.{Acknowledges, acks_more}

@@ -22,13 +22,13 @@ use Rattle.session_core.specs.Kept.{keep_of}
 use Rattle.session_laws.proofs.AckLemmas.{Acknowledges, acks_push, last_answered}
 use Rattle.session_laws.proofs.Bytes.{IsFirstAnswer}
 use Rattle.session_laws.proofs.JournalLemmas.{journal_with}
-use Rattle.session_laws.proofs.Tests.{neither}
+use Rattle.session_laws.proofs.Tests.{neither, some_is, true_false}
 use Rattle.session_laws.proofs.Lists.{get_push, get_within, get_some}
 use Rattle.session_laws.proofs.Moves.{Steady, Processing}
 use Rattle.session_laws.proofs.SoundLemmas.{IsSound}
 use Rattle.session_laws.proofs.Clear.{IsClear}
 use Rattle.session_laws.proofs.Followed.{IsFollowed, first_later, moment_of, arrivals-push}
-use Rattle.session_laws.proofs.EndsBack.{Processed, processed_processing, true_false, over_or_on}
+use Rattle.session_laws.proofs.EndsBack.{Processed, processed_processing, over_or_on}
 use Rattle.session_laws.proofs.Carried.{all_first}
 
 -- the key is the one that the processed copies leave
@@ -89,9 +89,6 @@ any_none [] k copy none is last = absurd (cc)
 any_none (first ∷ copies) zero copy none is last =
     let same : first ≡ copy = some_is first copy is in
     true_false (sym last ∙ ap (λ (c : RequestCopy). c.request.terminate) (sym same) ∙ (neither first.request.terminate (list_any (λ (c : RequestCopy). c.request.terminate) copies) none).0)
-  where
-    some_is : (x y : RequestCopy) → Some x ≡ Some y → x ≡ y
-    some_is x y is = cc
 any_none (first ∷ copies) (suc k) copy none is last = any_none copies k copy (neither first.request.terminate (list_any (λ (c : RequestCopy). c.request.terminate) copies) none).1 is last
 
 -- Where no copy is processed.
