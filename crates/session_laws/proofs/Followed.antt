@@ -94,7 +94,7 @@ some_none : {X : Type 0} (o : Option X) → is_some o ≡ true → o ≡ None �
 some_none None is none = cc
 some_none (Some x) is none = cc
 
-open_stands : (s : PlainSession) (rid : ℕ) → IsSound s → is_open s rid ≡ true → first_of s < rid → standing_at s rid ≡ None → ⊥
+pub open_stands : (s : PlainSession) (rid : ℕ) → IsSound s → is_open s rid ≡ true → first_of s < rid → standing_at s rid ≡ None → ⊥
 open_stands s rid sound open_now later none = elim (either (nat_le rid (last_of s)) (is_some (standing_at s rid)) open_now) [
   | inl within ↦ processed_stands s rid sound later (leb-true rid (last_of s) within) none
   | inr stands ↦ some_none (standing_at s rid) stands none

@@ -34,3 +34,4 @@ pub mod OneRun
 pub mod ServedLemmas
 pub mod WrongRows
 pub mod OneEndedRun
+pub mod TicketSteps

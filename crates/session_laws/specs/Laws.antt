@@ -32,7 +32,7 @@ use Rattle.session_laws.specs.Items.{items_taken}
 use Rattle.session_laws.specs.OneBody.{SendsOneBody, RunCarries, carried}
 use Rattle.session_laws.specs.Replies.{IsOpenId, IsToldTo, MayTake}
 use Rattle.session_laws.specs.RunEnded.{BreaksNoRule, IsRunOfEnded}
-use Rattle.session_laws.specs.Tickets.{Tells}
+use Rattle.session_laws.specs.Tickets.{Tells, tickets_after}
 
 pub record KeptLaws (journal : Journal) : Type 0 where
   -- what was processed is, while the session goes on, the longest unbroken run of the ids that arrived, each with what
@@ -80,6 +80,8 @@ pub record KeptLaws (journal : Journal) : Type 0 where
       → bytes_for (state_of (with_later journal later)) rid ≡ Some bytes
   -- of a ticket this is told, and nothing else
   pub collects : (number : ℕ) (told : Collected) → (reply_of journal (Collect number) ≡ ToCollect told) ↔ Tells (state_of journal) number told
+  -- the tickets after a call are these, by what it is told
+  pub tickets : (call : Call) → (step (state_of journal) call).0.tickets ≡ tickets_after (state_of journal) call
   -- the creation has its own answer; the others go on by one from its id, and only what was processed is answered
   pub created : (state_of journal).created ≡ first_answer journal.opening
   pub answer_ids : (k : ℕ) (answer : Answered) → slice_get (answers (state_of journal)) k ≡ Some answer → answer.rid ≡ journal.opening.request.rid + k
