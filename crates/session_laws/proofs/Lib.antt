@@ -35,3 +35,4 @@ pub mod ServedLemmas
 pub mod WrongRows
 pub mod OneEndedRun
 pub mod TicketSteps
+pub mod UnaskedRow
