@@ -14,7 +14,8 @@ abbrev pub IsTried : Journal → List RequestCopy → RequestCopy → Option End
 IsTried journal lower copy verdict =
     (before : List Entry) × (entry : Entry) × (after : List Entry) × (journal.entries ≡ before ++ entry ∷ after)
     × Completes journal.opening before entry lower × (is_over (state_testing journal.opening before entry) ≡ false)
-    × (broken_rule (asked_with (state_testing journal.opening before entry) (key_after journal.opening.request.newkey lower) lower) copy ≡ verdict)
+    × (broken_rule (asked_with (state_testing journal.opening before entry) (key_after journal.opening.request.newkey lower) lower) copy
+    ≡ verdict)
 
 -- each copy after the creation broke no rule, and only the last may be a terminate
 pub record BreaksNoRule (journal : Journal) (later : List RequestCopy) : Type 0 where
