@@ -117,7 +117,7 @@ pub data Children : List ℕ → List ℕ → Type 0 where
   space : {b : ℕ} {text rest : List ℕ} → is_space b ≡ true → Children text rest → Children (b ∷ text) rest
   child : {text after rest : List ℕ} → Element text after → Children after rest → Children (60 ∷ text) rest
 
--- the body after `<body` (XEP-0124 section 7)
+-- the body after `<body` (XEP-0124 section 6)
 pub data BodyRest : List ℕ → List ℕ → Type 0 where
   empty : {text rest : List ℕ} → TagRest [] false true text rest → BodyRest text rest
   full : {text inner close rest : List ℕ} → TagRest [] false false text inner → Children inner (60 ∷ 47 ∷ close) → EndTag (codes "body") close rest → BodyRest text rest

@@ -15,3 +15,4 @@ pub mod BodyText
 pub mod Table
 pub mod Pieces
 pub mod Built
+pub mod Said

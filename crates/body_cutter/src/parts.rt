@@ -1,9 +1,6 @@
-ghost use Rattle.std.specs.Prelude.{◌≡◌, ◌==◌, List, length};
-
-use bosh_types::Text;
+use bosh_types::{Row, Text};
 use std::alloc::AllocError;
 use std::fmt;
-use std::marker::Model;
 
 /// Bytes of a text, from `start` on and before `end`.
 #[derive(Clone, Copy, Debug, PartialEq, Eq)]
@@ -20,104 +17,10 @@ pub struct Attr {
 }
 
 /// Attributes in order.
-#[derive(Debug, Drop)]
-pub struct Attrs {
-    items: Vec<Attr>,
-}
-
-impl Model for Attrs {
-    ghost use Rattle.std.specs.Prelude.{List};
-    ghost use Rattle.body_cutter.specs.declared.parts.Attr.{Attr};
-
-    ghost Value = { List Attr };
-
-    ghost view = { λ a. a.items.items };
-}
-
-impl Attrs {
-    /// Takes the attributes as they are, and no memory.
-    pub fn from_vec(items: Vec<Attr>) -> Self
-        ensures { result ≡ items.items }
-    {
-        Attrs { items }
-    }
-
-    /// Gives the attributes back, and takes no memory.
-    pub fn into_vec(self) -> Vec<Attr>
-        ensures { result.items ≡ self }
-    {
-        self.items
-    }
-
-    pub fn as_slice(&self) -> &[Attr]
-        ensures { result.now ≡ self.now }
-    {
-        self.items.as_slice()
-    }
-
-    /// How many attributes there are.
-    pub fn len(&self) -> usize
-        ensures { result ≡ length self.now }
-    {
-        self.items.len()
-    }
-
-    pub fn is_empty(&self) -> bool
-        ensures { result ≡ (length self.now == 0) }
-    {
-        self.items.is_empty()
-    }
-}
+pub type Attrs = Row<Attr>;
 
 /// Spans in order.
-#[derive(Debug, Drop)]
-pub struct Spans {
-    items: Vec<Span>,
-}
-
-impl Model for Spans {
-    ghost use Rattle.std.specs.Prelude.{List};
-    ghost use Rattle.body_cutter.specs.declared.parts.Span.{Span};
-
-    ghost Value = { List Span };
-
-    ghost view = { λ s. s.items.items };
-}
-
-impl Spans {
-    /// Takes the spans as they are, and no memory.
-    pub fn from_vec(items: Vec<Span>) -> Self
-        ensures { result ≡ items.items }
-    {
-        Spans { items }
-    }
-
-    /// Gives the spans back, and takes no memory.
-    pub fn into_vec(self) -> Vec<Span>
-        ensures { result.items ≡ self }
-    {
-        self.items
-    }
-
-    pub fn as_slice(&self) -> &[Span]
-        ensures { result.now ≡ self.now }
-    {
-        self.items.as_slice()
-    }
-
-    /// How many spans there are.
-    pub fn len(&self) -> usize
-        ensures { result ≡ length self.now }
-    {
-        self.items.len()
-    }
-
-    pub fn is_empty(&self) -> bool
-        ensures { result ≡ (length self.now == 0) }
-    {
-        self.items.is_empty()
-    }
-}
+pub type Spans = Row<Span>;
 
 /// A body in its parts: its attributes, and its children as their exact bytes.
 #[derive(Debug, Drop)]
@@ -149,6 +52,11 @@ pub enum CutRefusal {
 }
 
 impl fmt::Display for CutRefusal {
+    ghost use Rattle.std.specs.Prelude.{Some};
+    ghost use Rattle.body_cutter.specs.Said.{said_refusal};
+
+    ghost output = { λ refusal. Some (said_refusal refusal) };
+
     fn fmt<W: fmt::Write>(&self, f: &mut fmt::Formatter<W>) -> fmt::Result {
         match self {
             CutRefusal::TooLong => f.write_str("the text is too long"),
@@ -173,6 +81,11 @@ pub enum CutError {
 }
 
 impl fmt::Display for CutError {
+    ghost use Rattle.std.specs.Prelude.{Some};
+    ghost use Rattle.body_cutter.specs.Said.{said_error};
+
+    ghost output = { λ error. Some (said_error error) };
+
     fn fmt<W: fmt::Write>(&self, f: &mut fmt::Formatter<W>) -> fmt::Result {
         match self {
             CutError::Memory => f.write_str("memory ran out"),

@@ -19,11 +19,9 @@ use crate::tags::{
     tag_slash_next, tag_space_next, value_next,
 };
 use bosh_types::Text;
+use bosh_types::limits::{MOST_ATTRIBUTES, MOST_DEPTH};
 use std::alloc::{AllocError, Global};
 use std::mem;
-
-/// How many attributes a tag may have.
-const MOST_ATTRIBUTES: usize = 32;
 
 /// A reader of one text, from left to right.
 #[derive(Drop)]
@@ -140,8 +138,8 @@ fn deepest(kind: Kind) -> usize
     ensures { result ≡ deepest kind }
 {
     match kind {
-        Kind::Body => 65,
-        Kind::Stanza => 64,
+        Kind::Body => MOST_DEPTH + 1,
+        Kind::Stanza => MOST_DEPTH,
     }
 }
 

@@ -14,16 +14,8 @@ ghost use Rattle.body_cutter.specs.Viable.{Anything, NamesBody, TellsRow};
 use crate::parts::{Cut, CutError, CutRefusal};
 use crate::place::{Kind, Place, Wide};
 use crate::reader::Reader;
+use bosh_types::limits::{LONGEST_BODY, LONGEST_STANZA, MOST_CHILDREN};
 use std::alloc::{AllocError, Global};
-
-/// The most bytes of a body.
-const LONGEST_BODY: usize = 1_048_576;
-
-/// The most bytes of a stanza by itself.
-const LONGEST_STANZA: usize = 1_000_000;
-
-/// The most children of a body.
-const MOST_CHILDREN: usize = 1024;
 
 #[tactic(auto, unfolding(crate::specs::Refusal::is_before_body))]
 fn is_before_body(place: Place) -> bool

@@ -3,6 +3,9 @@ pub mod Escapes
 pub mod Plain
 pub mod Fresh
 pub mod Blocks
+pub mod RowsTexts
+pub mod AnswerPieces
+pub mod RequestPieces
 pub mod ReadBacks
 pub mod AnswerBlocks
 pub mod RequestBlocks

@@ -11,13 +11,14 @@ use Rattle.body_cutter.specs.Parts.{single_parts, most_in_element, depth_of, cou
 use Rattle.body_cutter.specs.Built.{IsElementWithin}
 use Rattle.body_writer.specs.declared.answer.AnswerKind.TheVariants.{Usual, Terminate}
 use Rattle.body_writer.specs.declared.answer.AnswerParts.{AnswerParts}
-use Rattle.body_writer.specs.Answer.{answer_text, xmpp_namespace, stream_namespace, kind_text, version_text, terms_text, created_text, ack_text, report_text, restart_text}
-use Rattle.body_writer.specs.Attribute.{attribute, number_attribute, text_attribute, escaped_byte, closed_with, xmpp_version_text}
+use Rattle.body_writer.specs.Answer.{answer_text}
+use Rattle.body_writer.specs.AnswerRows.{answer_attributes, xmpp_rows, stream_rows, kind_rows, version_value, terms_rows, created_rows, ack_rows, report_rows, restart_rows}
+use Rattle.body_writer.specs.Attribute.{attribute, escaped_byte, closed_with}
 use Rattle.body_writer.specs.ReadBack.{IsAllowed, IsAnswer, longest}
 use Rattle.body_writer.proofs.Texts.{texts_ascii}
 
 unfoldable answers_compute : ⊤
-unfolding digits answer_text xmpp_namespace stream_namespace kind_text version_text terms_text created_text ack_text report_text restart_text attribute number_attribute text_attribute escaped_byte closed_with xmpp_version_text
+unfolding digits answer_text answer_attributes xmpp_rows stream_rows kind_rows version_value terms_rows created_rows ack_rows report_rows restart_rows attribute escaped_byte closed_with
 answers_compute = tt
 
 abbrev stanza : List ℕ

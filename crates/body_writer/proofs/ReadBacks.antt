@@ -14,10 +14,12 @@ use Rattle.body_cutter.specs.Pieces.{bytes_at}
 use Rattle.body_cutter.proofs.BuiltBodies.{reads_back}
 use Rattle.body_cutter.proofs.Readings.{one_body}
 use Rattle.body_writer.specs.Attribute.{closed_with, joined}
+use Rattle.body_writer.specs.Rows.{rows_text}
 use Rattle.body_writer.specs.ReadBack.{ArePayloads, IsCutInto, ReadsAs, longest}
 use Rattle.body_writer.proofs.Texts.{text_append, texts_ascii}
 use Rattle.body_writer.proofs.Fresh.{Among, among_count, are_distinct, fresh}
-use Rattle.body_writer.proofs.Blocks.{Sound, Begun, all_among, chain_text}
+use Rattle.body_writer.proofs.Blocks.{Sound, Block, all_among, chain_text}
+use Rattle.body_writer.proofs.RowsTexts.{rows_written}
 
 -- payloads one after the other, and the end of the body
 joined_elements : (payloads : List (List ℕ)) (rest : List ℕ) → joined payloads ++ rest ≡ elements_text payloads rest
@@ -67,12 +69,14 @@ reads_as attributes names payloads sound among distinct few are short =
     (reads_back 32 64 attributes payloads whole (All-weaker Sound IsWritten (λ a s. s.written) attributes sound) (fresh among distinct) (omega (arith, few, among_count among)) are.0)
     are.1 short
 
-module _ {Holds : Type 0} {rows : List Written} {text : List ℕ} {names : List (List ℕ)} (all : Begun Holds rows text names) (payloads : List (List ℕ)) where
-  -- a body of these attributes and payloads
-  pub begun_built : text ++ closed_with payloads ≡ built_text rows payloads
-  begun_built = ap (λ (t : List ℕ). text ++ t) (sym (closed payloads)) ∙ sym (all.text_is (closing payloads))
+-- a body of these attributes and payloads
+pub rows_built : (rows : List Written) (payloads : List (List ℕ)) → codes "<body" ++ rows_text rows ++ closed_with payloads ≡ built_text rows payloads
+rows_built rows payloads =
+    append_assoc (codes "<body") (rows_text rows) (closed_with payloads)
+    ∙ ap (λ (t : List ℕ). codes "<body" ++ t) (ap (λ (t : List ℕ). rows_text rows ++ t) (sym (closed payloads)) ∙ sym (rows_written rows (closing payloads)))
 
-  pub begun_reads : Holds → are_distinct names ≡ true → length names ≤ 32 → ArePayloads payloads → length (text ++ closed_with payloads) ≤ longest → ReadsAs (text ++ closed_with payloads) rows payloads
-  begun_reads holds distinct few are short =
-      subst (λ (t : List ℕ). ReadsAs t rows payloads) (sym begun_built)
-      (reads_as rows names payloads (all.sound holds) (all_among all) distinct few are (subst (λ (t : List ℕ). length t ≤ longest) begun_built short))
+pub rows_read : {Holds : Type 0} {rows : List Written} {names : List (List ℕ)} → Block Holds rows names → (payloads : List (List ℕ)) → Holds → are_distinct names ≡ true → length names ≤ 32 → ArePayloads payloads →
+    length (codes "<body" ++ rows_text rows ++ closed_with payloads) ≤ longest → ReadsAs (codes "<body" ++ rows_text rows ++ closed_with payloads) rows payloads
+rows_read {rows = rows} {names = names} all payloads holds distinct few are short =
+    subst (λ (t : List ℕ). ReadsAs t rows payloads) (sym (rows_built rows payloads))
+    (reads_as rows names payloads (all.sound holds) (all_among all) distinct few are (subst (λ (t : List ℕ). length t ≤ longest) (rows_built rows payloads) short))

@@ -27,6 +27,10 @@ kind_rows Usual condition = []
 kind_rows Terminate None = value_row (codes "type") (codes "terminate") ∷ []
 kind_rows Terminate (Some condition) = value_row (codes "type") (codes "terminate") ∷ value_row (codes "condition") (name_of condition) ∷ []
 
+-- the version of the protocol
+unfoldable pub version_value : ℕ × ℕ → List ℕ
+version_value (major, minor) = decimal major ++ codes "." ++ decimal minor
+
 -- what was agreed, XEP-0124 section 7
 unfoldable pub terms_rows : Terms → List Written
 terms_rows terms =
@@ -36,7 +40,7 @@ terms_rows terms =
     ∷ number_row (codes "polling") terms.polling
     ∷ number_row (codes "maxpause") terms.maxpause
     ∷ number_row (codes "hold") terms.hold
-    ∷ value_row (codes "ver") (decimal terms.version.0 ++ codes "." ++ decimal terms.version.1)
+    ∷ value_row (codes "ver") (version_value terms.version)
     ∷ []
 
 unfoldable pub created_rows : Option Created → List Written

@@ -1,6 +1,5 @@
 -- Attributes and the end of a body, as bytes.
 use Rattle.std.specs.Prelude.{ℕ, List, [], ◌∷◌, ◌++◌, ◌==◌, if◌then◌else◌, codes}
-use Rattle.std.specs.Fmt.{decimal}
 
 -- a byte of a value: what has a meaning of its own between apostrophes, or would be read as a space, is a reference
 unfoldable pub escaped_byte : ℕ → List ℕ
@@ -16,12 +15,6 @@ escaped (b ∷ bytes) = escaped_byte b ++ escaped bytes
 unfoldable pub attribute : List ℕ → List ℕ → List ℕ
 attribute name value = codes " " ++ name ++ codes "='" ++ value ++ codes "'"
 
-unfoldable pub number_attribute : List ℕ → ℕ → List ℕ
-number_attribute name number = attribute name (decimal number)
-
-unfoldable pub text_attribute : List ℕ → List ℕ → List ℕ
-text_attribute name value = attribute name (escaped value)
-
 -- texts without anything between
 abbrev pub joined : List (List ℕ) → List ℕ
 joined [] = []
@@ -31,15 +24,3 @@ joined (text ∷ texts) = text ++ joined texts
 unfoldable pub closed_with : List (List ℕ) → List ℕ
 closed_with [] = codes "/>"
 closed_with (payload ∷ payloads) = codes ">" ++ joined (payload ∷ payloads) ++ codes "</body>"
-
--- the namespace of each body, XEP-0124 section 7
-abbrev pub httpbind_text : List ℕ
-httpbind_text = attribute (codes "xmlns") (codes "http://jabber.org/protocol/httpbind")
-
--- the namespace of the attributes that XEP-0206 adds
-abbrev pub xbosh_text : List ℕ
-xbosh_text = attribute (codes "xmlns:xmpp") (codes "urn:xmpp:xbosh")
-
--- the version of XMPP, XEP-0206 section 4
-unfoldable pub xmpp_version_text : List ℕ
-xmpp_version_text = attribute (codes "xmpp:version") (codes "1.0")

@@ -1,8 +1,8 @@
 -- Attributes one by one, as they are written between apostrophes, with the values that they spell.
-use Rattle.std.specs.Prelude.{ℕ, List, codes}
+use Rattle.std.specs.Prelude.{ℕ, List, [], ◌∷◌, ◌++◌, codes}
 use Rattle.std.specs.Fmt.{decimal}
 use Rattle.body_cutter.specs.Built.{Written}
-use Rattle.body_writer.specs.Attribute.{escaped}
+use Rattle.body_writer.specs.Attribute.{attribute, escaped}
 
 -- a value that is written as it is
 abbrev pub value_row : List ℕ → List ℕ → Written
@@ -16,7 +16,12 @@ number_row name number = value_row name (decimal number)
 abbrev pub text_row : List ℕ → List ℕ → Written
 text_row name text = record { name = name; spelling = escaped text; value = text }
 
--- the namespaces, and the version of XMPP
+-- rows one after the other, as a text
+abbrev pub rows_text : List Written → List ℕ
+rows_text [] = []
+rows_text (row ∷ rows) = attribute row.name row.spelling ++ rows_text rows
+
+-- the namespace of each body (XEP-0124 section 6), of the attributes that XEP-0206 adds, and of streams
 abbrev pub httpbind_row : Written
 httpbind_row = value_row (codes "xmlns") (codes "http://jabber.org/protocol/httpbind")
 
@@ -26,5 +31,6 @@ xbosh_row = value_row (codes "xmlns:xmpp") (codes "urn:xmpp:xbosh")
 abbrev pub stream_row : Written
 stream_row = value_row (codes "xmlns:stream") (codes "http://etherx.jabber.org/streams")
 
+-- the version of XMPP, XEP-0206 section 4
 abbrev pub xmpp_version_row : Written
 xmpp_version_row = value_row (codes "xmpp:version") (codes "1.0")

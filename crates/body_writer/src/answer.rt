@@ -1,5 +1,8 @@
-ghost use Rattle.std.specs.Prelude.{◌≡◌, ◌++◌, IfOk, OnOk};
-ghost use Rattle.body_writer.specs.Answer.{answer_text, xmpp_namespace, stream_namespace, kind_text, version_text, terms_text, created_text, ack_text, report_text, restart_text};
+ghost use Rattle.std.specs.Prelude.{◌≡◌, ◌++◌, Some, codes, IfOk, OnOk};
+ghost use Rattle.body_writer.specs.Answer.{answer_text};
+ghost use Rattle.body_writer.specs.AnswerRows.{xmpp_rows, stream_rows, kind_rows, version_value, terms_rows, created_rows, ack_rows, report_rows, restart_rows};
+ghost use Rattle.body_writer.specs.Attribute.{attribute};
+ghost use Rattle.body_writer.specs.Rows.{rows_text};
 
 use crate::attribute::{
     push_attribute, push_httpbind, push_number, push_payloads, push_text, push_xbosh,
@@ -46,7 +49,6 @@ pub enum AnswerKind {
 /// The text of an answer: `<body`, its attributes in their fixed order, each in `'`, then the payloads without anything
 /// between. In a value that is a text, `&`, `<`, `'`, tab, LF and CR are written as references. The only error is want of
 /// memory.
-#[tactic(auto, unfolding(crate::specs::Answer::answer_text))]
 pub fn write_answer(alloc: Global, parts: &AnswerParts) -> Result<Text, AllocError>
     ensures { IfOk result (λ text. text ≡ answer_text parts.now) }
 {
@@ -64,9 +66,9 @@ pub fn write_answer(alloc: Global, parts: &AnswerParts) -> Result<Text, AllocErr
     Ok(Text::from_vec(text))
 }
 
-#[tactic(auto, unfolding(crate::specs::Answer::xmpp_namespace))]
+#[tactic(auto, unfolding(crate::specs::AnswerRows::xmpp_rows))]
 fn push_xmpp_namespace(text: &mut Vec<u8>, created: &Option<Created>) -> Result<(), AllocError>
-    ensures { OnOk result (text.new.items ≡ text.old.items ++ xmpp_namespace created.now) }
+    ensures { OnOk result (text.new.items ≡ text.old.items ++ rows_text (xmpp_rows created.now)) }
 {
     match created {
         None => Ok(()),
@@ -74,13 +76,13 @@ fn push_xmpp_namespace(text: &mut Vec<u8>, created: &Option<Created>) -> Result<
     }
 }
 
-#[tactic(auto, unfolding(crate::specs::Answer::stream_namespace))]
+#[tactic(auto, unfolding(crate::specs::AnswerRows::stream_rows))]
 fn push_stream_namespace(
     text: &mut Vec<u8>,
     created: &Option<Created>,
     payloads: &Stanzas,
 ) -> Result<(), AllocError>
-    ensures { OnOk result (text.new.items ≡ text.old.items ++ stream_namespace created.now payloads.now) }
+    ensures { OnOk result (text.new.items ≡ text.old.items ++ rows_text (stream_rows created.now payloads.now)) }
 {
     if created.is_none() && payloads.is_empty() {
         return Ok(());
@@ -88,13 +90,13 @@ fn push_stream_namespace(
     push_attribute(text, "xmlns:stream", b"http://etherx.jabber.org/streams")
 }
 
-#[tactic(auto, unfolding(crate::specs::Answer::kind_text))]
+#[tactic(auto, unfolding(crate::specs::AnswerRows::kind_rows))]
 fn push_kind(
     text: &mut Vec<u8>,
     kind: AnswerKind,
     condition: Option<Condition>,
 ) -> Result<(), AllocError>
-    ensures { OnOk result (text.new.items ≡ text.old.items ++ kind_text kind condition) }
+    ensures { OnOk result (text.new.items ≡ text.old.items ++ rows_text (kind_rows kind condition)) }
 {
     match kind {
         AnswerKind::Usual => Ok(()),
@@ -108,27 +110,31 @@ fn push_kind(
     }
 }
 
-#[tactic(auto, unfolding(crate::specs::Answer::created_text))]
 fn push_created(
     alloc: Global,
     text: &mut Vec<u8>,
     created: &Option<Created>,
 ) -> Result<(), AllocError>
-    ensures { OnOk result (text.new.items ≡ text.old.items ++ created_text created.now) }
+    ensures { OnOk result (text.new.items ≡ text.old.items ++ rows_text (created_rows created.now)) }
 {
     match created {
         None => Ok(()),
-        Some(created) => {
-            push_text(text, "sid", &created.sid)?;
-            push_terms(alloc, text, created.terms)?;
-            push_text(text, "from", &created.from)
-        }
+        Some(created) => push_created_by(alloc, text, created),
     }
 }
 
-#[tactic(auto, unfolding(crate::specs::Answer::terms_text))]
+fn push_created_by(alloc: Global, text: &mut Vec<u8>, created: &Created) -> Result<(), AllocError>
+    ensures { OnOk result (text.new.items ≡ text.old.items ++ rows_text (created_rows (Some created.now))) }
+{
+    push_text(text, "sid", &created.sid)?;
+    push_terms(alloc, text, created.terms)?;
+    push_text(text, "from", &created.from)?;
+    Ok(())
+}
+
+#[tactic(auto, unfolding(crate::specs::AnswerRows::terms_rows))]
 fn push_terms(alloc: Global, text: &mut Vec<u8>, terms: Terms) -> Result<(), AllocError>
-    ensures { OnOk result (text.new.items ≡ text.old.items ++ terms_text terms) }
+    ensures { OnOk result (text.new.items ≡ text.old.items ++ rows_text (terms_rows terms)) }
 {
     push_number(alloc, text, "wait", u64::from(terms.wait))?;
     push_number(alloc, text, "requests", u64::from(terms.requests))?;
@@ -139,9 +145,9 @@ fn push_terms(alloc: Global, text: &mut Vec<u8>, terms: Terms) -> Result<(), All
     push_version(alloc, text, terms.version)
 }
 
-#[tactic(auto, unfolding(crate::specs::Answer::version_text))]
+#[tactic(auto, unfolding(crate::specs::AnswerRows::version_value))]
 fn push_version(alloc: Global, text: &mut Vec<u8>, version: (u32, u32)) -> Result<(), AllocError>
-    ensures { OnOk result (text.new.items ≡ text.old.items ++ version_text version) }
+    ensures { OnOk result (text.new.items ≡ text.old.items ++ attribute (codes "ver") (version_value version)) }
 {
     let (major, minor) = version;
     let mut value = u64::from(major).to_string(alloc)?;
@@ -151,9 +157,9 @@ fn push_version(alloc: Global, text: &mut Vec<u8>, version: (u32, u32)) -> Resul
     push_attribute(text, "ver", value.as_bytes())
 }
 
-#[tactic(auto, unfolding(crate::specs::Answer::ack_text))]
+#[tactic(auto, unfolding(crate::specs::AnswerRows::ack_rows))]
 fn push_ack(alloc: Global, text: &mut Vec<u8>, ack: Option<Rid>) -> Result<(), AllocError>
-    ensures { OnOk result (text.new.items ≡ text.old.items ++ ack_text ack) }
+    ensures { OnOk result (text.new.items ≡ text.old.items ++ rows_text (ack_rows ack)) }
 {
     match ack {
         None => Ok(()),
@@ -161,13 +167,13 @@ fn push_ack(alloc: Global, text: &mut Vec<u8>, ack: Option<Rid>) -> Result<(), A
     }
 }
 
-#[tactic(auto, unfolding(crate::specs::Answer::report_text))]
+#[tactic(auto, unfolding(crate::specs::AnswerRows::report_rows))]
 fn push_report(
     alloc: Global,
     text: &mut Vec<u8>,
     report: Option<(Rid, u64)>,
 ) -> Result<(), AllocError>
-    ensures { OnOk result (text.new.items ≡ text.old.items ++ report_text report) }
+    ensures { OnOk result (text.new.items ≡ text.old.items ++ rows_text (report_rows report)) }
 {
     match report {
         None => Ok(()),
@@ -178,9 +184,9 @@ fn push_report(
     }
 }
 
-#[tactic(auto, unfolding(crate::specs::Answer::restart_text))]
+#[tactic(auto, unfolding(crate::specs::AnswerRows::restart_rows))]
 fn push_restart(text: &mut Vec<u8>, created: &Option<Created>) -> Result<(), AllocError>
-    ensures { OnOk result (text.new.items ≡ text.old.items ++ restart_text created.now) }
+    ensures { OnOk result (text.new.items ≡ text.old.items ++ rows_text (restart_rows created.now)) }
 {
     match created {
         None => Ok(()),

@@ -1,6 +1,8 @@
 // Building a body's text piece by piece.
-ghost use Rattle.std.specs.Prelude.{◌≡◌, ◌++◌, [], IfOk, OnOk};
-ghost use Rattle.body_writer.specs.Attribute.{attribute, number_attribute, text_attribute, escaped, escaped_byte, joined, closed_with, httpbind_text, xbosh_text, xmpp_version_text};
+ghost use Rattle.std.specs.Prelude.{◌≡◌, ◌++◌, [], ◌∷◌, IfOk, OnOk};
+ghost use Rattle.std.specs.Fmt.{decimal};
+ghost use Rattle.body_writer.specs.Attribute.{attribute, escaped, escaped_byte, joined, closed_with};
+ghost use Rattle.body_writer.specs.Rows.{rows_text, httpbind_row, xbosh_row, xmpp_version_row};
 
 use bosh_types::{Stanzas, Text};
 use std::alloc::{AllocError, Global};
@@ -32,23 +34,22 @@ pub(crate) fn push_attribute(text: &mut Vec<u8>, name: &str, value: &[u8]) -> Re
     Ok(())
 }
 
-#[tactic(auto, unfolding(crate::specs::Attribute::number_attribute))]
 pub(crate) fn push_number(
     alloc: Global,
     text: &mut Vec<u8>,
     name: &str,
     number: u64,
 ) -> Result<(), AllocError>
-    ensures { OnOk result (text.new.items ≡ text.old.items ++ number_attribute name.now number) }
+    ensures { OnOk result (text.new.items ≡ text.old.items ++ attribute name.now (decimal number)) }
 {
     let digits = number.to_string(alloc)?;
     push_attribute(text, name, digits.as_bytes())
 }
 
 // Puts an attribute at the end whose value is any text.
-#[tactic(auto, unfolding(crate::specs::Attribute::text_attribute, crate::specs::Attribute::attribute))]
+#[tactic(auto, unfolding(crate::specs::Attribute::attribute))]
 pub(crate) fn push_text(text: &mut Vec<u8>, name: &str, value: &Text) -> Result<(), AllocError>
-    ensures { OnOk result (text.new.items ≡ text.old.items ++ text_attribute name.now value.now) }
+    ensures { OnOk result (text.new.items ≡ text.old.items ++ attribute name.now (escaped value.now)) }
 {
     text.push(b' ')?;
     text.extend_from_slice(name.as_bytes())?;
@@ -83,20 +84,19 @@ fn push_escaped_byte(text: &mut Vec<u8>, byte: u8) -> Result<(), AllocError>
 }
 
 pub(crate) fn push_httpbind(text: &mut Vec<u8>) -> Result<(), AllocError>
-    ensures { OnOk result (text.new.items ≡ text.old.items ++ httpbind_text) }
+    ensures { OnOk result (text.new.items ≡ text.old.items ++ rows_text (httpbind_row ∷ [])) }
 {
     push_attribute(text, "xmlns", b"http://jabber.org/protocol/httpbind")
 }
 
 pub(crate) fn push_xbosh(text: &mut Vec<u8>) -> Result<(), AllocError>
-    ensures { OnOk result (text.new.items ≡ text.old.items ++ xbosh_text) }
+    ensures { OnOk result (text.new.items ≡ text.old.items ++ rows_text (xbosh_row ∷ [])) }
 {
     push_attribute(text, "xmlns:xmpp", b"urn:xmpp:xbosh")
 }
 
-#[tactic(auto, unfolding(crate::specs::Attribute::xmpp_version_text))]
 pub(crate) fn push_xmpp_version(text: &mut Vec<u8>) -> Result<(), AllocError>
-    ensures { OnOk result (text.new.items ≡ text.old.items ++ xmpp_version_text) }
+    ensures { OnOk result (text.new.items ≡ text.old.items ++ rows_text (xmpp_version_row ∷ [])) }
 {
     push_attribute(text, "xmpp:version", b"1.0")
 }

@@ -1,5 +1,7 @@
-ghost use Rattle.std.specs.Prelude.{◌≡◌, ◌++◌, codes, IfOk, OnOk};
-ghost use Rattle.body_writer.specs.Request.{request_text, xmpp_namespace, sid_text, creation_text, ack_text, key_text, pause_text, terminate_text, version_text, restart_text};
+ghost use Rattle.std.specs.Prelude.{◌≡◌, ◌++◌, Some, codes, IfOk, OnOk};
+ghost use Rattle.body_writer.specs.Request.{request_text};
+ghost use Rattle.body_writer.specs.RequestRows.{xmpp_rows, sid_rows, creation_rows, number_rows, key_rows, terminate_rows, version_rows, restart_rows};
+ghost use Rattle.body_writer.specs.Rows.{rows_text};
 
 use crate::attribute::{
     push_attribute, push_httpbind, push_number, push_payloads, push_text, push_xbosh,
@@ -36,7 +38,6 @@ pub struct RequestParts {
 }
 
 /// The text of a request, in the form of an answer's text. The only error is want of memory.
-#[tactic(auto, unfolding(crate::specs::Request::request_text))]
 pub fn write_request(alloc: Global, parts: &RequestParts) -> Result<Text, AllocError>
     ensures { IfOk result (λ text. text ≡ request_text parts.now) }
 {
@@ -58,13 +59,13 @@ pub fn write_request(alloc: Global, parts: &RequestParts) -> Result<Text, AllocE
     Ok(Text::from_vec(text))
 }
 
-#[tactic(auto, unfolding(crate::specs::Request::xmpp_namespace))]
+#[tactic(auto, unfolding(crate::specs::RequestRows::xmpp_rows))]
 fn push_xmpp_namespace(
     text: &mut Vec<u8>,
     creation: &Option<(Text, u32, u32)>,
     restart: bool,
 ) -> Result<(), AllocError>
-    ensures { OnOk result (text.new.items ≡ text.old.items ++ xmpp_namespace creation.now restart) }
+    ensures { OnOk result (text.new.items ≡ text.old.items ++ rows_text (xmpp_rows creation.now restart)) }
 {
     if creation.is_none() && !restart {
         return Ok(());
@@ -72,9 +73,9 @@ fn push_xmpp_namespace(
     push_xbosh(text)
 }
 
-#[tactic(auto, unfolding(crate::specs::Request::sid_text))]
+#[tactic(auto, unfolding(crate::specs::RequestRows::sid_rows))]
 fn push_sid(text: &mut Vec<u8>, sid: &Option<Text>) -> Result<(), AllocError>
-    ensures { OnOk result (text.new.items ≡ text.old.items ++ sid_text sid.now) }
+    ensures { OnOk result (text.new.items ≡ text.old.items ++ rows_text (sid_rows sid.now)) }
 {
     match sid {
         None => Ok(()),
@@ -82,30 +83,40 @@ fn push_sid(text: &mut Vec<u8>, sid: &Option<Text>) -> Result<(), AllocError>
     }
 }
 
-#[tactic(auto, unfolding(crate::specs::Request::creation_text))]
 fn push_creation(
     alloc: Global,
     text: &mut Vec<u8>,
     creation: &Option<(Text, u32, u32)>,
 ) -> Result<(), AllocError>
-    ensures { OnOk result (text.new.items ≡ text.old.items ++ creation_text creation.now) }
+    ensures { OnOk result (text.new.items ≡ text.old.items ++ rows_text (creation_rows creation.now)) }
 {
     match creation {
         None => Ok(()),
-        Some((to, wait, hold)) => {
-            push_text(text, "to", to)?;
-            push_attribute(text, "xml:lang", b"en")?;
-            push_number(alloc, text, "wait", u64::from(*wait))?;
-            push_number(alloc, text, "hold", u64::from(*hold))?;
-            push_attribute(text, "ver", b"1.11")?;
-            push_attribute(text, "content", b"text/xml; charset=utf-8")
-        }
+        Some((to, wait, hold)) => push_creation_of(alloc, text, to, *wait, *hold),
     }
 }
 
-#[tactic(auto, unfolding(crate::specs::Request::ack_text))]
+fn push_creation_of(
+    alloc: Global,
+    text: &mut Vec<u8>,
+    to: &Text,
+    wait: u32,
+    hold: u32,
+) -> Result<(), AllocError>
+    ensures { OnOk result (text.new.items ≡ text.old.items ++ rows_text (creation_rows (Some (to.now, wait, hold)))) }
+{
+    push_text(text, "to", to)?;
+    push_attribute(text, "xml:lang", b"en")?;
+    push_number(alloc, text, "wait", u64::from(wait))?;
+    push_number(alloc, text, "hold", u64::from(hold))?;
+    push_attribute(text, "ver", b"1.11")?;
+    push_attribute(text, "content", b"text/xml; charset=utf-8")?;
+    Ok(())
+}
+
+#[tactic(auto, unfolding(crate::specs::RequestRows::number_rows))]
 fn push_ack(alloc: Global, text: &mut Vec<u8>, ack: Option<u64>) -> Result<(), AllocError>
-    ensures { OnOk result (text.new.items ≡ text.old.items ++ ack_text ack) }
+    ensures { OnOk result (text.new.items ≡ text.old.items ++ rows_text (number_rows (codes "ack") ack)) }
 {
     match ack {
         None => Ok(()),
@@ -113,9 +124,9 @@ fn push_ack(alloc: Global, text: &mut Vec<u8>, ack: Option<u64>) -> Result<(), A
     }
 }
 
-#[tactic(auto, unfolding(crate::specs::Request::key_text))]
+#[tactic(auto, unfolding(crate::specs::RequestRows::key_rows))]
 fn push_key(text: &mut Vec<u8>, name: &str, key: &Option<Key>) -> Result<(), AllocError>
-    ensures { OnOk result (text.new.items ≡ text.old.items ++ key_text name.now key.now) }
+    ensures { OnOk result (text.new.items ≡ text.old.items ++ rows_text (key_rows name.now key.now)) }
 {
     match key {
         None => Ok(()),
@@ -123,9 +134,9 @@ fn push_key(text: &mut Vec<u8>, name: &str, key: &Option<Key>) -> Result<(), All
     }
 }
 
-#[tactic(auto, unfolding(crate::specs::Request::pause_text))]
+#[tactic(auto, unfolding(crate::specs::RequestRows::number_rows))]
 fn push_pause(alloc: Global, text: &mut Vec<u8>, pause: Option<u32>) -> Result<(), AllocError>
-    ensures { OnOk result (text.new.items ≡ text.old.items ++ pause_text pause) }
+    ensures { OnOk result (text.new.items ≡ text.old.items ++ rows_text (number_rows (codes "pause") pause)) }
 {
     match pause {
         None => Ok(()),
@@ -133,9 +144,9 @@ fn push_pause(alloc: Global, text: &mut Vec<u8>, pause: Option<u32>) -> Result<(
     }
 }
 
-#[tactic(auto, unfolding(crate::specs::Request::terminate_text))]
+#[tactic(auto, unfolding(crate::specs::RequestRows::terminate_rows))]
 fn push_terminate(text: &mut Vec<u8>, terminate: bool) -> Result<(), AllocError>
-    ensures { OnOk result (text.new.items ≡ text.old.items ++ terminate_text terminate) }
+    ensures { OnOk result (text.new.items ≡ text.old.items ++ rows_text (terminate_rows terminate)) }
 {
     if terminate {
         push_attribute(text, "type", b"terminate")
@@ -144,9 +155,9 @@ fn push_terminate(text: &mut Vec<u8>, terminate: bool) -> Result<(), AllocError>
     }
 }
 
-#[tactic(auto, unfolding(crate::specs::Request::version_text))]
+#[tactic(auto, unfolding(crate::specs::RequestRows::version_rows))]
 fn push_version(text: &mut Vec<u8>, creation: &Option<(Text, u32, u32)>) -> Result<(), AllocError>
-    ensures { OnOk result (text.new.items ≡ text.old.items ++ version_text creation.now) }
+    ensures { OnOk result (text.new.items ≡ text.old.items ++ rows_text (version_rows creation.now)) }
 {
     match creation {
         None => Ok(()),
@@ -154,9 +165,9 @@ fn push_version(text: &mut Vec<u8>, creation: &Option<(Text, u32, u32)>) -> Resu
     }
 }
 
-#[tactic(auto, unfolding(crate::specs::Request::restart_text))]
+#[tactic(auto, unfolding(crate::specs::RequestRows::restart_rows))]
 fn push_restart(text: &mut Vec<u8>, restart: bool) -> Result<(), AllocError>
-    ensures { OnOk result (text.new.items ≡ text.old.items ++ restart_text restart) }
+    ensures { OnOk result (text.new.items ≡ text.old.items ++ rows_text (restart_rows restart)) }
 {
     if restart {
         push_attribute(text, "xmpp:restart", b"true")

@@ -7,7 +7,8 @@ ghost use Rattle.bosh_http.specs.Responding.{TellsResponse};
 ghost use Rattle.bosh_http.specs.declared.heading.Headed.TheVariants.{Unfinished};
 
 use crate::fields;
-use crate::judging::{LONGEST_CONTENT, LONGEST_HEAD, MOST_FIELDS, ROOM};
+use crate::judging::{LONGEST_CONTENT, ROOM};
+use bosh_types::limits::{LONGEST_HEAD, MOST_FIELDS};
 use http::StatusCode;
 use httparse::Status;
 use httparse::spans::{EMPTY_HEADER_SPAN, HeaderSpan, ResponseSpans, parse_response};

@@ -9,15 +9,12 @@ ghost use Rattle.bosh_http.specs.declared.judging.Judged.TheVariants.{Begun};
 use crate::fields;
 use crate::refusal::HttpRefusal;
 use crate::target::ends_in_target;
+use bosh_types::limits::{LONGEST_HEAD, MOST_FIELDS};
 use httparse::Status;
 use httparse::spans::{EMPTY_HEADER_SPAN, HeaderSpan, RequestSpans, parse_request};
 use std::alloc::{AllocError, Global};
 
-pub(crate) const LONGEST_HEAD: usize = 8192;
-
 pub(crate) const LONGEST_CONTENT: u64 = 1048576;
-
-pub(crate) const MOST_FIELDS: usize = 64;
 
 // More fields than 8192 bytes can hold.
 pub(crate) const ROOM: usize = 2731;

@@ -3,7 +3,7 @@ ghost use Rattle.std.specs.Prelude.{◌≡◌, ◌<◌, ℕ, List, false, length
 ghost use Rattle.bosh_http.specs.Message.{longest_head};
 ghost use Rattle.bosh_http.specs.Scanning.{NoHeadEnds, Scans, fine, line_step, step_of, value_step, within_step};
 
-use crate::judging::LONGEST_HEAD;
+use bosh_types::limits::LONGEST_HEAD;
 use httparse::{is_header_name_token, is_header_value_token, is_method_token, is_uri_token};
 
 // How many bytes of a request line stand after its target, and of a status line before its phrase.

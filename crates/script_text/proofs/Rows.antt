@@ -3,8 +3,9 @@ use Rattle.std.proofs.Common.{◌≡◌, refl}
 use Rattle.std.specs.Prelude.{codes, List, ℕ, ⊤}
 use Rattle.std.specs.Fmt.{digits}
 use Rattle.body_cutter.proofs.Rows.{cuts_compute}
-use Rattle.body_writer.specs.Answer.{answer_text, xmpp_namespace, stream_namespace, kind_text, version_text, terms_text, created_text, ack_text, report_text as report_attribute, restart_text}
-use Rattle.body_writer.specs.Attribute.{attribute, number_attribute, text_attribute, escaped_byte, closed_with, xmpp_version_text}
+use Rattle.body_writer.specs.Answer.{answer_text}
+use Rattle.body_writer.specs.AnswerRows.{answer_attributes, xmpp_rows, stream_rows, kind_rows, version_value, terms_rows, created_rows, ack_rows, report_rows, restart_rows}
+use Rattle.body_writer.specs.Attribute.{attribute, escaped_byte, closed_with}
 use Rattle.session_attrs.specs.Attributes.{is_named, value_of}
 use Rattle.session_attrs.specs.Forms.{is_httpbind, number_of, pause_of, version_of, wish_of, ack_of, terminate_of, flag_of}
 use Rattle.session_attrs.specs.Reading.{rid_in, creation_in, asked_in, request_with, request_of}
@@ -17,7 +18,7 @@ use Rattle.script_text.specs.Stanza.{row_of}
 
 -- what a row unfolds: the reading of bodies, the meaning of attributes, the texts of answers, lines and reports
 unfoldable scripts_compute : ⊤
-unfolding cuts_compute digits answer_text xmpp_namespace stream_namespace kind_text version_text terms_text created_text ack_text report_attribute restart_text attribute number_attribute text_attribute escaped_byte closed_with xmpp_version_text is_named value_of is_httpbind number_of pause_of version_of wish_of ack_of terminate_of flag_of rid_in creation_in asked_in request_with request_of terms_of sid_of is_host_name is_later other_line line_of line_text ending_text row_of
+unfolding cuts_compute digits answer_text answer_attributes xmpp_rows stream_rows kind_rows version_value terms_rows created_rows ack_rows report_rows restart_rows attribute escaped_byte closed_with is_named value_of is_httpbind number_of pause_of version_of wish_of ack_of terminate_of flag_of rid_in creation_in asked_in request_with request_of terms_of sid_of is_host_name is_later other_line line_of line_text ending_text row_of
 scripts_compute = tt
 
 -- the bytes of a script's report

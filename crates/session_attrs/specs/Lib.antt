@@ -7,3 +7,4 @@ pub mod Refusal
 pub mod Rows
 pub mod Terms
 pub mod Values
+pub mod Said

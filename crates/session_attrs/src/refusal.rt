@@ -30,6 +30,11 @@ pub enum AttrRefusal {
 }
 
 impl fmt::Display for Numbered {
+    ghost use Rattle.std.specs.Prelude.{Some};
+    ghost use Rattle.session_attrs.specs.Said.{said_number};
+
+    ghost output = { λ field. Some (said_number field) };
+
     fn fmt<W: fmt::Write>(&self, f: &mut fmt::Formatter<W>) -> fmt::Result {
         match self {
             Numbered::Wait => f.write_str("wait"),
@@ -41,6 +46,11 @@ impl fmt::Display for Numbered {
 }
 
 impl fmt::Display for AttrRefusal {
+    ghost use Rattle.std.specs.Prelude.{Some};
+    ghost use Rattle.session_attrs.specs.Said.{said_refusal};
+
+    ghost output = { λ refusal. Some (said_refusal refusal) };
+
     fn fmt<W: fmt::Write>(&self, f: &mut fmt::Formatter<W>) -> fmt::Result {
         match self {
             AttrRefusal::WrongNamespace => f.write_str("the body is not in the namespace"),
@@ -64,6 +74,11 @@ pub enum RequestError {
 }
 
 impl fmt::Display for RequestError {
+    ghost use Rattle.std.specs.Prelude.{Some};
+    ghost use Rattle.session_attrs.specs.Said.{said_error};
+
+    ghost output = { λ error. Some (said_error error) };
+
     fn fmt<W: fmt::Write>(&self, f: &mut fmt::Formatter<W>) -> fmt::Result {
         match self {
             RequestError::Memory => f.write_str("memory ran out"),

@@ -1,6 +1,5 @@
 -- The tickets that are out, at each step of a session.
-use Rattle.std.proofs.Common.{◌≡◌, ◌≢◌, ℕ, zero, suc, ◌+◌, ◌<◌, ◌==◌, Bool, true, false, not, cond, inl, inr, List, [], ◌∷◌, ◌++◌, map, Option, Some, None, is_some, length, slice_get, slice_set, refl, sym, ◌∙◌, ap, subst, if◌then◌else◌, arith, length-append, length-set}
-use Rattle.std.specs.List.{find}
+use Rattle.std.proofs.Common.{◌≡◌, ◌≢◌, ℕ, zero, suc, ◌+◌, ◌==◌, Bool, true, false, not, cond, inl, inr, List, [], ◌∷◌, ◌++◌, map, Option, Some, None, is_some, length, slice_get, slice_set, refl, sym, ◌∙◌, ap, subst, if◌then◌else◌, arith, length-append, length-set}
 use Rattle.std.specs.Option.{option_map, option_or}
 use Rattle.std.proofs.lemmas.Bool.{cases_eq}
 use Rattle.std.proofs.lemmas.Bool.Decides.{nat_tests}
@@ -49,13 +48,13 @@ module _ {X : Type 0} where
   get_set_other (x ∷ xs) (suc k) zero new other = refl
   get_set_other (x ∷ xs) (suc k) (suc j) new other = get_set_other xs k j new (λ same. other (ap suc same))
 
-issued_push_last : (issued : List Issued) (ticket : Issued) (number : ℕ) → number ≡ length issued + 1 → issued_at (issued ++ ticket ∷ []) number ≡ Some ticket
+pub issued_push_last : (issued : List Issued) (ticket : Issued) (number : ℕ) → number ≡ length issued + 1 → issued_at (issued ++ ticket ∷ []) number ≡ Some ticket
 issued_push_last issued ticket zero last = absurd (omega arith)
 issued_push_last issued ticket (suc k) last =
     let here : k ≡ length issued = omega arith in
     ap (slice_get (issued ++ ticket ∷ [])) here ∙ get_push_last issued ticket
 
-issued_push_other : (issued : List Issued) (ticket : Issued) (number : ℕ) → number ≢ length issued + 1 → issued_at (issued ++ ticket ∷ []) number ≡ issued_at issued number
+pub issued_push_other : (issued : List Issued) (ticket : Issued) (number : ℕ) → number ≢ length issued + 1 → issued_at (issued ++ ticket ∷ []) number ≡ issued_at issued number
 issued_push_other issued ticket zero other = refl
 issued_push_other issued ticket (suc k) other = get_push_other issued ticket k (λ same. other (omega arith))
 
@@ -63,7 +62,7 @@ issued_set_other : (issued : List Issued) (index number : ℕ) (ticket : Issued)
 issued_set_other issued index zero ticket other = refl
 issued_set_other issued index (suc k) ticket other = get_set_other issued index k ticket (λ same. other (ap suc same))
 
-issued_past : (issued : List Issued) (number : ℕ) → number ≡ length issued + 1 → issued_at issued number ≡ None
+pub issued_past : (issued : List Issued) (number : ℕ) → number ≡ length issued + 1 → issued_at issued number ≡ None
 issued_past issued zero last = refl
 issued_past issued (suc k) last = slice_get_past issued k (omega arith)
 

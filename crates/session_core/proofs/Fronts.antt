@@ -1,6 +1,7 @@
 -- What one answer takes of the items that wait.
-use Rattle.std.proofs.Common.{◌≡◌, ℕ, zero, suc, ◌+◌, ◌-◌, ◌<◌, ◌≤◌, Bool, true, false, not, ◌&&◌, ◌||◌, cond, inl, inr, min, List, [], ◌∷◌, Option, Some, None, length, take, drop, get_or, refl, sym, ◌∙◌, ap, arith, length-drop}
-use Rattle.std.specs.List.{list_any, sum_by}
+use Rattle.std.proofs.Common.{◌≡◌, ℕ, zero, suc, ◌+◌, ◌-◌, ◌<◌, ◌≤◌, Bool, true, false, ◌||◌, cond, inl, inr, min, List, [], ◌∷◌, Some, None, length, take, drop, get_or, refl, sym, ◌∙◌, ap, subst, arith, length-drop, length-take}
+use Rattle.std.specs.Prelude.{Result, Ok, Err, IfOk}
+use Rattle.std.specs.List.{list_any}
 use Rattle.std.proofs.lemmas.Bool.{cases_lt}
 use Rattle.std.proofs.lemmas.Bool.Decides.{nat_tests}
 use Rattle.std.proofs.lemmas.List.{take-take}
@@ -11,7 +12,7 @@ use Rattle.bosh_types.specs.declared.ending.Closing.{Closing}
 use Rattle.session_core.specs.declared.outward.Outward.{Outward}
 use Rattle.session_core.specs.declared.outward.Outward.TheVariants.{Stanza, Close}
 use Rattle.session_core.specs.Answers.{fit_one_answer, front_of, longest_front}
-use Rattle.session_core.specs.Outward.{Front, OfStanzas, OfClosing, is_close, size_of, size_of_all}
+use Rattle.session_core.specs.Outward.{Front, OfStanzas, is_close, items_in, size_of, size_of_all, stanzas_in}
 use Rattle.session_core.specs.Queue.{IsCounted, first_closing}
 
 pub first_closing_is : (items : List Outward) (stream : ℕ) (closing : Closing) → first_closing items ≡ Some (stream, closing) → items ≡ Close stream closing ∷ drop 1 items
@@ -93,3 +94,45 @@ counted_left items bytes count sum closed counted is = record {
   small = omega (arith, counted.small);
   few = omega (arith, counted.few, length-drop count items);
 }
+
+longest_few : (most : ℕ) (items : List Outward) → length (longest_front most items) ≤ most
+longest_few zero items = omega arith
+longest_few (suc most) items = by (fit_one_answer (take (suc most) items)) (longest_few most items)
+  where
+    by : (b : Bool) → length (longest_front most items) ≤ most → length (cond b (take (suc most) items) (longest_front most items)) ≤ suc most
+    by true few = omega (arith, length-take (suc most) items)
+    by false few = omega (arith, few)
+
+stanzas_few : (items : List Outward) → length (stanzas_in items) ≤ length items
+stanzas_few [] = omega arith
+stanzas_few (Stanza stream bytes ∷ items) = omega (arith, stanzas_few items)
+stanzas_few (Close stream closing ∷ items) = omega (arith, stanzas_few items)
+
+-- an answer has few payloads
+pub front_few : (items : List Outward) → length (stanzas_in (items_in (front_of items))) ≤ most_waiting
+front_few [] = omega arith
+front_few (Close stream closing ∷ items) = omega arith
+front_few (Stanza stream bytes ∷ items) =
+    omega (arith, stanzas_few (longest_front (min most_waiting (length items + 1)) (Stanza stream bytes ∷ items)), longest_few (min most_waiting (length items + 1)) (Stanza stream bytes ∷ items))
+
+longest_within : (most : ℕ) (items : List Outward) → (n : ℕ) × (longest_front most items ≡ take n items)
+longest_within zero items = (0, refl)
+longest_within (suc most) items = by (fit_one_answer (take (suc most) items)) (longest_within most items)
+  where
+    by : (b : Bool) → ((n : ℕ) × (longest_front most items ≡ take n items)) → (n : ℕ) × (cond b (take (suc most) items) (longest_front most items) ≡ take n items)
+    by true shorter = (suc most, refl)
+    by false shorter = shorter
+
+-- an answer takes no more than there is
+pub front_within : (items : List Outward) → length (items_in (front_of items)) ≤ length items
+front_within [] = omega arith
+front_within (Close stream closing ∷ items) = omega arith
+front_within (Stanza stream bytes ∷ items) =
+    let taken = longest_within (min most_waiting (length items + 1)) (Stanza stream bytes ∷ items) in
+    let size : length (longest_front (min most_waiting (length items + 1)) (Stanza stream bytes ∷ items)) ≡ length (take taken.0 (Stanza stream bytes ∷ items)) = ap length taken.1 in
+    omega (arith, size, length-take taken.0 (Stanza stream bytes ∷ items))
+
+pub few_in : {E : Type 0} (result : Result Front E) (items : List Outward) → IfOk result (λ front. front ≡ front_of items)
+    → IfOk result (λ front. length (stanzas_in (items_in front)) ≤ most_waiting)
+few_in (Ok front) items is = subst (λ f. length (stanzas_in (items_in f)) ≤ most_waiting) (sym is) (front_few items)
+few_in (Err e) items is = tt

@@ -9,9 +9,8 @@ use Rattle.session_core.specs.declared.replies.Arrived.TheVariants.{Answer, Park
 use Rattle.session_core.specs.declared.replies.Collected.TheVariants as collections
 use Rattle.session_core.specs.Copy.{id_of}
 use Rattle.session_core.specs.Journal.{Collect, Back, BackClosed, Tick, TakeInward, Journal, ToArrive, ToCollect, state_of}
-use Rattle.session_core.specs.Laws.{items_taken}
 use Rattle.session_core.specs.Machine.{opened, is_full}
-use Rattle.session_core.specs.Passed.{passed_of, given_in}
+use Rattle.session_core.specs.Passed.{passed_of, given_in, items_taken}
 use Rattle.session_core.specs.Run.{run_of}
 use Rattle.session_core.specs.declared.outward.Outward.{Outward}
 use Rattle.session_core.specs.declared.outward.Outward.TheVariants.{Stanza, Close}

@@ -9,14 +9,15 @@ use Rattle.body_cutter.specs.Grammar.{Name, NameRest, TagRest, Element, Single}
 use Rattle.body_cutter.specs.Parts.{single_parts, most_in_element, depth_of, count_of}
 use Rattle.body_cutter.specs.Built.{IsElementWithin}
 use Rattle.body_writer.specs.declared.request.RequestParts.{RequestParts}
-use Rattle.body_writer.specs.Attribute.{attribute, number_attribute, text_attribute, escaped_byte, closed_with, xmpp_version_text}
+use Rattle.body_writer.specs.Attribute.{attribute, escaped_byte, closed_with}
 use Rattle.body_writer.specs.ReadBack.{IsAllowed, IsRequest, longest}
-use Rattle.body_writer.specs.Request.{request_text, xmpp_namespace, sid_text, creation_text, ack_text, key_text, pause_text, terminate_text, version_text, restart_text}
+use Rattle.body_writer.specs.Request.{request_text}
+use Rattle.body_writer.specs.RequestRows.{request_attributes, xmpp_rows, sid_rows, creation_rows, number_rows, key_rows, terminate_rows, version_rows, restart_rows}
 use Rattle.body_writer.proofs.Texts.{texts_ascii}
 use Rattle.session_core.specs.ReadBack.{IsInForm}
 
 unfoldable requests_compute : ⊤
-unfolding digits request_text xmpp_namespace sid_text creation_text ack_text key_text pause_text terminate_text version_text restart_text attribute number_attribute text_attribute escaped_byte closed_with xmpp_version_text
+unfolding digits request_text request_attributes xmpp_rows sid_rows creation_rows number_rows key_rows terminate_rows version_rows restart_rows attribute escaped_byte closed_with
 requests_compute = tt
 
 abbrev stanza : List ℕ

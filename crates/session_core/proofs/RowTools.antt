@@ -3,8 +3,9 @@ use Rattle.std.specs.Prelude.{ℕ, ◌+◌, false, List, [], ◌∷◌, ◌++◌
 use Rattle.std.specs.Fmt.{decimal, digits}
 use Rattle.bosh_types.specs.declared.ending.Ending.{Ending}
 use Rattle.bosh_types.specs.declared.inward.Inward.{Inward}
-use Rattle.body_writer.specs.Answer.{answer_text, xmpp_namespace, stream_namespace, kind_text, version_text, terms_text, created_text, ack_text, report_text, restart_text}
-use Rattle.body_writer.specs.Attribute.{attribute, number_attribute, text_attribute, escaped_byte, closed_with, xmpp_version_text}
+use Rattle.body_writer.specs.Answer.{answer_text}
+use Rattle.body_writer.specs.AnswerRows.{answer_attributes, xmpp_rows, stream_rows, kind_rows, version_value, terms_rows, created_rows, ack_rows, report_rows, restart_rows}
+use Rattle.body_writer.specs.Attribute.{attribute, escaped_byte, closed_with}
 use Rattle.hex.specs.Hex.{encode_with}
 use Rattle.key_sequence.specs.Chain.{hex_digest}
 use Rattle.sha1.specs.Sha1.{first_words, schedule, rounds, compress, hash_after, digest_bytes, sha1}
@@ -127,7 +128,7 @@ terminate_body = codes "<body xmlns='http://jabber.org/protocol/httpbind' type='
 
 -- what an answer unfolds to compute a body, and a key
 unfoldable pub bodies_compute : ⊤
-unfolding digits answer_text xmpp_namespace stream_namespace kind_text version_text terms_text created_text ack_text report_text restart_text attribute number_attribute text_attribute escaped_byte closed_with xmpp_version_text terms_of
+unfolding digits answer_text answer_attributes xmpp_rows stream_rows kind_rows version_value terms_rows created_rows ack_rows report_rows restart_rows attribute escaped_byte closed_with terms_of
 bodies_compute = tt
 
 unfoldable pub keys_compute : ⊤

@@ -1,6 +1,6 @@
 -- The fact of each ending, with its numbers: what holds exactly where a session that went on ends so. `tested` is the state at
 -- which the call of the ending entry was tested, `after` the state that it leaves.
-use Rattle.std.specs.Prelude.{◌≡◌, ℕ, ◌+◌, ◌*◌, ◌<◌, ◌≤◌, false, List, [], ◌∷◌, ◌++◌, All, Some, None, IsTrue}
+use Rattle.std.specs.Prelude.{◌≡◌, ℕ, ◌+◌, ◌*◌, ◌<◌, ◌≤◌, false, List, [], ◌∷◌, ◌++◌, Some, None, IsTrue}
 use Rattle.std.specs.List.{list_any}
 use Rattle.bosh_types.specs.Limits.{journal_bytes}
 use Rattle.bosh_types.specs.declared.ending.Closing.{Closing}

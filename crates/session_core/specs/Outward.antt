@@ -1,6 +1,5 @@
 -- What the server gives, and what one answer takes of it.
 use Rattle.std.specs.Prelude.{ℕ, Bool, true, false, List, [], ◌∷◌, length, sum_by}
-use Rattle.bosh_types.specs.declared.ending.Closing.{Closing}
 use Rattle.session_core.specs.declared.outward.Outward.{Outward}
 use Rattle.session_core.specs.declared.outward.Outward.TheVariants.{Stanza, Close}
 pub use Rattle.session_core.specs.declared.outward.Front.{Front}

@@ -1,5 +1,5 @@
--- What went inward and what the server gave, as a journal tells it.
-use Rattle.std.specs.Prelude.{ℕ, ◌==◌, Bool, List, ◌++◌, map, take, sum_by, filter, Option, Some, None}
+-- What went inward, what the server gave, as a journal tells it, and what answers took of that.
+use Rattle.std.specs.Prelude.{ℕ, ◌==◌, Bool, List, [], ◌∷◌, ◌++◌, map, take, sum_by, filter, Option, Some, None}
 use Rattle.std.specs.List.{filter_map}
 use Rattle.bosh_types.specs.declared.inward.Inward.{Inward}
 use Rattle.bosh_types.specs.declared.inward.Inward.TheVariants.{Item, Restart}
@@ -10,9 +10,10 @@ use Rattle.session_core.specs.Journal.{Arrive, Collect, Back, BackClosed, Tick, 
 use Rattle.session_core.specs.Machine.{back, back_closed}
 use Rattle.session_core.specs.declared.outward.Outward.{Outward}
 use Rattle.session_core.specs.declared.outward.Outward.TheVariants.{Stanza, Close}
+use Rattle.session_core.specs.Outward.{items_in}
 use Rattle.session_core.specs.Points.{points_of}
 use Rattle.session_core.specs.Run.{run_of}
-use Rattle.session_core.specs.State.{PlainSession, items_of_all}
+use Rattle.session_core.specs.State.{PlainSession, Answered, items_of_all}
 
 abbrev pub stream_of : Inward → ℕ
 stream_of (Item stream stanza) = stream
@@ -62,3 +63,8 @@ given_in journal =
 
 abbrev pub given_of : Journal → ℕ → List Outward
 given_of journal stream = filter (is_on stream) (given_in journal)
+
+-- the items that answers took, in order
+abbrev pub items_taken : List Answered → List Outward
+items_taken [] = []
+items_taken (answer ∷ answers) = items_in answer.front ++ items_taken answers

@@ -1,7 +1,6 @@
 -- The tickets of a session that are out, with what is known of their requests.
-use Rattle.std.specs.Prelude.{ℕ, ◌+◌, ◌==◌, Bool, true, false, not, List, [], ◌∷◌, ◌++◌, map, filter, Option, Some, None, is_some, if◌then◌else◌}
+use Rattle.std.specs.Prelude.{ℕ, ◌+◌, ◌-◌, ◌==◌, Bool, true, false, not, List, [], ◌∷◌, ◌++◌, filter, Option, Some, None, is_some, if◌then◌else◌}
 use Rattle.std.specs.List.{find}
-use Rattle.std.specs.Option.{option_or}
 use Rattle.session_core.specs.declared.replies.Collected.{Collected}
 use Rattle.session_core.specs.declared.replies.Collected.TheVariants as collections
 use Rattle.session_core.specs.declared.tickets.OpenTicket.{OpenTicket}
@@ -63,3 +62,10 @@ without number tickets = filter (λ ticket. not (ticket.number == number)) ticke
 abbrev pub collected : Book → ℕ → Book
 collected book number =
     if uses_up (told_of (ticket_at book.out number)) then record book { out = without number book.out } else book
+
+-- the ticket that was handed out last is taken back, where its request has its answer
+abbrev pub taken_back : Book → Book
+taken_back book =
+    if is_some (answer_of (ticket_at book.out book.handed_out))
+    then record { handed_out = book.handed_out - 1; out = without book.handed_out book.out }
+    else book

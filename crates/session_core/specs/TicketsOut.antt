@@ -1,5 +1,5 @@
 -- Which tickets are out, of all that were handed out.
-use Rattle.std.specs.Prelude.{◌≡◌, ℕ, zero, suc, Bool, true, false, List, Option, Some, None, length, slice_get}
+use Rattle.std.specs.Prelude.{◌≡◌, ℕ, zero, suc, true, false, List, Option, Some, None, length, slice_get}
 use Rattle.session_core.specs.declared.tickets.OpenTicket.{OpenTicket}
 use Rattle.session_core.specs.State.{Issued, TicketState, Waits, Replaced, UsedUp}
 use Rattle.session_core.specs.Tickets.{Book, ticket_at}

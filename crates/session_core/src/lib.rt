@@ -1,19 +1,35 @@
-// One session, apart from every connection, clock and thread: which request stands for an id, what goes inward, and when
-// the session ends. Here so far is the plain session, which keeps all that arrived and searches it each time.
+// One session, apart from every connection, clock and thread: which request stands for an id, what goes inward, what each
+// request is answered, and when the session ends. `Session` is a session as a manager holds it; `Bare` keeps all that arrived,
+// knows of nothing else, and searches it each time.
 #![tactic(auto)]
 
+mod answering;
 mod arrival;
+mod arriving;
 mod bare;
+mod collecting;
 mod copy;
+mod copying;
+mod counting;
 mod held;
 mod inbox;
 mod laws;
+mod opening;
 mod outbox;
 mod outward;
 mod place;
+mod processing;
+mod reasons;
 mod replies;
+mod rules;
 mod search;
+mod serving;
+mod session;
 mod tickets;
+mod ticking;
+mod timing;
+mod words;
+mod written;
 
 pub use arrival::Arrival;
 pub use bare::{Bare, BareSeen};
@@ -25,6 +41,7 @@ pub use outbox::Outbox;
 pub use outward::{Front, Outward};
 pub use place::Place;
 pub use replies::{Arrived, Collected, Taken, Ticked, Waiting};
+pub use session::Session;
 pub use tickets::{OpenTicket, Tickets};
 
 #[cfg(test)]

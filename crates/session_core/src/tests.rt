@@ -28,10 +28,12 @@ fn takes_what_fits(rt: HostRuntime) -> Result<(), Fail> {
     for (row, (sizes, fronts)) in rows.into_iter().enumerate() {
         let mut outbox = Outbox::new(rt.alloc());
         for size in sizes {
-            assert!(rt; outbox.has_room(*size));
-            outbox.push_stanza(StreamNo::unnamed(), text(rt.alloc(), *size)?)?;
+            let stanza = text(rt.alloc(), *size)?;
+            assert!(rt; outbox.has_room(stanza.len()));
+            outbox.push_stanza(StreamNo::unnamed(), stanza)?;
         }
         assert_eq!(rt; outbox.counts().items as usize, sizes.len());
+        assert!(rt; !outbox.is_closed());
         outbox.push_closing(StreamNo::unnamed(), Closing::Plain)?;
         for (at, want) in fronts.iter().enumerate() {
             let front = outbox.take_front()?;

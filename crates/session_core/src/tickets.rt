@@ -1,6 +1,6 @@
 ghost use Rattle.std.specs.Prelude.{◌≡◌, ◌+◌, IfOk, OnOk, OnErr, None, [], map};
 ghost use Rattle.std.specs.Option.{option_map};
-ghost use Rattle.session_core.specs.Tickets.{answer_of, collected, given, replace, give_answer, give_word, ticket_at, told_of, without};
+ghost use Rattle.session_core.specs.Tickets.{answer_of, collected, given, replace, give_answer, give_word, taken_back, ticket_at, told_of, without};
 
 use crate::replies::Collected;
 use bosh_types::{CopyIn, Rid, SharedText, Ticket, copy_items};
@@ -101,6 +101,18 @@ impl Tickets {
         ensures { OnOk result (self.new ≡ record self.old { out = map (give_word breaker word.now other.now) self.old.out }) }
     {
         last_words_for_all(&mut self.out, breaker, word, other)
+    }
+
+    /// Takes the ticket that was handed out last back where its request has its answer, and gives that. It takes no memory.
+    pub fn take_back(&mut self) -> Option<SharedText>
+        ensures answer { result ≡ answer_of (ticket_at self.old.out self.old.handed_out) }
+        ensures after { self.new ≡ taken_back self.old }
+    {
+        let number = self.handed_out;
+        let answer = taken_answer(&mut self.out, number)?;
+        forget(&mut self.out, number);
+        self.handed_out = number.saturating_sub(1);
+        Some(answer)
     }
 
     /// What there is for a ticket, which is used up where that is an answer, or that it was superseded. It takes no memory.

@@ -1,6 +1,6 @@
-use Rattle.std.proofs.Common.{◌≡◌, ◌+◌, ◌≤◌, true, take, min, length, ◌∙◌, ap, sym, arith}
+use Rattle.std.proofs.Common.{◌≡◌, ◌+◌, true, take, min, length, arith}
 use Rattle.bosh_types.specs.Limits.{most_waiting}
-use Rattle.session_core.specs.Answers.{fit_one_answer, longest_front}
+use Rattle.session_core.specs.Answers.{fit_one_answer}
 use Rattle.session_core.proofs.Fronts.{fits_is, longest_is, no_longer, stops}
 use Rattle.session_core.proofs.outbox.longest_fitting.Goals as goal
 

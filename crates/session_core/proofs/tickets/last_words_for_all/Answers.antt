@@ -1,4 +1,4 @@
-use Rattle.std.proofs.Common.{arith, ◌∙◌}
+use Rattle.std.proofs.Common.{◌∙◌}
 use Rattle.session_core.specs.Tickets.{give_word}
 use Rattle.session_core.proofs.InPlace.{changed_all, changed_step}
 use Rattle.session_core.proofs.tickets.last_words_for_all.Goals as goal

@@ -1,4 +1,4 @@
-use Rattle.std.proofs.Common.{◌≡◌, ◌<◌, ◌∙◌, sym, ap, get_or, length, arith}
+use Rattle.std.proofs.Common.{◌≡◌, ◌<◌, ◌∙◌, ap, get_or, length, arith}
 use Rattle.session_core.specs.declared.tickets.OpenTicket.{OpenTicket}
 use Rattle.session_core.specs.Tickets.{without}
 use Rattle.session_core.proofs.OutTickets.{same_read, without_set}

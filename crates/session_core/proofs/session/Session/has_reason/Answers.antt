@@ -1,0 +1,8 @@
+use Rattle.std.proofs.Common.{◌∙◌}
+use Rattle.session_core.specs.StandsFor.{StandsFor}
+use Rattle.session_core.proofs.StandingLemmas.{wants_is}
+use Rattle.session_core.proofs.session.Session.has_reason.Goals as goal
+
+pub returns : goal.returns
+unfolding StandsFor
+returns c = λ plain stands. c.wants_answer.ensures ∙ wants_is stands

@@ -1,0 +1,15 @@
+use Rattle.std.proofs.Common.{◌≡◌, ◌∙◌, true, refl, sym, subst}
+use Rattle.session_core.specs.declared.replies.Ticked.{Ticked}
+use Rattle.session_core.specs.declared.replies.Ticked.TheVariants.{Changed}
+use Rattle.session_core.specs.State.{PlainSession}
+use Rattle.session_core.specs.Steps.{Does}
+use Rattle.session_core.specs.Time.{is_due}
+use Rattle.session_core.proofs.ArrivedLemmas.{due_live, tick_due}
+use Rattle.session_core.proofs.session.Session.tick.Goals as goal
+
+pub returns-clause-step : goal.returns-clause-step
+returns-clause-step c = λ plain stands.
+    let due : is_due plain c.args.now ≡ true = sym (c.is_due.ensures plain stands) ∙ c.if-not-is_due.false in
+    let draft = c.in_ok-draft.ensures plain stands in
+    subst (λ (step : PlainSession × Ticked). Does c.pass_time.new.self Changed step) (sym (tick_due plain c.args.now due))
+    (record { replies = refl; after = c.in_ok-pass_time.ensures plain draft (due_live plain c.args.now due) })

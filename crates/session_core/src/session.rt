@@ -1,0 +1,44 @@
+use crate::copy::SharedCopy;
+use crate::held::HeldRequests;
+use crate::inbox::Inbox;
+use crate::outbox::Outbox;
+use crate::tickets::Tickets;
+use ack_report::Acks;
+use bosh_types::{Ending, Moment, Rid};
+use key_sequence::KeyCheck;
+use pause_rules::{Deadlines, Mark};
+use reply_keep::Keep;
+use rid_window::Window;
+
+/// One session of a client with a server, apart from every connection, clock and thread (XEP-0124, XEP-0206). It keeps what
+/// its next calls need and forgets the rest.
+#[derive(Drop)]
+pub struct Session {
+    // The terms, and the silence that is allowed now.
+    pub(crate) deadlines: Deadlines,
+    pub(crate) keys: KeyCheck,
+    pub(crate) acks: Acks,
+    pub(crate) keep: Keep,
+    // The copies that were not processed yet.
+    pub(crate) window: Window<SharedCopy>,
+    // The highest ids that were processed and answered, and the requests between them, the oldest first.
+    pub(crate) last: Rid,
+    pub(crate) answered: Rid,
+    pub(crate) held: HeldRequests,
+    // The copy that was processed last; when the last answer was given, and whether it had no payload.
+    pub(crate) latest: Mark,
+    pub(crate) last_given: Moment,
+    pub(crate) last_bare: bool,
+    // What goes inward and was not taken yet.
+    pub(crate) inward: Inbox,
+    // What the server gave and no answer took yet.
+    pub(crate) outbox: Outbox,
+    // The tickets that are out.
+    pub(crate) tickets: Tickets,
+    // The greatest moment so far, and that of the last arrival.
+    pub(crate) moment: Moment,
+    pub(crate) last_arrival: Moment,
+    // The counted bytes of its journal.
+    pub(crate) counted: u64,
+    pub(crate) ending: Option<Ending>,
+}

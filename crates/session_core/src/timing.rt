@@ -1,0 +1,79 @@
+// What time alone does: it comes first in each call that has a moment (XEP-0124, sections 7.1 and 10).
+ghost use Rattle.std.specs.Prelude.{◌≡◌, OnOk, max};
+ghost use Rattle.session_core.specs.StandsFor.{StandsFor};
+ghost use Rattle.session_core.specs.State.{PlainSession};
+ghost use Rattle.session_core.specs.Time.{at_moment, is_silent, quiet_of, silenced, time_applied};
+
+use crate::session::Session;
+use bosh_types::{Ending, Moment};
+use std::alloc::{AllocError, Global};
+
+impl Session {
+    /// A moment that is earlier than one before it counts as that one.
+    #[tactic(auto, unfolding(crate::specs::StandsFor::StandsFor))]
+    pub(crate) fn set_moment(&mut self, now: Moment)
+        ensures { (plain : PlainSession) → StandsFor self.old plain → StandsFor self.new (at_moment plain now) }
+    {
+        self.moment = later_of(self.moment, now);
+    }
+
+    /// First those are answered that have waited their time, then silence may end the session.
+    pub(crate) fn apply_time(&mut self, alloc: Global, now: Moment) -> Result<(), AllocError>
+        ensures { (plain : PlainSession) → StandsFor self.old plain → OnOk result (StandsFor self.new (time_applied plain now)) }
+    {
+        self.set_moment(now);
+        self.settle(alloc)?;
+        self.silence(alloc)
+    }
+
+    #[tactic(auto, unfolding(crate::specs::StandsFor::StandsFor))]
+    fn silence(&mut self, alloc: Global) -> Result<(), AllocError>
+        ensures { (plain : PlainSession) → StandsFor self.old plain → OnOk result (StandsFor self.new (silenced plain)) }
+    {
+        if self.ending.is_some() || !self.is_silent() {
+            return Ok(());
+        }
+        let since = self.quiet();
+        self.end(
+            alloc,
+            Ending::Silent {
+                since,
+                now: self.moment,
+            },
+        )
+    }
+
+    // No request is held, and it has been quiet for longer than allowed.
+    #[tactic(auto, unfolding(crate::specs::StandsFor::StandsFor))]
+    fn is_silent(&self) -> bool
+        ensures { (plain : PlainSession) → StandsFor self.now plain → result ≡ is_silent plain }
+    {
+        self.is_silent_at(self.moment)
+    }
+
+    /// It is so at this moment, which is no earlier than the greatest so far.
+    #[tactic(auto, unfolding(crate::specs::StandsFor::StandsFor))]
+    pub(crate) fn is_silent_at(&self, moment: Moment) -> bool
+        ensures { (plain : PlainSession) → StandsFor self.now plain → result ≡ is_silent (record plain { now = moment }) }
+    {
+        self.held.len() == 0 && self.deadlines.silent_due(self.quiet(), moment)
+    }
+
+    // Since when it has been quiet: since the last answer, and while copies stand beyond a gap, since the last arrival.
+    #[tactic(auto, unfolding(crate::specs::StandsFor::StandsFor))]
+    fn quiet(&self) -> Moment
+        ensures { (plain : PlainSession) → StandsFor self.now plain → result ≡ quiet_of plain }
+    {
+        if self.window.is_clear() {
+            return self.last_given;
+        }
+        later_of(self.last_given, self.last_arrival)
+    }
+}
+
+// The later of two moments.
+pub(crate) fn later_of(one: Moment, other: Moment) -> Moment
+    ensures { result ≡ max one other }
+{
+    if one < other { other } else { one }
+}
