@@ -13,7 +13,7 @@ use Rattle.session_core.specs.Copy.{is_pause}
 use Rattle.session_core.specs.Machine.{Opening, opened, greeting_of}
 use Rattle.session_core.specs.Outward.{items_in}
 use Rattle.session_core.specs.State.{PlainSession, Answered, answers, taken_by_answers, waiting}
-use Rattle.session_laws.specs.Items.{items_taken}
+use Rattle.session_core.specs.Passed.{items_taken}
 use Rattle.session_laws.proofs.Tests.{split}
 use Rattle.session_laws.proofs.Moves.{Steady}
 

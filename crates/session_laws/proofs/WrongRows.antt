@@ -22,7 +22,7 @@ use Rattle.session_core.specs.State.{PlainSession, Answered, Issued, answers, wa
 use Rattle.session_core.specs.Time.{at_moment}
 use Rattle.session_core.proofs.RowTools.{opening, empty, carrying, plain, empty_body, bodies_compute}
 use Rattle.session_core.specs.Outward.{items_in}
-use Rattle.session_laws.specs.Items.{items_taken}
+use Rattle.session_core.specs.Passed.{items_taken}
 use Rattle.session_laws.specs.Tickets.{Tells}
 
 abbrev after : PlainSession → List Call → PlainSession

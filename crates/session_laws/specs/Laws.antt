@@ -28,7 +28,7 @@ use Rattle.session_core.specs.Time.{time_applied, is_due}
 use Rattle.session_laws.specs.Acknowledging.{IsKept}
 use Rattle.session_laws.specs.Answering.{WasGiven, IsLongestFront}
 use Rattle.session_laws.specs.Growing.{Grows, with_later}
-use Rattle.session_laws.specs.Items.{items_taken}
+use Rattle.session_core.specs.Passed.{items_taken}
 use Rattle.session_laws.specs.OneBody.{SendsOneBody, RunCarries, carried}
 use Rattle.session_laws.specs.Replies.{IsOpenId, IsToldTo, MayTake}
 use Rattle.session_laws.specs.RunEnded.{BreaksNoRule, IsRunOfEnded}

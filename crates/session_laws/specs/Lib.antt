@@ -1,5 +1,4 @@
 pub mod Laws
-pub mod Items
 pub mod Growing
 pub mod Tickets
 pub mod OneBody
