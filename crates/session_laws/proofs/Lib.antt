@@ -36,3 +36,4 @@ pub mod WrongRows
 pub mod OneEndedRun
 pub mod TicketSteps
 pub mod UnaskedRow
+pub mod OneMore
