@@ -8,7 +8,9 @@ use Rattle.session_core.specs.declared.copy.RequestCopy.{RequestCopy}
 use Rattle.session_core.specs.Journal.{Entry, Journal}
 use Rattle.session_core.specs.Kept.{kept_answer}
 use Rattle.session_core.specs.Machine.{Opening, creation_of}
-use Rattle.session_core.specs.Run.{moment_after, arrival_in, arrivals_from, arrivals_with, HasNot, Completes, state_testing, KeepsRules}
+use Rattle.session_core.specs.Run.{moment_after, arrival_in, arrivals_from, arrivals_with, HasNot, Completes, state_testing}
+use Rattle.session_laws.proofs.Tests.{true_false}
+use Rattle.session_laws.specs.RunEnded.{BreaksNoRule}
 use Rattle.session_core.specs.State.{PlainSession, Answered, answers, answered_of}
 use Rattle.session_laws.specs.Acknowledging.{AckedIn}
 use Rattle.session_laws.proofs.JournalLemmas.{journal_with, has_not_before}
@@ -45,7 +47,7 @@ arrivals-append moment (entry ∷ past) later =
     ∙ sym (append_assoc (arrival_in moment entry.entered) (arrivals_from (moment_after moment entry.entered) past) (arrivals_from (moment_of (moment_after moment entry.entered) past) later))
 
 -- what had not arrived with an entry had not before
-not_earlier : (o : Opening) (b : List Entry) (e : Entry) (m b' : List Entry) (rid : ℕ) → b' ≡ b ++ e ∷ m → HasNot (arrivals_with o b') rid → HasNot (arrivals_with o (b ++ e ∷ [])) rid
+pub not_earlier : (o : Opening) (b : List Entry) (e : Entry) (m b' : List Entry) (rid : ℕ) → b' ≡ b ++ e ∷ m → HasNot (arrivals_with o b') rid → HasNot (arrivals_with o (b ++ e ∷ [])) rid
 not_earlier o b e m b' rid is none =
     let all : arrivals_with o b' ≡ arrivals_with o (b ++ e ∷ []) ++ arrivals_from (moment_of o.now (b ++ e ∷ [])) m =
     ap (arrivals_with o) (is ∙ sym (append_assoc b (e ∷ []) m)) ∙ ap (λ l. creation_of o ∷ l) (arrivals-append o.now (b ++ e ∷ []) m) in
@@ -68,14 +70,14 @@ pub record Acknowledges (journal : Journal) (on : Bool) (acknowledged : ℕ) (pr
   pub off : on ≡ false → acknowledged ≡ 0
 
 -- one more entry changes nothing of what was processed before it
-pub acks_more : (o : Opening) (past : List Entry) (entry : Entry) (on : Bool) (acknowledged : ℕ) (processed : List RequestCopy) → KeepsRules (journal_with o past) processed → Acknowledges (journal_with o past) on acknowledged processed
+pub acks_more : (o : Opening) (past : List Entry) (entry : Entry) (on : Bool) (acknowledged : ℕ) (processed : List RequestCopy) → BreaksNoRule (journal_with o past) processed → Acknowledges (journal_with o past) on acknowledged processed
     → Acknowledges (journal_with o (past ++ entry ∷ [])) on acknowledged processed
 acks_more o past entry on acknowledged processed keeps acks = record {
   forth = λ is rid some within.
       let a = acks.forth is rid some within in
       (a.0, a.1, a.2, a.3, a.4, a.5 ++ entry ∷ [], a.6, a.7, a.8, ap (λ es. es ++ entry ∷ []) a.9 ∙ append_assoc a.3 (a.4 ∷ a.5) (entry ∷ []), a.10, a.11);
   back = λ is rid a.
-      let j = keeps.judged a.0 a.1 a.6 in
+      let j = keeps.tried a.0 a.1 a.6 in
       let same = complete_one o (past ++ entry ∷ []) (take a.0 processed) a.3 a.4 a.5 j.0 j.1 (j.2 ++ entry ∷ []) a.9 (ap (λ es. es ++ entry ∷ []) j.3 ∙ append_assoc j.0 (j.1 ∷ j.2) (entry ∷ [])) a.10 j.4 in
       let within : rid ≤ answered_of (state_testing o j.0 j.1) = subst (λ (s : PlainSession). rid ≤ answered_of s) (ap₂ (state_testing o) same.0 same.1) a.11 in
       acks.back is rid (a.0, a.1, a.2, j.0, j.1, j.2, a.6, a.7, a.8, j.3, j.4, within);
@@ -105,9 +107,6 @@ some_none o n some none = cc
 
 some_same : (o : Option ℕ) (n m : ℕ) → o ≡ Some n → o ≡ Some m → n ≡ m
 some_same o n m one other = cc
-
-true_false : true ≡ false → ⊥
-true_false no' = cc
 
 -- one more copy is processed with this entry
 pub acks_push : (o : Opening) (past : List Entry) (entry : Entry) (processed : List RequestCopy) (c : RequestCopy) → Completes o past entry processed → (on : Bool) (plain : PlainKeep) → last_id plain.put ≡ answered_of (state_testing o past entry)

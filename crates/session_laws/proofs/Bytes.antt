@@ -26,7 +26,7 @@ use Rattle.session_laws.proofs.Grows.{grows_all}
 use Rattle.session_laws.proofs.Ended.{ended_stays}
 
 -- what stands at an id stands there in a longer list
-at_longer : {X : Type 0} (pairs more : List (ℕ × X)) (rid : ℕ) (x : X) → at_id pairs rid ≡ Some x → at_id (pairs ++ more) rid ≡ Some x
+pub at_longer : {X : Type 0} (pairs more : List (ℕ × X)) (rid : ℕ) (x : X) → at_id pairs rid ≡ Some x → at_id (pairs ++ more) rid ≡ Some x
 at_longer [] more rid x is = absurd (cc)
 at_longer (first ∷ pairs) more rid x is = still (first.0 == rid) first.1 (at_id pairs rid) (at_id (pairs ++ more) rid) x (at_longer pairs more rid x) is
   where

@@ -16,7 +16,7 @@ use Rattle.session_core.specs.Machine.{opened, next_copy, process, advanced_in, 
 use Rattle.session_core.specs.Rules.{broken_rule, asked_of}
 use Rattle.session_core.specs.State.{PlainSession, first_of, last_of, standing_at, is_over}
 use Rattle.session_core.specs.Time.{time_applied}
-use Rattle.session_laws.proofs.Tests.{split, which, none_or}
+use Rattle.session_laws.proofs.Tests.{split, which, none_or, true_false}
 use Rattle.session_laws.proofs.Moves.{Answering, Waiting, process-by, settled-by, time_applied-by, processing}
 use Rattle.session_laws.proofs.Read.{read-rid}
 use Rattle.session_laws.proofs.SoundLemmas.{IsSound, sound_steady, opened_sound}
@@ -30,9 +30,6 @@ over_clear : (s : PlainSession) → is_over s ≡ true → IsClear s
 over_clear s over on =
     let no' : true ≡ false = sym over ∙ on in
     absurd (cc)
-
-true_false : true ≡ false → ⊥
-true_false no' = cc
 
 clear_answering : Answering IsClear
 clear_answering = record {

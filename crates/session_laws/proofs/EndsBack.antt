@@ -1,5 +1,5 @@
 -- Where the state says that a session has to have ended, it has: a terminate, a closing, a broken rule, silence.
-use Rattle.std.proofs.Common.{◌≡◌, ℕ, ◌+◌, ◌*◌, ◌<◌, ◌≤◌, ◌==◌, ◌&&◌, ◌||◌, Bool, true, false, not, List, [], ◌∷◌, ◌++◌, Option, Some, None, nat_lt, nat_le, is_some, length, max, refl, sym, ◌∙◌, ap, arith, if◌then◌else◌, length-drop, inl, inr}
+use Rattle.std.proofs.Common.{◌≡◌, ℕ, ◌+◌, ◌*◌, ◌<◌, ◌≤◌, ◌==◌, ◌&&◌, ◌||◌, Bool, true, false, not, List, [], ◌∷◌, ◌++◌, Some, nat_lt, nat_le, is_some, length, max, refl, sym, ◌∙◌, ap, arith, if◌then◌else◌, length-drop, inl, inr}
 use Rattle.std.specs.List.{list_any, filter}
 use Rattle.std.proofs.lemmas.Bool.{leb-false}
 use Rattle.std.proofs.lemmas.Bool.Decides.{nat_tests}
@@ -24,7 +24,7 @@ use Rattle.session_core.specs.State.{PlainSession, Answered, Issued, last_from, 
 use Rattle.session_core.specs.Time.{time_applied, at_moment, quiet_of, is_silent}
 use Rattle.pause_rules.specs.Due.{is_silent_due}
 use Rattle.session_core.specs.Window.{is_open}
-use Rattle.session_laws.proofs.Tests.{split, not_both, is_or_not, neither, if_true}
+use Rattle.session_laws.proofs.Tests.{split, not_both, is_or_not, neither, if_true, none_some, some_is, true_false}
 use Rattle.session_laws.proofs.Moves.{Answering, Processing, settled-by, advanced-by, silenced_as}
 use Rattle.session_laws.proofs.Clear.{IsClear, advanced_clear}
 use Rattle.session_laws.proofs.SoundLemmas.{IsSound, sound_steady, opened_sound}
@@ -54,9 +54,6 @@ BreakerEnds s = is_over s ≡ true → (copy : RequestCopy) → standing_at s (l
 abbrev pub SilenceEnds : PlainSession → Type 0
 SilenceEnds s = length (held s) ≡ 0 → quiet_of s + s.period * 1000 < s.now → s.ending ≡ Some (endings.Silent (quiet_of s) s.now)
 
-pub true_false : true ≡ false → ⊥
-true_false no' = cc
-
 -- a session that goes on has no ending
 pub no_ending : (s : PlainSession) (ending : Ending) → is_over s ≡ false → s.ending ≡ Some ending → ⊥
 no_ending s ending on is =
@@ -65,9 +62,6 @@ no_ending s ending on is =
 
 pub over_or_on : (s : PlainSession) → is_over s ≡ true → is_over s ≡ false → ⊥
 over_or_on s over on = true_false (sym over ∙ on)
-
-pub none_some : {X : Type 0} (o : Option X) (x : X) → o ≡ None → o ≡ Some x → ⊥
-none_some o x none is = cc
 
 pub last_push : {X : Type 0} (x : X) (xs : List X) (y : X) → last_from x (xs ++ y ∷ []) ≡ y
 last_push x [] y = refl
@@ -242,9 +236,6 @@ processed_processing = record {
     λ none silent. absurd (no_ending s _ on (p.5 none silent)),
   );
 }
-  where
-    some_is : (x y : RequestCopy) → Some x ≡ Some y → x ≡ y
-    some_is x y is = cc
 
 some_more : (n : ℕ) → 1 ≤ n → (n == 0) ≡ false
 some_more n more = grind (arith, nat_tests)

@@ -29,13 +29,13 @@ use Rattle.session_core.specs.Rules.{broken_rule, asked_of}
 use Rattle.session_core.specs.State.{PlainSession, Answered, Issued, last_of, answered_of, held, standing_at, is_over}
 use Rattle.session_core.specs.Time.{time_applied, at_moment, quiet_of}
 use Rattle.session_core.specs.Window.{is_open, is_above}
-use Rattle.session_laws.proofs.Tests.{split, both_true, either, neither, is_or_not}
+use Rattle.session_laws.proofs.Tests.{split, both_true, either, neither, is_or_not, none_some, some_is, true_false}
 use Rattle.session_laws.proofs.Steadily.{is_none}
 use Rattle.session_laws.proofs.Lists.{at_id-has}
 use Rattle.session_laws.proofs.Moves.{Answering, Processing, settled-by, advanced-by, silenced_as}
 use Rattle.session_laws.proofs.Read.{read-rid}
 use Rattle.session_laws.proofs.RuleLemmas.{rule-by, key_broken, stream_broken, pause_broken, active_broken}
-use Rattle.session_laws.proofs.EndsBack.{Ends, NoTerminate, Processed, processed_processing, placed_processed, time_ends, entry_ends, answer_last, true_false, over_or_on, none_some, no_ending}
+use Rattle.session_laws.proofs.EndsBack.{Ends, NoTerminate, Processed, processed_processing, placed_processed, time_ends, entry_ends, answer_last, over_or_on, no_ending}
 use Rattle.session_laws.proofs.Steps.{arrival-by, entry-by}
 
 -- if it has ended, the fact of that ending holds
@@ -47,9 +47,6 @@ goes_fact tested entered s on ending is = absurd (no_ending s ending on is)
 
 one_fact : (tested : PlainSession) (entered : Entered) (s : PlainSession) (here : Ending) → s.ending ≡ Some here → Fact tested entered s here → HasFact tested entered s
 one_fact tested entered s here is fact ending also = subst (Fact tested entered s) (some_is here ending (sym is ∙ also)) fact
-  where
-    some_is : (x y : Ending) → Some x ≡ Some y → x ≡ y
-    some_is x y is = cc
 
 -- facts don't ask for tickets, counts or the server's items
 fact_aside : (tested : PlainSession) (entered : Entered) (s : PlainSession) (given : List Outward) (tickets : List Issued) (passed counted : ℕ) (ending : Ending) → Fact tested entered s ending
@@ -89,21 +86,14 @@ module _ (tested : PlainSession) (entered : Entered) where
         wrong_key = λ wrong e is. subst (λ x. Fact tested entered (ended x s) x) (some_is (WrongKey (id_of copy)) e is) (none on, id, copy, here, λ fit. true_false (sym fit ∙ wrong));
         no_stream = λ key stream e is. subst (λ x. Fact tested entered (ended x s) x) (some_is (UnknownStream (id_of copy)) e is) (none on, id, copy, here, (key, λ unnamed. true_false (sym stream ∙ ap is_some unnamed)));
         too_long = λ key stream seconds asked longer e is. subst (λ x. Fact tested entered (ended x s) x) (some_is (PauseTooLong (id_of copy) seconds s.terms.maxpause) e is)
-            ((none on, id, copy, here, (key, no_some copy.request.stream stream, asked, longer)), refl);
+            ((none on, id, copy, here, (key, is_none copy.request.stream stream, asked, longer)), refl);
         too_active = λ key stream short active e is. subst (λ x. Fact tested entered (ended x s) x) (some_is (Overactive (id_of copy) _) e is)
-            (none on, id, copy, here, (key, no_some copy.request.stream stream, short, active, refl));
+            (none on, id, copy, here, (key, is_none copy.request.stream stream, short, active, refl));
         allowed = λ key stream short calm e is. absurd (none_is e is);
       }) ending broken
     where
-      some_is : (x y : Ending) → Some x ≡ Some y → x ≡ y
-      some_is x y is = cc
-
       none_is : (e : Ending) → None ≡ Some e → ⊥
       none_is e is = cc
-
-      no_some : {X : Type 0} (o : Option X) → is_some o ≡ false → o ≡ None
-      no_some None is = refl
-      no_some (Some x) is = absurd (true_false is)
 
   fact_processing : Processing (λ s. Processed s × HasFact tested entered s)
   fact_processing = record {

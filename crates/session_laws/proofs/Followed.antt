@@ -21,7 +21,7 @@ use Rattle.session_core.specs.Run.{moment_after, arrival_in, arrivals_from, arri
 use Rattle.session_core.specs.State.{PlainSession, run, first_of, last_of, answered_of, standing_at, is_over}
 use Rattle.session_core.specs.Time.{time_applied, at_moment, is_silent}
 use Rattle.session_core.specs.Window.{is_open}
-use Rattle.session_laws.proofs.Tests.{split, neither, either, not_true, not_false, both_true}
+use Rattle.session_laws.proofs.Tests.{split, neither, either, not_true, not_false, both_true, some_is, true_false}
 use Rattle.session_laws.proofs.Frames.{settled_leaves, time_leaves, advanced_leaves}
 use Rattle.session_laws.proofs.Lists.{standing_now, standing_other, get_some}
 use Rattle.session_laws.proofs.SoundLemmas.{IsSound, sound_steady, opened_sound}
@@ -37,9 +37,6 @@ pub record Follows (arrivals : List RequestCopy) (first : ℕ) (standing : List 
 
 abbrev pub IsFollowed : List RequestCopy → PlainSession → Type 0
 IsFollowed arrivals s = Follows arrivals (first_of s) s.standing (is_over s)
-
-true_false : true ≡ false → ⊥
-true_false no' = cc
 
 pub first_later : (arrivals more : List RequestCopy) (rid : ℕ) (copy : RequestCopy) → IsFirstCopy arrivals rid copy → IsFirstCopy (arrivals ++ more) rid copy
 first_later arrivals more rid copy f =
@@ -97,7 +94,7 @@ some_none : {X : Type 0} (o : Option X) → is_some o ≡ true → o ≡ None �
 some_none None is none = cc
 some_none (Some x) is none = cc
 
-open_stands : (s : PlainSession) (rid : ℕ) → IsSound s → is_open s rid ≡ true → first_of s < rid → standing_at s rid ≡ None → ⊥
+pub open_stands : (s : PlainSession) (rid : ℕ) → IsSound s → is_open s rid ≡ true → first_of s < rid → standing_at s rid ≡ None → ⊥
 open_stands s rid sound open_now later none = elim (either (nat_le rid (last_of s)) (is_some (standing_at s rid)) open_now) [
   | inl within ↦ processed_stands s rid sound later (leb-true rid (last_of s) within) none
   | inr stands ↦ some_none (standing_at s rid) stands none
@@ -261,9 +258,6 @@ run_each journal s same t zero copy is =
     let here : creation_of journal.opening ≡ copy = sym same ∙ some_is s.creation copy is in
     let rid : journal.opening.request.rid ≡ journal.opening.request.rid + 0 = omega arith in
     (ap id_of (sym here) ∙ rid, [], arrivals_from journal.opening.now journal.entries, ap (λ c. c ∷ arrivals_from journal.opening.now journal.entries) here, All-nil (λ (c : RequestCopy). id_of c ≢ journal.opening.request.rid + 0))
-  where
-    some_is : (x y : RequestCopy) → Some x ≡ Some y → x ≡ y
-    some_is x y is = cc
 run_each journal s same t (suc k) copy is =
     let place : first_of s + 1 + k ≡ journal.opening.request.rid + suc k = omega (arith, ap id_of same) in
     subst (λ rid. IsFirstCopy (arrivals_of journal) rid copy) place (t.follows.each (first_of s + 1 + k) copy (t.sound.stand k copy is))

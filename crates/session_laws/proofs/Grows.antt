@@ -90,7 +90,7 @@ module _ (s : PlainSession) where
 pub steady-all : (P : PlainSession → Type 0) → Steady P → (s : PlainSession) (entries : List Entry) → IsMade s entries → P s → P (after_entries s entries)
 steady-all P steady s entries made p = along s (λ past t. P t) (λ past t call entry allowed same is q. steady-entry P steady t call allowed entry.entered is q) entries made p
 
-made_rest : {s : PlainSession} {entry : Entry} {entries : List Entry} → IsMade s (entry ∷ entries) → IsMade (after_entry s entry.entered) entries
+pub made_rest : {s : PlainSession} {entry : Entry} {entries : List Entry} → IsMade s (entry ∷ entries) → IsMade (after_entry s entry.entered) entries
 made_rest (more call allowed is rest) = rest
 
 -- the later entries are made after the earlier ones

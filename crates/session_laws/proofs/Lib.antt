@@ -32,3 +32,8 @@ pub mod ReplyLemmas
 pub mod KeptBoth
 pub mod OneRun
 pub mod ServedLemmas
+pub mod WrongRows
+pub mod OneEndedRun
+pub mod TicketSteps
+pub mod UnaskedRow
+pub mod OneMore

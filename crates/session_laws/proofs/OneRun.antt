@@ -16,7 +16,7 @@ not_first before later copy rid all is split none =
     let here : get_or all (length before) copy ≡ copy = ap (λ l. get_or l (length before) copy) split ∙ get_or_at before copy later copy (length before) refl in
     none (length before) copy within (ap id_of here ∙ is)
 
-one_first : (arrivals : List RequestCopy) (rid : ℕ) (copy other : RequestCopy) → IsFirstCopy arrivals rid copy → IsFirstCopy arrivals rid other → copy ≡ other
+pub one_first : (arrivals : List RequestCopy) (rid : ℕ) (copy other : RequestCopy) → IsFirstCopy arrivals rid copy → IsFirstCopy arrivals rid other → copy ≡ other
 one_first arrivals rid copy other f g = elim (two_places f.1 g.1 copy other f.2 g.2 (sym f.3 ∙ g.3)) [
   | inl same ↦ same.1
   | inr apart ↦ elim apart [
@@ -26,7 +26,7 @@ one_first arrivals rid copy other f g = elim (two_places f.1 g.1 copy other f.2 
 ]
 
 -- lists with the same elements
-same_elements : {X : Type 0} (xs ys : List X) → length xs ≡ length ys → ((k : ℕ) (x y : X) → slice_get xs k ≡ Some x → slice_get ys k ≡ Some y → x ≡ y) → xs ≡ ys
+pub same_elements : {X : Type 0} (xs ys : List X) → length xs ≡ length ys → ((k : ℕ) (x y : X) → slice_get xs k ≡ Some x → slice_get ys k ≡ Some y → x ≡ y) → xs ≡ ys
 same_elements [] [] count each = refl
 same_elements [] (y ∷ ys) count each = absurd (omega arith)
 same_elements (x ∷ xs) [] count each = absurd (omega arith)

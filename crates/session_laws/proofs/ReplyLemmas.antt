@@ -27,14 +27,14 @@ use Rattle.session_core.specs.State.{PlainSession, Answered, answers, first_of, 
 use Rattle.session_core.specs.Time.{time_applied, is_due}
 use Rattle.session_core.specs.Window.{is_open}
 use Rattle.session_laws.specs.Replies.{IsOpenId, IsToldTo, MayTake}
-use Rattle.session_laws.proofs.Tests.{if_true, if_false, is_or_not, which, neither}
+use Rattle.session_laws.proofs.Tests.{if_true, if_false, is_or_not, which, neither, none_some, some_is, true_false}
 use Rattle.session_laws.proofs.Lists.{standing_now}
 use Rattle.session_laws.proofs.Frames.{settled_leaves, time_leaves, advanced_leaves}
 use Rattle.session_laws.proofs.SoundLemmas.{IsSound, sound_steady}
 use Rattle.session_laws.proofs.Steadily.{steady-settled, steady-advanced, steady-placed, is_none}
 use Rattle.session_laws.proofs.Bytes.{IsFirstAnswer, first_answer_steady, answer_within, kept_is}
 use Rattle.session_laws.proofs.Steps.{arrival-by, arrive-in_time}
-use Rattle.session_laws.proofs.EndsBack.{true_false, over_or_on, none_some}
+use Rattle.session_laws.proofs.EndsBack.{over_or_on}
 
 -- Ids that were answered have an answer.
 
@@ -59,9 +59,6 @@ pub answer_ids : (s : PlainSession) → IsSound s → IsFirstAnswer s → (k : �
 answer_ids s sound first zero answer at =
     let same : s.created ≡ answer = some_is s.created answer at in
     omega (arith, ap (λ (a : Answered). a.rid) same)
-  where
-    some_is : (x y : Answered) → Some x ≡ Some y → x ≡ y
-    some_is x y is = cc
 answer_ids s sound first (suc k) answer at = omega (arith, sound.ids k answer at)
 
 pub answered_has : (s : PlainSession) (rid : ℕ) → IsSound s → IsFirstAnswer s → first_of s ≤ rid → rid ≤ answered_of s → (a : KeptAnswer) × (answer_at s rid ≡ Some a)

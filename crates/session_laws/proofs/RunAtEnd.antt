@@ -22,11 +22,12 @@ use Rattle.session_core.specs.Endings.{ended as ended_by}
 use Rattle.session_core.specs.Kept.{lowest_kept}
 use Rattle.session_core.specs.Journal.{Call, Arrive, Made, Entered, Entry, Journal, IsJournal, IsAllowed, IsOpening, entered_by, after_entry, after_entries, state_of}
 use Rattle.session_core.specs.Machine.{Opening, opened, creation_of, advanced, placed, bytes_for, wait_at, copy_now, arrived_in_time, with_cost, body_cost, stanza_cost, plain_cost, takes_items, has_room, with_item, full_with}
-use Rattle.session_core.specs.Run.{arrival_in, arrivals_with, arrivals_of, IsRun, HasNot, KeepsRules, Stops, IsRunAtEnd}
+use Rattle.session_core.specs.Run.{arrival_in, arrivals_with, arrivals_of, IsRun, HasNot}
+use Rattle.session_laws.specs.RunEnded.{BreaksNoRule, GoesNoFurther, IsRunOfEnded}
 use Rattle.session_core.specs.State.{PlainSession, first_of, last_of, answered_of, standing_at, is_over}
 use Rattle.session_core.specs.Time.{time_applied}
 use Rattle.session_core.specs.Window.{is_open}
-use Rattle.session_laws.proofs.Tests.{split, neither, is_or_not}
+use Rattle.session_laws.proofs.Tests.{split, neither, is_or_not, true_false}
 use Rattle.session_laws.proofs.Frames.{settled_leaves, time_leaves}
 use Rattle.session_laws.proofs.Moves.{advanced-by}
 use Rattle.session_laws.proofs.Steps.{arrival-by, entry-by, along, after-push}
@@ -34,7 +35,7 @@ use Rattle.session_laws.proofs.Steadily.{steady-entry, steady-time, is_none}
 use Rattle.session_laws.proofs.Clear.{advanced_clear}
 use Rattle.session_laws.proofs.Read.{read-rid}
 use Rattle.session_laws.proofs.Followed.{Follows, IsFollowed, Tells, tells_more, opened_tells, every_creation, every_run, unmoved, timed_followed, new_followed, moment_of, time_now}
-use Rattle.session_laws.proofs.EndsBack.{Ends, Processed, placed_processed, time_ends, entry_ends, opened_ends, true_false, over_or_on}
+use Rattle.session_laws.proofs.EndsBack.{Ends, Processed, placed_processed, time_ends, entry_ends, opened_ends, over_or_on}
 use Rattle.session_laws.proofs.Grows.{told_stays}
 use Rattle.session_laws.proofs.JournalLemmas.{journal_with, has_not_before}
 use Rattle.session_laws.proofs.AckLemmas.{Acknowledges, acks_more}
@@ -49,14 +50,14 @@ record Ruled (o : Opening) (past : List Entry) (s : PlainSession) : Type 0 where
   creation : s.creation ≡ creation_of o
   requests : 1 ≤ s.terms.requests
   first : IsFirstAnswer s
-  keeps : KeepsRules (journal_with o past) s.processed
+  keeps : BreaksNoRule (journal_with o past) s.processed
   acks : Acknowledges (journal_with o past) s.reporting.on s.acknowledged s.processed
-  stops : is_over s ≡ true → Stops (journal_with o past) s.processed
+  stops : is_over s ≡ true → GoesNoFurther (journal_with o past) s.processed
 
 module _ (o : Opening) (past : List Entry) (entry : Entry) (s : PlainSession) (same : s ≡ after_entries (opened o) past) (r : Ruled o past s) where
   abbrev Result : PlainSession → Type 0
   Result u =
-      KeepsRules (journal_with o (past ++ entry ∷ [])) u.processed × (is_over u ≡ true → Stops (journal_with o (past ++ entry ∷ [])) u.processed)
+      BreaksNoRule (journal_with o (past ++ entry ∷ [])) u.processed × (is_over u ≡ true → GoesNoFurther (journal_with o (past ++ entry ∷ [])) u.processed)
       × Acknowledges (journal_with o (past ++ entry ∷ [])) u.reporting.on u.acknowledged u.processed
 
   -- it processed and acknowledged as much
@@ -73,8 +74,8 @@ module _ (o : Opening) (past : List Entry) (entry : Entry) (s : PlainSession) (s
   abbrev Ended : PlainSession → Type 0
   Ended u = is_over u ≡ true → is_over (after_entries (opened o) (past ++ entry ∷ [])) ≡ true
 
-  keeps_same : (u : PlainSession) → u.processed ≡ s.processed → KeepsRules (journal_with o (past ++ entry ∷ [])) u.processed
-  keeps_same u is = subst (KeepsRules (journal_with o (past ++ entry ∷ []))) (sym is) (keeps_more o past entry s.processed r.keeps)
+  keeps_same : (u : PlainSession) → u.processed ≡ s.processed → BreaksNoRule (journal_with o (past ++ entry ∷ [])) u.processed
+  keeps_same u is = subst (BreaksNoRule (journal_with o (past ++ entry ∷ []))) (sym is) (keeps_more o past entry s.processed r.keeps)
 
   not_past : (u : PlainSession) → u.processed ≡ s.processed → is_over s ≡ false → HasNot (arrivals_with o past) (o.request.rid + 1 + length u.processed)
   not_past u is on =
@@ -178,7 +179,7 @@ module _ (o : Opening) (past : List Entry) (entry : Entry) (s : PlainSession) (s
       t_first = steady-time IsFirstAnswer first_answer_steady s now r.first
 
       walked : Processed (advanced p) × Walk o past entry s same request body now is p (advanced p)
-      walked = advanced-by (λ u. Processed u × Walk o past entry s same request body now is p u) (walking o past entry s same request body now is p t_creation refl p_follows t_none t_first) p start
+      walked = advanced-by (λ u. Processed u × Walk o past entry s same request body now is p u) (walking o past entry s same request body now is p t_creation refl p_follows t_none t_first goes) p start
 
       -- the new copy and those that follow were processed, and what was held was answered
       advanced_result : Ended (settled (advanced p)) → Result (settled (advanced p))
@@ -187,8 +188,8 @@ module _ (o : Opening) (past : List Entry) (entry : Entry) (s : PlainSession) (s
           let u : PlainSession = settled a in
           let processed : u.processed ≡ a.processed = ap (λ (v : PlainSession). v.processed) (settled_leaves a) in
           let w = (walked.1).0 in (
-            subst (KeepsRules (journal_with o (past ++ entry ∷ []))) (sym processed) w.keeps,
-            (λ over. subst (Stops (journal_with o (past ++ entry ∷ []))) (sym processed)
+            subst (BreaksNoRule (journal_with o (past ++ entry ∷ []))) (sym processed) w.keeps,
+            (λ over. subst (GoesNoFurther (journal_with o (past ++ entry ∷ []))) (sym processed)
                 (elim (is_or_not (is_over a)) [
                   | inl a_over ↦ (walked.1).1 a_over
                   | inr a_on ↦ (
@@ -290,7 +291,7 @@ opened_ruled o is = record {
   key = refl;
   creation = refl;
   requests = omega (arith, some_requests (is.creation).0, ap (λ (x : Terms). x.requests) (is.creation).2);
-  keeps = record { judged = λ k copy at. absurd (cc); terminate = λ k copy at. absurd (cc) };
+  keeps = record { tried = λ k copy at. absurd (cc); terminate = λ k copy at. absurd (cc) };
   first = refl;
   acks = record { forth = λ on rid some within. absurd (omega arith); back = λ on rid a. absurd (no_copy a.0 a.1 a.6); off = λ on. refl };
   stops = λ over. absurd (true_false (sym over));
@@ -299,14 +300,14 @@ opened_ruled o is = record {
     no_copy : (k : ℕ) (copy : RequestCopy) → slice_get [] k ≡ Some copy → ⊥
     no_copy k copy is = cc
 
-pub every_ruled : (journal : Journal) → IsJournal journal → KeepsRules journal (state_of journal).processed × (is_over (state_of journal) ≡ true → Stops journal (state_of journal).processed)
+pub every_ruled : (journal : Journal) → IsJournal journal → BreaksNoRule journal (state_of journal).processed × (is_over (state_of journal) ≡ true → GoesNoFurther journal (state_of journal).processed)
     × Acknowledges journal (state_of journal).reporting.on (state_of journal).acknowledged (state_of journal).processed
 every_ruled journal made =
     let r = along (opened journal.opening) (Ruled journal.opening) (λ past s call entry allowed same is r. ruled_more journal.opening past s call entry allowed same is r) journal.entries made.1 (opened_ruled journal.opening made.0) in
     (r.keeps, r.stops, r.acks)
 
 -- the run of a session that has ended
-pub every_at_end : (journal : Journal) → IsJournal journal → is_over (state_of journal) ≡ true → IsRunAtEnd journal (state_of journal).processed
+pub every_at_end : (journal : Journal) → IsJournal journal → is_over (state_of journal) ≡ true → IsRunOfEnded journal (state_of journal).processed
 every_at_end journal made over =
     let r = every_ruled journal made in
     record {

@@ -14,20 +14,21 @@ use Rattle.session_core.specs.Journal.{Arrive, Made, Entered, Entry, Journal, af
 use Rattle.session_core.specs.Machine.{Opening, opened, creation_of, with_copy}
 use Rattle.session_core.specs.Points.{tested_at}
 use Rattle.session_core.specs.Rules.{Asks, asked_with, asked_of, broken_rule, prior_mark}
-use Rattle.session_core.specs.Run.{arrival_in, arrivals_with, IsFirstCopy, HasNot, key_after, state_testing, IsJudged, KeepsRules, Stops, AtTerminate, AtBreaker, AtEnd}
+use Rattle.session_core.specs.Run.{arrival_in, arrivals_with, IsFirstCopy, HasNot, key_after, state_testing}
+use Rattle.session_laws.specs.RunEnded.{IsTried, BreaksNoRule, GoesNoFurther, AtTerminate, AtBreaker, AtEnd}
 use Rattle.session_core.specs.State.{PlainSession, Answered, first_of, last_of, answered_of, standing_at, is_over}
 use Rattle.session_core.specs.Time.{time_applied}
 use Rattle.session_core.specs.Kept.{keep_of}
 use Rattle.session_laws.proofs.AckLemmas.{Acknowledges, acks_push, last_answered}
 use Rattle.session_laws.proofs.Bytes.{IsFirstAnswer}
 use Rattle.session_laws.proofs.JournalLemmas.{journal_with}
-use Rattle.session_laws.proofs.Tests.{neither}
+use Rattle.session_laws.proofs.Tests.{neither, some_is, true_false}
 use Rattle.session_laws.proofs.Lists.{get_push, get_within, get_some}
 use Rattle.session_laws.proofs.Moves.{Steady, Processing}
 use Rattle.session_laws.proofs.SoundLemmas.{IsSound}
 use Rattle.session_laws.proofs.Clear.{IsClear}
 use Rattle.session_laws.proofs.Followed.{IsFollowed, first_later, moment_of, arrivals-push}
-use Rattle.session_laws.proofs.EndsBack.{Processed, processed_processing, true_false, over_or_on}
+use Rattle.session_laws.proofs.EndsBack.{Processed, processed_processing, over_or_on}
 use Rattle.session_laws.proofs.Carried.{all_first}
 
 -- the key is the one that the processed copies leave
@@ -49,21 +50,21 @@ key_steady newkey = record {
 }
 
 -- one more entry
-judged_more : (o : Opening) (past : List Entry) (entry : Entry) (lower : List RequestCopy) (copy : RequestCopy) (verdict : Option Ending) → IsJudged (journal_with o past) lower copy verdict
-    → IsJudged (journal_with o (past ++ entry ∷ [])) lower copy verdict
+judged_more : (o : Opening) (past : List Entry) (entry : Entry) (lower : List RequestCopy) (copy : RequestCopy) (verdict : Option Ending) → IsTried (journal_with o past) lower copy verdict
+    → IsTried (journal_with o (past ++ entry ∷ [])) lower copy verdict
 judged_more o past entry lower copy verdict j =
-    (j.0, j.1, j.2 ++ entry ∷ [], ap (λ es. es ++ entry ∷ []) j.3 ∙ append_assoc j.0 (j.1 ∷ j.2) (entry ∷ []), j.4, j.5)
+    (j.0, j.1, j.2 ++ entry ∷ [], ap (λ es. es ++ entry ∷ []) j.3 ∙ append_assoc j.0 (j.1 ∷ j.2) (entry ∷ []), j.4, j.5, j.6)
 
-pub keeps_more : (o : Opening) (past : List Entry) (entry : Entry) (later : List RequestCopy) → KeepsRules (journal_with o past) later → KeepsRules (journal_with o (past ++ entry ∷ [])) later
+pub keeps_more : (o : Opening) (past : List Entry) (entry : Entry) (later : List RequestCopy) → BreaksNoRule (journal_with o past) later → BreaksNoRule (journal_with o (past ++ entry ∷ [])) later
 keeps_more o past entry later keeps = record {
-  judged = λ k copy is. judged_more o past entry (take k later) copy None (keeps.judged k copy is);
+  tried = λ k copy is. judged_more o past entry (take k later) copy None (keeps.tried k copy is);
   terminate = keeps.terminate;
 }
 
 pub arrivals_more : (o : Opening) (past : List Entry) (entry : Entry) → arrivals_with o (past ++ entry ∷ []) ≡ arrivals_with o past ++ arrival_in (moment_of o.now past) entry.entered
 arrivals_more o past entry = ap (λ arrivals. creation_of o ∷ arrivals) (arrivals-push o.now past entry)
 
-pub stops_more : (o : Opening) (past : List Entry) (entry : Entry) (later : List RequestCopy) → Stops (journal_with o past) later → Stops (journal_with o (past ++ entry ∷ [])) later
+pub stops_more : (o : Opening) (past : List Entry) (entry : Entry) (later : List RequestCopy) → GoesNoFurther (journal_with o past) later → GoesNoFurther (journal_with o (past ++ entry ∷ [])) later
 stops_more o past entry later (AtTerminate before copy same last) = AtTerminate before copy same last
 stops_more o past entry later (AtBreaker copy ending first judged) =
     AtBreaker copy ending (subst (λ arrivals. IsFirstCopy arrivals (o.request.rid + 1 + length later) copy) (sym (arrivals_more o past entry)) (first_later (arrivals_with o past) _ (o.request.rid + 1 + length later) copy first))
@@ -88,9 +89,6 @@ any_none [] k copy none is last = absurd (cc)
 any_none (first ∷ copies) zero copy none is last =
     let same : first ≡ copy = some_is first copy is in
     true_false (sym last ∙ ap (λ (c : RequestCopy). c.request.terminate) (sym same) ∙ (neither first.request.terminate (list_any (λ (c : RequestCopy). c.request.terminate) copies) none).0)
-  where
-    some_is : (x y : RequestCopy) → Some x ≡ Some y → x ≡ y
-    some_is x y is = cc
 any_none (first ∷ copies) (suc k) copy none is last = any_none copies k copy (neither first.request.terminate (list_any (λ (c : RequestCopy). c.request.terminate) copies) none).1 is last
 
 -- Where no copy is processed.
@@ -109,7 +107,7 @@ module _ (o : Opening) (past : List Entry) (entry : Entry) (s : PlainSession) (s
 
   -- the session ended with this entry, and nothing had come that could be processed
   pub at_end : (e : Entered) → entry.entered ≡ e → is_over s ≡ false → is_over (after_entries (opened o) (past ++ entry ∷ [])) ≡ true → (later : List RequestCopy) → HasNot (arrivals_with o past) (o.request.rid + 1 + length later)
-      → (is_over (tested_at s e) ≡ false → HasNot (arrivals_with o (past ++ entry ∷ [])) (o.request.rid + 1 + length later)) → Stops (journal_with o (past ++ entry ∷ [])) later
+      → (is_over (tested_at s e) ≡ false → HasNot (arrivals_with o (past ++ entry ∷ [])) (o.request.rid + 1 + length later)) → GoesNoFurther (journal_with o (past ++ entry ∷ [])) later
   at_end e is on over later none none_now =
       AtEnd past entry [] refl (record { goes_on = ap is_over (sym same) ∙ on; ends = over }) none (λ goes. none_now (ap is_over (sym (testing_is e is)) ∙ goes))
 
@@ -130,14 +128,14 @@ module _ (o : Opening) (past : List Entry) (entry : Entry) (s : PlainSession) (s
     pub standing_is : standing ≡ p.standing
     pub key_is : key ≡ key_after o.request.newkey processed
     pub longer : length tested.processed ≤ length processed
-    pub keeps : KeepsRules journal' processed
+    pub keeps : BreaksNoRule journal' processed
 
   abbrev pub Walk : PlainSession → PlainSession → Type 0
   Walk p u =
-      Walks p u.creation u.terms u.created u.answered u.standing u.processed u.key × (is_over u ≡ true → Stops journal' u.processed)
+      Walks p u.creation u.terms u.created u.answered u.standing u.processed u.key × (is_over u ≡ true → GoesNoFurther journal' u.processed)
       × Acknowledges journal' u.reporting.on u.acknowledged u.processed
 
-  module _ (p : PlainSession) (creation : tested.creation ≡ creation_of o) (p_creation : p.creation ≡ tested.creation) (follows : IsFollowed (arrivals_with o (past ++ entry ∷ [])) p) (none : HasNot (arrivals_with o past) (o.request.rid + 1 + length tested.processed)) (first : IsFirstAnswer tested) where
+  module _ (p : PlainSession) (creation : tested.creation ≡ creation_of o) (p_creation : p.creation ≡ tested.creation) (follows : IsFollowed (arrivals_with o (past ++ entry ∷ [])) p) (none : HasNot (arrivals_with o past) (o.request.rid + 1 + length tested.processed)) (first : IsFirstAnswer tested) (goes : is_over tested ≡ false) where
     place : (u : PlainSession) (k : ℕ) → u.creation ≡ tested.creation → first_of u + 1 + k ≡ o.request.rid + 1 + k
     place u k is_creation = ap (λ (c : RequestCopy). id_of c + 1 + k) (is_creation ∙ creation)
 
@@ -147,7 +145,7 @@ module _ (o : Opening) (past : List Entry) (entry : Entry) (s : PlainSession) (s
         (follows.each (first_of u + 1 + k) x (ap (λ copies. at_id (map with_id copies) (first_of u + 1 + k)) (sym is_standing) ∙ stands))
 
     -- the copy is judged with this entry
-    pub judged_now : (u : PlainSession) (c : RequestCopy) (verdict : Option Ending) → IsSound u → Walk p u → standing_at u (last_of u + 1) ≡ Some c → broken_rule (asked_of u) c ≡ verdict → IsJudged journal' u.processed c verdict
+    pub judged_now : (u : PlainSession) (c : RequestCopy) (verdict : Option Ending) → IsSound u → Walk p u → standing_at u (last_of u + 1) ≡ Some c → broken_rule (asked_of u) c ≡ verdict → IsTried journal' u.processed c verdict
     judged_now u c verdict sound walk stands broken =
         let w = walk.0 in
         let next : first_of u + 1 + length u.processed ≡ last_of u + 1 = omega arith in
@@ -171,6 +169,7 @@ module _ (o : Opening) (past : List Entry) (entry : Entry) (s : PlainSession) (s
             ];
             not_yet = (length tested.processed, w.longer, none);
           },
+          ap is_over (testing_is o past entry s same (Made (Arrive request body now)) is) ∙ goes,
           ap (λ asks. broken_rule asks c) asked ∙ broken,
         )
 
@@ -185,14 +184,14 @@ module _ (o : Opening) (past : List Entry) (entry : Entry) (s : PlainSession) (s
         acks_push o past entry u.processed c j.4 u.reporting.on (keep_of u)
         (last_answered u sound u_first ∙ count ∙ ap answered_of (sym (testing_is o past entry s same (Made (Arrive request body now)) is))) walk.2 c.request.ack refl
 
-    keeps_push : (u : PlainSession) (c : RequestCopy) → KeepsRules journal' u.processed → list_any (λ (x : RequestCopy). x.request.terminate) u.processed ≡ false → IsJudged journal' u.processed c None → KeepsRules journal' (u.processed ++ c ∷ [])
+    keeps_push : (u : PlainSession) (c : RequestCopy) → BreaksNoRule journal' u.processed → list_any (λ (x : RequestCopy). x.request.terminate) u.processed ≡ false → IsTried journal' u.processed c None → BreaksNoRule journal' (u.processed ++ c ∷ [])
     keeps_push u c keeps no_terminate judged = record {
-      judged = λ k x at. elim (get_push u.processed c k x at) [
+      tried = λ k x at. elim (get_push u.processed c k x at) [
         | inl there ↦
             let within : k < length u.processed = get_within u.processed k x there in
-            subst (λ lower. IsJudged journal' lower x None) (sym (take-append-le k u.processed (c ∷ []) (omega arith))) (keeps.judged k x there)
+            subst (λ lower. IsTried journal' lower x None) (sym (take-append-le k u.processed (c ∷ []) (omega arith))) (keeps.tried k x there)
         | inr last ↦
-            subst (λ lower. IsJudged journal' lower x None) (sym (take_at u.processed (c ∷ []) k (sym last.0))) (subst (λ y. IsJudged journal' u.processed y None) last.1 judged)
+            subst (λ lower. IsTried journal' lower x None) (sym (take_at u.processed (c ∷ []) k (sym last.0))) (subst (λ y. IsTried journal' u.processed y None) last.1 judged)
       ];
       terminate = λ k x at ends_so. elim (get_push u.processed c k x at) [
         | inl there ↦ absurd (any_none u.processed k x no_terminate there ends_so)

@@ -1,5 +1,5 @@
 -- What answers take: a pause nothing, and another one item at least where one waits.
-use Rattle.std.proofs.Common.{◌≡◌, ℕ, ◌≤◌, ◌&&◌, Bool, true, false, All, IsTrue, List, [], ◌∷◌, Some, length, take, map, slice_get, get_or, refl, sym, ◌∙◌, ap, arith, subst, length-append, inl, inr}
+use Rattle.std.proofs.Common.{◌≡◌, ℕ, ◌≤◌, true, false, All, IsTrue, List, [], ◌∷◌, Some, length, take, map, slice_get, get_or, refl, sym, ◌∙◌, ap, arith, subst, length-append, inl, inr}
 use Rattle.std.specs.List.{list_all}
 use Rattle.std.proofs.lemmas.Bool.{cases_lt}
 use Rattle.std.proofs.lemmas.Bool.Decides.{nat_tests}
@@ -24,7 +24,7 @@ use Rattle.session_core.specs.Passed.{given_by, if_done}
 use Rattle.session_core.specs.State.{PlainSession, Answered, waiting, answers, taken_by_answers}
 use Rattle.session_laws.specs.Answering.{WasGiven, IsLongestFront}
 use Rattle.session_laws.specs.Growing.{Begins}
-use Rattle.session_laws.proofs.Tests.{if_true, if_false}
+use Rattle.session_laws.proofs.Tests.{both_true, if_true, if_false, some_is}
 use Rattle.session_laws.proofs.AnswersGiven.{front_longest}
 use Rattle.session_laws.proofs.GivenIn.{one, entry_gives}
 use Rattle.session_laws.proofs.Lists.{get_drop, get_append}
@@ -57,14 +57,10 @@ entry_small s call allowed entered is = entry-by s (λ e u. All IsSmall (one (gi
   limits = λ kind cost now on full. All-nil IsSmall;
 }) call allowed entered is
 
-both_tests : (a b : Bool) → a && b ≡ true → (a ≡ true) × (b ≡ true)
-both_tests true b is = (refl, is)
-both_tests false b is = absurd (cc)
-
 greeting_small : (greeting : List (List ℕ)) → IsTrue (list_all is_stanza greeting) → All IsSmall (map (Stanza unnamed) greeting)
 greeting_small [] all = All-nil IsSmall
 greeting_small (stanza ∷ greeting) all =
-    let both = both_tests (is_stanza stanza) (list_all is_stanza greeting) all in
+    let both = both_true (is_stanza stanza) (list_all is_stanza greeting) all in
     All-cons IsSmall (Stanza unnamed stanza) (map (Stanza unnamed) greeting) (stanza_small unnamed stanza both.0) (greeting_small greeting both.1)
 
 every_small : (journal : Journal) → IsJournal journal → All IsSmall (state_of journal).given
@@ -119,6 +115,3 @@ pub pause_takes : (s : PlainSession) (k : ℕ) (copy : RequestCopy) (answer : An
 pause_takes s k copy answer given within at pauses =
     let same : given.oldest ≡ copy = some_is given.oldest copy (sym (answered_copy s k answer given within) ∙ at) in
     ap (λ (a : Answered). a.front) given.answer_is ∙ if_true (is_pause given.oldest) (OfStanzas []) (front_of (waiting given.earlier)) (ap is_pause same ∙ pauses)
-  where
-    some_is : (x y : RequestCopy) → Some x ≡ Some y → x ≡ y
-    some_is x y is = cc

@@ -22,7 +22,7 @@ use Rattle.session_core.specs.Machine.{first_answer, body_cost, is_full, plain_c
 use Rattle.session_core.specs.Outward.{items_in}
 use Rattle.session_core.specs.Passed.{passed_of, given_in}
 use Rattle.session_core.specs.Points.{tested_at}
-use Rattle.session_core.specs.Run.{IsRun, IsLongestRun, KeepsRules, IsRunAtEnd, arrivals_of, run_of}
+use Rattle.session_core.specs.Run.{IsRun, IsLongestRun, arrivals_of, run_of}
 use Rattle.session_core.specs.State.{Answered, answers, answered_of, inward, waiting, is_over}
 use Rattle.session_core.specs.Time.{time_applied, is_due}
 use Rattle.session_laws.specs.Acknowledging.{IsKept}
@@ -31,7 +31,8 @@ use Rattle.session_laws.specs.Growing.{Grows, with_later}
 use Rattle.session_core.specs.Passed.{items_taken}
 use Rattle.session_laws.specs.OneBody.{SendsOneBody, RunCarries, carried}
 use Rattle.session_laws.specs.Replies.{IsOpenId, IsToldTo, MayTake}
-use Rattle.session_laws.specs.Tickets.{Tells}
+use Rattle.session_laws.specs.RunEnded.{BreaksNoRule, IsRunOfEnded}
+use Rattle.session_laws.specs.Tickets.{Tells, tickets_after}
 
 pub record KeptLaws (journal : Journal) : Type 0 where
   -- what was processed is, while the session goes on, the longest unbroken run of the ids that arrived, each with what
@@ -40,8 +41,8 @@ pub record KeptLaws (journal : Journal) : Type 0 where
   pub run_each : IsRun journal.opening.request.rid (arrivals_of journal) (run_of journal)
   -- each copy of the run after the creation broke no rule when it and all lower ids had come, and only the last may be a
   -- terminate; once the session has ended, the run stops there, before a copy that broke a rule, or where nothing more had come
-  pub run_rules : KeepsRules journal (state_of journal).processed
-  pub run_at_end : is_over (state_of journal) ≡ true → IsRunAtEnd journal (state_of journal).processed
+  pub run_rules : BreaksNoRule journal (state_of journal).processed
+  pub run_at_end : is_over (state_of journal) ≡ true → IsRunOfEnded journal (state_of journal).processed
   -- of a client that sends one body for each id, what may go inward is what the bodies of the run's ids carry, each once
   pub one_body : (bodies : ℕ → List ℕ) (items : ℕ → List Inward) → SendsOneBody bodies journal → RunCarries bodies items journal
       → inward (state_of journal) ≡ carried items journal.opening.request.rid (length (run_of journal))
@@ -52,13 +53,18 @@ pub record KeptLaws (journal : Journal) : Type 0 where
   -- a longer journal begins with what this one had
   pub grows : (later : List Entry) → IsJournal (with_later journal later) → Grows (state_of journal) (state_of (with_later journal later))
   -- a session that goes on ends with an entry exactly where the fact of that ending holds there, with its numbers
-  pub ends : (call : Call) (entered : Entered) (ending : Ending) → IsAllowed call → entered_by (state_of journal) call ≡ Some entered → is_over (state_of journal) ≡ false
+  pub ends : (call : Call) (entered : Entered) (ending : Ending) → IsAllowed call → entered_by (state_of journal) call ≡ Some entered
+      → is_over (state_of journal) ≡ false
       → ((after_entry (state_of journal) entered).ending ≡ Some ending)
       ↔ Fact (tested_at (state_of journal) entered) entered (after_entry (state_of journal) entered) ending
   -- after the ending nothing changes but what was collected and passed on
-  pub ended : (call : Call) (entered : Entered) → IsAllowed call → entered_by (state_of journal) call ≡ Some entered → is_over (state_of journal) ≡ true
+  pub ended : (call : Call) (entered : Entered) → IsAllowed call → entered_by (state_of journal) call ≡ Some entered
+      → is_over (state_of journal) ≡ true
       → after_entry (state_of journal) entered
-      ≡ record (state_of journal) { tickets = (after_entry (state_of journal) entered).tickets; passed = (after_entry (state_of journal) entered).passed }
+      ≡ record (state_of journal) {
+        tickets = (after_entry (state_of journal) entered).tickets;
+        passed = (after_entry (state_of journal) entered).passed;
+      }
   -- the counted bytes are those of the entries
   pub counts : (state_of journal).counted ≡ counted journal
   -- what was passed on are the first items of what may go inward, as many as were taken, and what is taken is the next
@@ -71,25 +77,34 @@ pub record KeptLaws (journal : Journal) : Type 0 where
   -- an answer is kept exactly by the rule
   pub kept : (rid : ℕ) → IsSome (kept_of (state_of journal) rid) ↔ IsKept journal rid
   -- where the answer of an id is kept once time was applied, and the session goes on, a copy of that id is given its bytes
-  pub repeats : (request : Request) (body : List ℕ) (now : ℕ) (answer : KeptAnswer) → is_over (time_applied (state_of journal) now) ≡ false
-      → is_full (state_of journal) (body_cost request body) ≡ false → kept_of (time_applied (state_of journal) now) request.rid ≡ Some answer
+  pub repeats : (request : Request) (body : List ℕ) (now : ℕ) (answer : KeptAnswer)
+      → is_over (time_applied (state_of journal) now) ≡ false → is_full (state_of journal) (body_cost request body) ≡ false
+      → kept_of (time_applied (state_of journal) now) request.rid ≡ Some answer
       → reply_of journal (Arrive request body now) ≡ ToArrive (arrivals.Answer answer.bytes)
   -- what an id was given it is given ever after
-  pub same_bytes : (later : List Entry) → IsJournal (with_later journal later) → (rid : ℕ) (bytes : List ℕ) → bytes_for (state_of journal) rid ≡ Some bytes
+  pub same_bytes : (later : List Entry) → IsJournal (with_later journal later)
+      → (rid : ℕ) (bytes : List ℕ) → bytes_for (state_of journal) rid ≡ Some bytes
       → bytes_for (state_of (with_later journal later)) rid ≡ Some bytes
   -- of a ticket this is told, and nothing else
-  pub collects : (number : ℕ) (told : Collected) → (reply_of journal (Collect number) ≡ ToCollect told) ↔ Tells (state_of journal) number told
+  pub collects : (number : ℕ) (told : Collected)
+      → (reply_of journal (Collect number) ≡ ToCollect told) ↔ Tells (state_of journal) number told
+  -- the tickets after a call are these, by what it is told
+  pub tickets : (call : Call) → (step (state_of journal) call).0.tickets ≡ tickets_after (state_of journal) call
   -- the creation has its own answer; the others go on by one from its id, and only what was processed is answered
   pub created : (state_of journal).created ≡ first_answer journal.opening
-  pub answer_ids : (k : ℕ) (answer : Answered) → slice_get (answers (state_of journal)) k ≡ Some answer → answer.rid ≡ journal.opening.request.rid + k
+  pub answer_ids : (k : ℕ) (answer : Answered) → slice_get (answers (state_of journal)) k ≡ Some answer
+      → answer.rid ≡ journal.opening.request.rid + k
   pub answers_processed : length (state_of journal).answered ≤ length (state_of journal).processed
   -- each answer was given for a reason, to the oldest held request, with what was due to it; one item at least, where one
   -- waited and the request was no pause
-  pub answered : (k : ℕ) (answer : Answered) → slice_get (state_of journal).answered k ≡ Some answer → WasGiven (state_of journal) k answer
-  pub served : (k : ℕ) (answer : Answered) (given : WasGiven (state_of journal) k answer) → is_pause given.oldest ≡ false → 1 ≤ length (waiting given.earlier)
+  pub answered : (k : ℕ) (answer : Answered) → slice_get (state_of journal).answered k ≡ Some answer
+      → WasGiven (state_of journal) k answer
+  pub served : (k : ℕ) (answer : Answered) (given : WasGiven (state_of journal) k answer) → is_pause given.oldest ≡ false
+      → 1 ≤ length (waiting given.earlier)
       → 1 ≤ length (items_in answer.front)
   -- a pause takes nothing
-  pub pauses : (k : ℕ) (copy : RequestCopy) (answer : Answered) → slice_get (state_of journal).processed k ≡ Some copy → slice_get (state_of journal).answered k ≡ Some answer
+  pub pauses : (k : ℕ) (copy : RequestCopy) (answer : Answered) → slice_get (state_of journal).processed k ≡ Some copy
+      → slice_get (state_of journal).answered k ≡ Some answer
       → is_pause copy ≡ true → answer.front ≡ OfStanzas []
   -- what is due of the items that wait is the longest front that one answer may take, where no closing comes first
   pub fronts : (items front : List Outward) → front_of items ≡ OfStanzas front → IsLongestFront items front
@@ -97,12 +112,14 @@ pub record KeptLaws (journal : Journal) : Type 0 where
   pub last_words : (rid : ℕ) (ending : Ending) → (state_of journal).ending ≡ Some ending → answered_of (state_of journal) < rid
       → bytes_for (state_of journal) rid ≡ Some (last_word (answered_of (state_of journal)) ending rid)
   -- a copy waits exactly where the session goes on and its id is open after the call, with the next ticket
-  pub parked : (request : Request) (body : List ℕ) (now number : ℕ) → IsAllowed (Arrive request body now) → is_over (state_of journal) ≡ false
+  pub parked : (request : Request) (body : List ℕ) (now number : ℕ) → IsAllowed (Arrive request body now)
+      → is_over (state_of journal) ≡ false
       → (reply_of journal (Arrive request body now) ≡ ToArrive (arrivals.Parked number))
       ↔ ((number ≡ length (state_of journal).tickets + 1) × IsOpenId (step (state_of journal) (Arrive request body now)).0 request.rid)
   -- a copy that is answered is told what its id was given, or that it found no place
-  pub told : (request : Request) (body : List ℕ) (now : ℕ) (bytes : List ℕ) → IsAllowed (Arrive request body now) → is_over (state_of journal) ≡ false
-      → reply_of journal (Arrive request body now) ≡ ToArrive (arrivals.Answer bytes) → IsToldTo (step (state_of journal) (Arrive request body now)).0 request.rid bytes
+  pub told : (request : Request) (body : List ℕ) (now : ℕ) (bytes : List ℕ) → IsAllowed (Arrive request body now)
+      → is_over (state_of journal) ≡ false → reply_of journal (Arrive request body now) ≡ ToArrive (arrivals.Answer bytes)
+      → IsToldTo (step (state_of journal) (Arrive request body now)).0 request.rid bytes
   -- a copy is told that the session is over exactly where it had ended before
   pub over : (request : Request) (body : List ℕ) (now : ℕ) → IsAllowed (Arrive request body now)
       → (reply_of journal (Arrive request body now) ≡ ToArrive arrivals.Over) ↔ (is_over (state_of journal) ≡ true)
@@ -112,6 +129,7 @@ pub record KeptLaws (journal : Journal) : Type 0 where
   pub done : (stream : ℕ) (stanza : List ℕ) (now : ℕ) → (reply_of journal (Back stream stanza now) ≡ ToBack takings.Done)
       ↔ (MayTake (state_of journal) stream stanza now × (has_room (time_applied (state_of journal) now) stanza ≡ true))
   pub closed : (stream : ℕ) (closing : Closing) (now : ℕ) → (reply_of journal (BackClosed stream closing now) ≡ ToBack takings.Done)
-      ↔ ((is_over (state_of journal) ≡ false) × (is_full (state_of journal) plain_cost ≡ false) × (takes_items (time_applied (state_of journal) now) stream ≡ true))
+      ↔ ((is_over (state_of journal) ≡ false) × (is_full (state_of journal) plain_cost ≡ false)
+      × (takes_items (time_applied (state_of journal) now) stream ≡ true))
   -- nothing changes by time alone exactly where nothing is due
   pub quiet : (now : ℕ) → (reply_of journal (Tick now) ≡ ToTick Quiet) ↔ (is_due (state_of journal) now ≡ false)

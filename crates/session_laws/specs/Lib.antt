@@ -5,3 +5,4 @@ pub mod OneBody
 pub mod Answering
 pub mod Replies
 pub mod Acknowledging
+pub mod RunEnded

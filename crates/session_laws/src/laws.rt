@@ -1,15 +1,25 @@
-ghost use Rattle.std.specs.Prelude.{◌≡◌, ℕ, List};
+ghost use Rattle.std.specs.Prelude.{◌≡◌, ℕ, List, [], ◌∷◌, Some};
 ghost use Rattle.session_core.specs.declared.copy.RequestCopy.{RequestCopy};
-ghost use Rattle.session_core.specs.Journal.{Journal, IsJournal};
+ghost use Rattle.session_core.specs.Journal.{Call, Entry, Journal, IsJournal, IsAllowed, entered_by, after_entry, state_of};
 ghost use Rattle.session_core.specs.Run.{IsLongestRun};
+ghost use Rattle.session_laws.specs.Growing.{with_later};
 ghost use Rattle.session_laws.specs.Laws.{KeptLaws};
+ghost use Rattle.session_laws.specs.RunEnded.{IsRunOfEnded};
 
 /// What every journal of a session keeps.
 pub fn every_journal_keeps_the_laws()
     ensures laws { (journal : Journal) → IsJournal journal → KeptLaws journal }
 {}
 
-/// Of what arrived there is one longest run.
-pub fn there_is_one_longest_run()
-    ensures one { (first : ℕ) (arrivals run other : List RequestCopy) → IsLongestRun first arrivals run → IsLongestRun first arrivals other → run ≡ other }
+/// There is one longest run of what arrived, and one run of a session that has ended.
+pub fn there_is_one_run()
+    ensures longest { (first : ℕ) (arrivals run other : List RequestCopy) → IsLongestRun first arrivals run → IsLongestRun first arrivals other → run ≡ other }
+    ensures ended { (journal : Journal) → IsJournal journal → (run other : List RequestCopy) → IsRunOfEnded journal run → IsRunOfEnded journal other → run ≡ other }
+{}
+
+/// A call that enters something makes a longer journal, and the state is then that after the entry.
+pub fn calls_make_longer_journals()
+    ensures made { (journal : Journal) (call : Call) (entry : Entry) → IsJournal journal → IsAllowed call
+        → entered_by (state_of journal) call ≡ Some entry.entered → IsJournal (with_later journal (entry ∷ [])) }
+    ensures state { (journal : Journal) (entry : Entry) → state_of (with_later journal (entry ∷ [])) ≡ after_entry (state_of journal) entry.entered }
 {}

@@ -3,4 +3,4 @@
 
 mod laws;
 
-pub use laws::{every_journal_keeps_the_laws, there_is_one_longest_run};
+pub use laws::{calls_make_longer_journals, every_journal_keeps_the_laws, there_is_one_run};

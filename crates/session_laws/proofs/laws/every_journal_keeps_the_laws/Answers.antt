@@ -25,6 +25,7 @@ use Rattle.session_laws.proofs.ReplyLemmas.{last_words}
 use Rattle.session_laws.proofs.KeptBoth.{every_kept}
 use Rattle.session_laws.proofs.ServedLemmas.{every_served, pause_takes}
 use Rattle.session_laws.proofs.Lists.{get_within}
+use Rattle.session_laws.proofs.TicketSteps.{every_ticket}
 use Rattle.session_laws.proofs.laws.every_journal_keeps_the_laws.Goals as goal
 
 pub returns : goal.returns
@@ -55,6 +56,7 @@ returns c = record {
         (steady-time IsFirstAnswer first_answer_steady (state_of journal) now (every_first_answer journal made)) kept);
     same_bytes = every_same_bytes journal;
     collects = collects_both journal;
+    tickets = every_ticket journal made;
     created = every_created journal made;
     answer_ids = every_answer_id journal made;
     answers_processed = ((every_clear journal made).0).few;

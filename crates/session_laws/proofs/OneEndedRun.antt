@@ -1,0 +1,116 @@
+-- There is one run of a session that has ended.
+use Rattle.std.proofs.Common.{◌≡◌, ℕ, suc, ◌+◌, ◌<◌, ◌≤◌, true, false, List, [], ◌∷◌, ◌++◌, Some, None, is_some, length, take, slice_get, refl, sym, ◌∙◌, ap, ap₂, arith, subst, append_assoc, inl, inr}
+use Rattle.std.proofs.lemmas.Bool.{cases_lt}
+use Rattle.std.proofs.lemmas.List.{length_push}
+use Rattle.bosh_types.specs.declared.ending.Ending.{Ending}
+use Rattle.session_core.specs.declared.copy.RequestCopy.{RequestCopy}
+use Rattle.session_core.specs.Journal.{Call, Arrive, Collect, Back, BackClosed, Tick, TakeInward, Made, Limit, Entered, Entry, Journal, IsJournal, IsAllowed, IsMade, none, more, entered_by, after_entry, after_entries}
+use Rattle.session_core.specs.Machine.{opened}
+use Rattle.session_core.specs.Points.{tested_at}
+use Rattle.session_core.specs.Rules.{asked_with, broken_rule}
+use Rattle.session_core.specs.Run.{IsFirstCopy, HasNot, arrivals_with, arrivals_of, key_after, state_testing}
+use Rattle.session_core.specs.State.{PlainSession, is_over}
+use Rattle.session_core.specs.Time.{time_applied}
+use Rattle.session_laws.specs.RunEnded.{IsTried, GoesNoFurther, AtTerminate, AtBreaker, AtEnd, IsRunOfEnded}
+use Rattle.session_laws.proofs.AckLemmas.{two_places, complete_one, not_earlier}
+use Rattle.session_laws.proofs.EndsBack.{over_or_on}
+use Rattle.session_laws.proofs.Grows.{grows_all, ending_stays, made_later, after_append, made_rest}
+use Rattle.session_laws.proofs.Lists.{get_some, get_last}
+use Rattle.session_laws.proofs.OneRun.{one_first, same_elements}
+use Rattle.session_laws.proofs.Steadily.{steady-time}
+use Rattle.session_laws.proofs.Tests.{which, none_some, true_false}
+
+-- what has ended stays ended
+over_later : (s t : PlainSession) → ((ending : Ending) → s.ending ≡ Some ending → t.ending ≡ Some ending) → is_over s ≡ true → is_over t ≡ true
+over_later s t stays over = elim (which s.ending) [
+  | inl nothing ↦ absurd (true_false (sym over ∙ ap is_some nothing))
+  | inr ending ↦ ap is_some (stays ending.0 ending.1)
+]
+
+time_over : (s : PlainSession) (now : ℕ) → is_over s ≡ true → is_over (time_applied s now) ≡ true
+time_over s now over = over_later s (time_applied s now) (steady-time _ (ending_stays s) s now (λ ending is. is)) over
+
+tested_over : (s : PlainSession) (entered : Entered) → is_over s ≡ true → is_over (tested_at s entered) ≡ true
+tested_over s (Made (Arrive request body now)) over = time_over s now over
+tested_over s (Made (Collect ticket)) over = over
+tested_over s (Made (Back stream stanza now)) over = time_over s now over
+tested_over s (Made (BackClosed stream closing now)) over = time_over s now over
+tested_over s (Made (Tick now)) over = time_over s now over
+tested_over s (Made TakeInward) over = over
+tested_over s (Limit kind cost now) over = over
+
+made_first : {s : PlainSession} {entry : Entry} {entries : List Entry} → IsMade s (entry ∷ entries) → (call : Call) × IsAllowed call × (entered_by s call ≡ Some entry.entered)
+made_first (more call allowed is rest) = (call, allowed, is)
+
+-- the first entries are made too
+made_front : (s : PlainSession) (past later : List Entry) → IsMade s (past ++ later) → IsMade s past
+made_front s [] later made = none
+made_front s (entry ∷ past) later made =
+    let first = made_first made in
+    more first.0 first.1 first.2 (made_front (after_entry s entry.entered) past later (made_rest made))
+
+-- after an ending no copy is tested by a session that goes on
+ended_before : (start : PlainSession) (before : List Entry) (entry : Entry) (m : List Entry) (e : Entry) (a : List Entry) → IsMade start ((before ++ entry ∷ []) ++ (m ++ e ∷ a)) → is_over (after_entries start (before ++ entry ∷ [])) ≡ true
+    → is_over (after_entries start ((before ++ entry ∷ []) ++ m)) ≡ true
+ended_before start before entry m e a made over =
+    let s : PlainSession = after_entries start (before ++ entry ∷ []) in
+    let later : IsMade s m = made_front s m (e ∷ a) (made_later start (before ++ entry ∷ []) (m ++ e ∷ a) made) in
+    ap is_over (after_append start (before ++ entry ∷ []) m) ∙ over_later s (after_entries s m) (grows_all s m later).ending over
+
+take_same : (run other : List RequestCopy) → length run ≤ length other → ((k : ℕ) (x y : RequestCopy) → slice_get run k ≡ Some x → slice_get other k ≡ Some y → x ≡ y) → take (length run) other ≡ run
+take_same [] other within each = refl
+take_same (x ∷ run) [] within each = absurd (omega arith)
+take_same (x ∷ run) (y ∷ other) within each = ap₂ (λ z l. z ∷ l) (sym (each 0 x y refl refl)) (take_same run other (omega arith) (λ k a b at also. each (suc k) a b at also))
+
+module _ (journal : Journal) (made : IsJournal journal) (run other : List RequestCopy) (r : IsRunOfEnded journal run) (q : IsRunOfEnded journal other) where
+  same_at : (k : ℕ) (x y : RequestCopy) → slice_get run k ≡ Some x → slice_get other k ≡ Some y → x ≡ y
+  same_at k x y at also = one_first (arrivals_of journal) (journal.opening.request.rid + suc k) x y (r.each (suc k) x at) (q.each (suc k) y also)
+
+  -- the other goes no further
+  stops_there : length run < length other → GoesNoFurther journal run → ⊥
+  stops_there longer (AtTerminate before copy split last) =
+      let here : slice_get run (length before) ≡ Some copy = ap (λ l. slice_get l (length before)) split ∙ get_last before copy in
+      let count : length run ≡ length before + 1 = omega (arith, ap length split, length_push before copy) in
+      let c = get_some other (length before) (omega (arith, longer, count)) in
+      let same : copy ≡ c.0 = same_at (length before) copy c.0 here c.1 in
+      absurd (omega (arith, q.rules.terminate (length before) c.0 c.1 (ap (λ (x : RequestCopy). x.request.terminate) (sym same) ∙ last), longer, count))
+  stops_there longer (AtBreaker copy ending first tried) =
+      let c = get_some other (length run) longer in
+      let place : journal.opening.request.rid + suc (length run) ≡ journal.opening.request.rid + 1 + length run = omega arith in
+      let same : c.0 ≡ copy = one_first (arrivals_of journal) (journal.opening.request.rid + 1 + length run) c.0 copy (subst (λ rid. IsFirstCopy (arrivals_of journal) rid c.0) place (q.each (suc (length run)) c.0 c.1)) first in
+      let t : IsTried journal run c.0 None = subst (λ l. IsTried journal l c.0 None) (take_same run other (omega (arith, longer)) same_at) (q.rules.tried (length run) c.0 c.1) in
+      let one = complete_one journal.opening journal.entries run t.0 t.1 t.2 tried.0 tried.1 tried.2 t.3 tried.3 t.4 tried.4 in
+      let asked = ap₂ (λ b e. asked_with (state_testing journal.opening b e) (key_after journal.opening.request.newkey run) run) one.0 one.1 in
+      none_some _ ending (ap₂ broken_rule (sym asked) (sym same) ∙ t.6) tried.6
+  stops_there longer (AtEnd before entry after split ends nothing nothing_now) =
+      let c = get_some other (length run) longer in
+      let t : IsTried journal run c.0 None = subst (λ l. IsTried journal l c.0 None) (take_same run other (omega (arith, longer)) same_at) (q.rules.tried (length run) c.0 c.1) in
+      elim (two_places t.0 before t.1 entry t.2 after (sym t.3 ∙ split)) [
+        | inl same ↦
+            let goes : is_over (state_testing journal.opening before entry) ≡ false = ap is_over (ap₂ (state_testing journal.opening) (sym same.0) (sym same.1)) ∙ t.5 in
+            (t.4).arrived (length run) (omega arith) (subst (λ l. HasNot (arrivals_with journal.opening l) (journal.opening.request.rid + 1 + length run)) (ap₂ (λ b e. b ++ e ∷ []) (sym same.0) (sym same.1)) (nothing_now goes))
+        | inr apart ↦ elim apart [
+          | inl later ↦ (t.4).arrived (length run) (omega arith) (not_earlier journal.opening t.0 t.1 later.0 before (journal.opening.request.rid + 1 + length run) later.1 nothing)
+          | inr earlier ↦
+              let start : PlainSession = opened journal.opening in
+              let b_is : t.0 ≡ (before ++ entry ∷ []) ++ earlier.0 = earlier.1 ∙ sym (append_assoc before (entry ∷ []) earlier.0) in
+              let all : journal.entries ≡ (before ++ entry ∷ []) ++ (earlier.0 ++ t.1 ∷ t.2) = t.3 ∙ ap (λ b. b ++ t.1 ∷ t.2) b_is ∙ append_assoc (before ++ entry ∷ []) earlier.0 (t.1 ∷ t.2) in
+              let over : is_over (after_entries start t.0) ≡ true = ap (λ b. is_over (after_entries start b)) b_is ∙ ended_before start before entry earlier.0 t.1 t.2 (subst (IsMade start) all made.1) ends.ends in
+              over_or_on (state_testing journal.opening t.0 t.1) (tested_over (after_entries start t.0) (t.1).entered over) t.5
+        ]
+      ]
+
+  pub no_shorter : length run < length other → ⊥
+  no_shorter longer = stops_there longer r.stops
+
+-- there is one
+pub ended_run-one : (journal : Journal) → IsJournal journal → (run other : List RequestCopy) → IsRunOfEnded journal run → IsRunOfEnded journal other → run ≡ other
+ended_run-one journal made run other r q =
+    let count : length run ≡ length other = elim (cases_lt (length run) (length other)) [
+      | inl shorter ↦ absurd (no_shorter journal made run other r q shorter)
+      | inr within ↦ elim (cases_lt (length other) (length run)) [
+        | inl longer ↦ absurd (no_shorter journal made other run q r longer)
+        | inr other_within ↦ omega arith
+      ]
+    ] in
+    same_elements run other count (λ k x y at also. one_first (arrivals_of journal) (journal.opening.request.rid + suc k) x y (r.each (suc k) x at) (q.each (suc k) y also))
