@@ -1,14 +1,12 @@
--- The run of a journal in the subject's own words (XEP-0124 section 14.2): of which copies it is made, and where it stops. It
--- knows no window, no buffer and no order of processing.
-use Rattle.std.specs.Prelude.{◌≡◌, ◌≢◌, ℕ, ◌+◌, ◌≤◌, true, false, max, List, [], ◌∷◌, ◌++◌, All, length, take, Option, Some, None, slice_get}
-use Rattle.bosh_types.specs.declared.ending.Ending.{Ending}
+-- The run of a journal in the subject's own words (XEP-0124 section 14.2): of which copies it is made. It knows no window, no
+-- buffer and no order of processing.
+use Rattle.std.specs.Prelude.{◌≡◌, ◌≢◌, ℕ, ◌+◌, ◌≤◌, true, false, max, List, [], ◌∷◌, ◌++◌, All, length, Option, Some, slice_get}
 use Rattle.key_sequence.specs.Current.{current_after}
 use Rattle.session_core.specs.declared.copy.RequestCopy.{RequestCopy}
 use Rattle.session_core.specs.Copy.{id_of}
 use Rattle.session_core.specs.Journal.{Arrive, Collect, Back, BackClosed, Tick, TakeInward, Entered, Made, Limit, Entry, Journal, after_entries, state_of}
 use Rattle.session_core.specs.Machine.{Opening, opened, creation_of}
 use Rattle.session_core.specs.Points.{tested_at}
-use Rattle.session_core.specs.Rules.{asked_with, broken_rule}
 use Rattle.session_core.specs.State.{PlainSession, run, is_over}
 
 -- the greatest moment once this was entered
@@ -66,7 +64,7 @@ pub record IsLongestRun (first : ℕ) (arrivals run : List RequestCopy) : Type 0
   pub each : IsRun first arrivals run
   pub ends : HasNot arrivals (first + length run)
 
--- The run of a session that has ended: it stops before a copy that broke a rule, and after a terminate.
+-- When a copy is tested, and which entry ends a session: by these the run of a session that has ended is told.
 
 -- the key that these copies leave as the current one
 abbrev pub key_after : Option (List ℕ) → List RequestCopy → Option (List ℕ)
@@ -82,40 +80,7 @@ pub record Completes (o : Opening) (before : List Entry) (entry : Entry) (lower 
 abbrev pub state_testing : Opening → List Entry → Entry → PlainSession
 state_testing o before entry = tested_at (after_entries (opened o) before) entry.entered
 
--- what the rules make of the copy that follows these, which follow the creation: it is tested with the entry by which it and
--- all lower ids had come
-abbrev pub IsJudged : Journal → List RequestCopy → RequestCopy → Option Ending → Type 0
-IsJudged journal lower copy verdict =
-    (before : List Entry) × (entry : Entry) × (after : List Entry) × (journal.entries ≡ before ++ entry ∷ after)
-    × Completes journal.opening before entry lower
-    × (broken_rule (asked_with (state_testing journal.opening before entry) (key_after journal.opening.request.newkey lower) lower) copy ≡ verdict)
-
--- each copy after the creation broke no rule, and only the last may be a terminate
-pub record KeepsRules (journal : Journal) (later : List RequestCopy) : Type 0 where
-  pub judged : (k : ℕ) (copy : RequestCopy) → slice_get later k ≡ Some copy → IsJudged journal (take k later) copy None
-  pub terminate : (k : ℕ) (copy : RequestCopy) → slice_get later k ≡ Some copy → copy.request.terminate ≡ true → k + 1 ≡ length later
-
 -- the entry that ended the session
 pub record IsLast (o : Opening) (before : List Entry) (entry : Entry) : Type 0 where
   pub goes_on : is_over (after_entries (opened o) before) ≡ false
   pub ends : is_over (after_entries (opened o) (before ++ entry ∷ [])) ≡ true
-
--- why the run of a session that has ended goes no further than these copies, which follow the creation
-pub data Stops (journal : Journal) (later : List RequestCopy) : Type 0 where
-  -- the last of them is a terminate
-  AtTerminate : (before : List RequestCopy) (copy : RequestCopy) → later ≡ before ++ copy ∷ [] → copy.request.terminate ≡ true → Stops journal later
-  -- the copy that follows them broke a rule
-  AtBreaker : (copy : RequestCopy) (ending : Ending) → IsFirstCopy (arrivals_of journal) (journal.opening.request.rid + 1 + length later) copy
-      → IsJudged journal later copy (Some ending) → Stops journal later
-  -- nothing came with the id that follows them, before the session ended
-  AtEnd : (before : List Entry) (entry : Entry) (after : List Entry) → journal.entries ≡ before ++ entry ∷ after
-      → IsLast journal.opening before entry → HasNot (arrivals_with journal.opening before) (journal.opening.request.rid + 1 + length later)
-      → (is_over (state_testing journal.opening before entry) ≡ false
-      → HasNot (arrivals_with journal.opening (before ++ entry ∷ [])) (journal.opening.request.rid + 1 + length later))
-      → Stops journal later
-
--- the run of a session that has ended, from the creation on
-pub record IsRunAtEnd (journal : Journal) (later : List RequestCopy) : Type 0 where
-  pub each : IsRun journal.opening.request.rid (arrivals_of journal) (creation_of journal.opening ∷ later)
-  pub rules : KeepsRules journal later
-  pub stops : Stops journal later

@@ -45,4 +45,6 @@ pub use session::Session;
 pub use tickets::{OpenTicket, Tickets};
 
 #[cfg(test)]
+mod call_tests;
+#[cfg(test)]
 mod tests;
