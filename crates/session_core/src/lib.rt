@@ -45,6 +45,4 @@ pub use session::Session;
 pub use tickets::{OpenTicket, Tickets};
 
 #[cfg(test)]
-mod call_tests;
-#[cfg(test)]
 mod tests;
