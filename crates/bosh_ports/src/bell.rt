@@ -12,9 +12,23 @@ pub enum Woken {
     Silent,
 }
 
-/// A bell, and how many waits at it ended silent. Nothing is said of how long a wait takes.
+/// Whom a ring concerns: those who wait for the session with this opening number, which counts from 1. 0 is the pump's, and
+/// what a bell is tuned to until it is told otherwise.
+#[derive(Clone, Copy, PartialEq, Eq, Debug)]
+pub struct BellKey(pub u64);
+
+impl BellKey {
+    pub const PUMP: BellKey = BellKey(0);
+}
+
+/// A bell, and how many waits at it ended silent. Nothing is said of how long a wait takes, nor of which rings end it.
 pub trait Bell {
     ghost silences: { Self → ℕ };
+
+    /// Waits are for rings with this key from here on. Those that came before aren't waited for: tune first, then look at
+    /// what is waited for, then wait.
+    fn tune(&mut self, key: BellKey)
+        ensures { silences self.new ≡ silences self.old };
 
     /// `Rung` says no more than that the wait ended: what was waited for has to be looked at again.
     fn wait(&mut self) -> Woken
@@ -22,17 +36,18 @@ pub trait Bell {
         ensures rung { result ≡ Woken.Rung → silences self.new ≡ silences self.old }
         ensures never_falls { silences self.old ≤ silences self.new };
 
-    fn ring(&mut self)
+    /// Wakes those that wait with this key. It may wake others too.
+    fn ring(&mut self, key: BellKey)
         ensures { silences self.new ≡ silences self.old };
 
-    /// One more end of the same bell, for another thread, with a count of its own.
+    /// One more end of the same bell, for another thread, with a count of its own and the key of this one.
     fn share(&self) -> Result<Self, AllocError>
     where
         Self: Sized,
         ensures { IfOk result (λ bell. silences bell ≡ 0) };
 }
 
-/// Never silent, and never waits.
+/// Never silent, and never waits. It has no keys.
 #[derive(Clone, Copy)]
 pub struct SteadyBell;
 
@@ -43,14 +58,17 @@ impl Bell for SteadyBell {
         Woken::Rung
     }
 
-    fn ring(&mut self) {}
+    fn tune(&mut self, _key: BellKey) {}
+
+    fn ring(&mut self, _key: BellKey) {}
 
     fn share(&self) -> Result<SteadyBell, AllocError> {
         Ok(SteadyBell)
     }
 }
 
-/// Silent at the waits of a list, which are counted from 1, and rung at every other. It never waits.
+/// Silent at the waits of a list, which are counted from 1, and rung at every other. It never waits, and
+/// has no keys.
 #[derive(Drop)]
 pub struct ListedBell {
     alloc: Global,
@@ -111,7 +129,11 @@ impl Bell for ListedBell {
         Woken::Rung
     }
 
-    fn ring(&mut self)
+    fn tune(&mut self, _key: BellKey)
+        ensures { self.new ≡ self.old }
+    {}
+
+    fn ring(&mut self, _key: BellKey)
         ensures { self.new ≡ self.old }
     {}
 

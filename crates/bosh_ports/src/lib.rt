@@ -20,7 +20,7 @@ mod tcp;
 #[cfg(test)]
 mod tests;
 
-pub use bell::{Bell, ListedBell, SteadyBell, Woken};
+pub use bell::{Bell, BellKey, ListedBell, SteadyBell, Woken};
 pub use giving::{WriteFault, give_all};
 pub use link::Link;
 pub use memory::{MemorySink, MemorySource};

@@ -3,7 +3,7 @@ use std::io;
 use std::net::{Ipv4Addr, Net, SocketAddr, TcpListener, TcpStream};
 use std::process::Abort;
 use std::test::Fail;
-use std::time::Duration;
+use std::time::{Duration, Instant};
 
 #[test]
 fn a_listed_bell_is_silent_where_it_is_told(rt: HostRuntime) -> Result<(), Fail> {
@@ -11,9 +11,34 @@ fn a_listed_bell_is_silent_where_it_is_told(rt: HostRuntime) -> Result<(), Fail>
     let mut bell = ListedBell::new(rt.alloc(), silent);
     let mut share = bell.share()?;
     for expected in [Woken::Rung, Woken::Silent, Woken::Silent, Woken::Rung] {
-        bell.ring();
+        bell.ring(BellKey::PUMP);
         assert_eq!(rt; bell.wait(), expected);
         assert_eq!(rt; share.wait(), expected);
+    }
+    Ok(())
+}
+
+#[test]
+fn a_ring_wakes_its_key_alone(rt: HostRuntime) -> Result<(), Fail> {
+    let mut ringer = RealBell::new(rt.alloc(), rt)?;
+    let mut pump = ringer.share()?;
+    let mut worker = ringer.share()?;
+    worker.tune(BellKey(1));
+
+    // Rings that are heard keep nobody waiting, and one for others is not heard for all of 100 milliseconds.
+    let start = Instant::now(&rt)?;
+    for _ in 0..20 {
+        ringer.ring(BellKey(1));
+        ringer.ring(BellKey::PUMP);
+        assert_eq!(rt; worker.wait(), Woken::Rung);
+        assert_eq!(rt; pump.wait(), Woken::Rung);
+    }
+    assert!(rt; start.elapsed(&rt)? < Duration::from_millis(1500));
+    for key in [BellKey(2), BellKey::PUMP] {
+        let start = Instant::now(&rt)?;
+        ringer.ring(key);
+        assert_eq!(rt; worker.wait(), Woken::Rung);
+        assert!(rt; start.elapsed(&rt)? >= Duration::from_millis(99));
     }
     Ok(())
 }
