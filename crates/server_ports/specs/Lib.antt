@@ -1,0 +1,5 @@
+pub mod Counts
+pub mod Events
+pub mod MemoryNetwork
+pub mod Names
+pub mod Network

@@ -1,0 +1,24 @@
+-- Names of sessions.
+use Rattle.std.specs.Prelude.{◌≡◌, ℕ, ◌≤◌, List, [], ◌∷◌, Bool, true, false, ◌||◌, ◌==◌, length}
+use Rattle.std.specs.List.{list_all}
+use Rattle.std.specs.Char.{is_ascii_alphanumeric, is_ascii_digit}
+
+-- a letter, a digit or `-`
+abbrev pub is_name_byte : ℕ → Bool
+is_name_byte byte = is_ascii_alphanumeric byte || (byte == 45)
+
+-- the last byte is a digit; of no bytes it is what was said before
+abbrev pub last_is_digit : Bool → List ℕ → Bool
+last_is_digit before [] = before
+last_is_digit before (byte ∷ rest) = last_is_digit (is_ascii_digit byte) rest
+
+-- the first part of a session's name, to which a decimal number is put: 1 to 32 letters, digits and `-`, the last no digit
+pub record IsNamePart (name : List ℕ) : Type 0 where
+  pub some : 1 ≤ length name
+  pub few : length name ≤ 32
+  pub allowed : list_all is_name_byte name ≡ true
+  pub unnumbered : last_is_digit false name ≡ false
+
+-- the greatest request id that is drawn as a first one
+abbrev pub greatest_first : ℕ
+greatest_first = 4294967296

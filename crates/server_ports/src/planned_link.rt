@@ -1,0 +1,96 @@
+// Links in memory that are planned before someone accepts or dials them.
+ghost use Rattle.std.specs.Prelude.{◌≡◌, ℕ, [], Some};
+
+use crate::counting::one_more_fault;
+use bosh_ports::{Gave, Got, Link, MemoryLink, MemorySink, MemorySource};
+use std::alloc::Global;
+
+/// What a link will be: the bytes that it gives and the sizes of the pieces in which they come, and the numbers of the takes and
+/// of the gives that fail.
+#[derive(Debug, Drop)]
+pub struct LinkPlan {
+    pub bytes: Vec<u8>,
+    pub pieces: Vec<usize>,
+    pub failing_takes: Vec<u64>,
+    pub failing_gives: Vec<u64>,
+}
+
+impl LinkPlan {
+    /// A link that gives these bytes, in pieces as large as there is room for, and fails at no call.
+    pub fn new(alloc: Global, bytes: Vec<u8>) -> LinkPlan
+        ensures bytes { result.bytes ≡ bytes }
+        ensures pieces { result.pieces.items ≡ [] }
+        ensures takes { result.failing_takes.items ≡ [] }
+        ensures gives { result.failing_gives.items ≡ [] }
+    {
+        LinkPlan {
+            bytes,
+            pieces: Vec::new(alloc),
+            failing_takes: Vec::new(alloc),
+            failing_gives: Vec::new(alloc),
+        }
+    }
+}
+
+/// A link over bytes in memory that counts its faults itself.
+#[derive(Debug, Drop)]
+pub struct PlannedLink {
+    pub link: MemoryLink,
+    pub faults: u64,
+}
+
+impl PlannedLink {
+    /// The link of a plan. It takes no memory.
+    pub fn new(alloc: Global, plan: LinkPlan) -> PlannedLink
+        ensures left { result.link.taking.bytes ≡ plan.bytes.items }
+        ensures pieces { result.link.pieces ≡ plan.pieces.items }
+        ensures takes { result.link.taking.failing ≡ plan.failing_takes.items }
+        ensures gives { result.link.giving.failing ≡ plan.failing_gives.items }
+        ensures given { result.link.giving.bytes ≡ [] }
+        ensures faults { result.faults ≡ 0 }
+    {
+        let source = MemorySource::new(plan.bytes, plan.failing_takes);
+        let sink = MemorySink::new(alloc, plan.failing_gives);
+        PlannedLink {
+            link: MemoryLink::new(source, sink, plan.pieces),
+            faults: 0,
+        }
+    }
+}
+
+impl Link for PlannedLink {
+    ghost left = { λ l. Some l.link.taking.bytes };
+
+    ghost given = { λ l. Some l.link.giving.bytes };
+
+    ghost closed = { λ l. Some l.link.is_closed };
+
+    ghost faults = { λ l. l.faults };
+
+    fn take(&mut self, into: &mut [u8]) -> Got {
+        let got = self.link.take(into);
+        if got == Got::Failed {
+            self.faults = one_more_fault(self.faults);
+        }
+        got
+    }
+
+    fn give(&mut self, bytes: &[u8]) -> Gave {
+        let gave = self.link.give(bytes);
+        if gave == Gave::Failed {
+            self.faults = one_more_fault(self.faults);
+        }
+        gave
+    }
+
+    fn close(&mut self) {
+        self.link.close();
+    }
+}
+
+/// What became of a link: it began, with the bytes that it has to be taken, or it was retired.
+#[derive(Debug, Drop)]
+pub enum Past {
+    Began(Vec<u8>),
+    Retired(PlannedLink),
+}

@@ -1,0 +1,66 @@
+// The spawner of real threads.
+ghost use Rattle.std.specs.Prelude.{◌≡◌, ◌<◌, ⊤, vec_len, vec_capacity};
+
+use crate::spawner::{Leave, Spawner};
+use std::alloc::Global;
+use std::thread::{JoinHandle, Threads};
+
+/// Every job gets a thread, and the handles of all are kept. It can't be let go of but by `join_all`, so no thread is left
+/// running where a program ends. Want of memory for a handle is a refusal.
+pub struct ThreadSpawner {
+    handles: Vec<JoinHandle<()>>,
+    refusals: u64,
+}
+
+impl ThreadSpawner {
+    pub fn new(alloc: Global) -> ThreadSpawner
+        ensures { result.refusals ≡ 0 }
+    {
+        ThreadSpawner {
+            handles: Vec::new(alloc),
+            refusals: 0,
+        }
+    }
+
+    /// How often it refused.
+    pub fn refusals(&self) -> u64
+        ensures { result ≡ self.now.refusals }
+    {
+        self.refusals
+    }
+
+    /// Waits until each thread has ended.
+    pub fn join_all(self, rt: &impl Threads) {
+        let ThreadSpawner {
+            handles,
+            refusals: _,
+        } = self;
+        for handle in handles {
+            handle.join(rt);
+        }
+    }
+}
+
+impl Spawner for ThreadSpawner {
+    ghost refusals = { λ s. s.refusals };
+
+    ghost has_threads = { λ _. ⊤ };
+
+    ghost has_room = { λ s. vec_len s.handles < vec_capacity s.handles };
+
+    fn ask(&mut self) -> Leave {
+        if self.handles.try_reserve(1).is_err() {
+            self.refusals = self.refusals.saturating_add(1);
+            return Leave::Refused;
+        }
+        Leave::InThread
+    }
+
+    fn keep(&mut self, handle: JoinHandle<()>) {
+        self.handles.push_reserved(handle);
+    }
+
+    fn refuse(&mut self) {
+        self.refusals = self.refusals.saturating_add(1);
+    }
+}
