@@ -47,3 +47,9 @@ IsWithout events = IfSome events (λ told. told ≡ [])
 -- nothing was given to a link yet, where it tells that
 abbrev pub IsUngiven : Option (List ℕ) → Type 0
 IsUngiven given = IfSome given (λ bytes. bytes ≡ [])
+
+-- the first event is no retiring, so that no link was out before
+abbrev pub BeginsInOrder : List Event → Type 0
+BeginsInOrder [] = ⊤
+BeginsInOrder (Began stream ∷ events) = ⊤
+BeginsInOrder (Retired rest given ∷ events) = ⊥

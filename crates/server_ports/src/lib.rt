@@ -6,6 +6,7 @@
 mod clock;
 mod counting;
 mod job;
+pub mod laws;
 mod listed_spawner;
 mod memory_network;
 mod names;

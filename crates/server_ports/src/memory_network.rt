@@ -69,6 +69,17 @@ impl MemoryNetwork {
         }
     }
 
+    /// What became of its links so far, where it tells that.
+    pub fn past(&self) -> Option<&[Past]>
+        ensures told { IfSome result (λ past. self.now.events ≡ Some (events_of past.now)) }
+        ensures untold { IfNone result (self.now.events ≡ None) }
+    {
+        match &self.past {
+            Some(past) => Some(past.as_slice()),
+            None => None,
+        }
+    }
+
     // Counts a call, and where it is one of those that are to fail, its fault.
     fn fails(&mut self) -> bool
         ensures listed { IsTrue result ↔ (IsNextListed self.old) }

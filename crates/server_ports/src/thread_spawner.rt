@@ -1,5 +1,6 @@
 // The spawner of real threads.
-ghost use Rattle.std.specs.Prelude.{◌≡◌, ◌<◌, ⊤, vec_len, vec_capacity};
+ghost use Rattle.std.specs.Prelude.{◌≡◌, ◌≢◌, ◌<◌, ◌≤◌, [], ◌∷◌, ◌++◌, ⊤, vec_len, vec_capacity};
+ghost use Rattle.bosh_ports.specs.Faults.{HasRisen};
 
 use crate::spawner::{Leave, Spawner};
 use std::alloc::Global;
@@ -14,7 +15,8 @@ pub struct ThreadSpawner {
 
 impl ThreadSpawner {
     pub fn new(alloc: Global) -> ThreadSpawner
-        ensures { result.refusals ≡ 0 }
+        ensures refusals { result.refusals ≡ 0 }
+        ensures handles { result.handles.items ≡ [] }
     {
         ThreadSpawner {
             handles: Vec::new(alloc),
@@ -48,7 +50,16 @@ impl Spawner for ThreadSpawner {
 
     ghost has_room = { λ s. vec_len s.handles < vec_capacity s.handles };
 
-    fn ask(&mut self) -> Leave {
+    fn ask(&mut self) -> Leave
+        ensures refused { result ≡ Leave.Refused → HasRisen self.old.refusals self.new.refusals }
+        ensures given { result ≢ Leave.Refused → self.new.refusals ≡ self.old.refusals }
+        ensures never_falls { self.old.refusals ≤ self.new.refusals }
+        ensures threads { result ≡ Leave.InThread → ⊤ }
+        ensures room { result ≡ Leave.InThread → vec_len self.new.handles < vec_capacity self.new.handles }
+
+        // The handles stay.
+        ensures handles { self.new.handles.items ≡ self.old.handles.items }
+    {
         if self.handles.try_reserve(1).is_err() {
             self.refusals = self.refusals.saturating_add(1);
             return Leave::Refused;
@@ -56,11 +67,19 @@ impl Spawner for ThreadSpawner {
         Leave::InThread
     }
 
-    fn keep(&mut self, handle: JoinHandle<()>) {
+    fn keep(&mut self, handle: JoinHandle<()>)
+        requires { vec_len self.old.handles < vec_capacity self.old.handles }
+        ensures refusals { self.new.refusals ≡ self.old.refusals }
+        ensures kept { self.new.handles.items ≡ self.old.handles.items ++ handle ∷ [] }
+    {
         self.handles.push_reserved(handle);
     }
 
-    fn refuse(&mut self) {
+    fn refuse(&mut self)
+        ensures risen { HasRisen self.old.refusals self.new.refusals }
+        ensures never_falls { self.old.refusals ≤ self.new.refusals }
+        ensures handles { self.new.handles ≡ self.old.handles }
+    {
         self.refusals = self.refusals.saturating_add(1);
     }
 }
