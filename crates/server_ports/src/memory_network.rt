@@ -164,6 +164,8 @@ impl Network for MemoryNetwork {
 
         // It fails at the listed calls and at no others.
         ensures listed { (result ≡ Opened.Failed) ↔ (IsNextListed self.old) }
+        ensures calls { self.new.calls ≡ counted_up self.old.calls }
+        ensures others { self.new ≡ record self.old { calls = self.new.calls; counts = self.new.counts } }
     {
         if self.fails() {
             return Opened::Failed;
@@ -171,7 +173,16 @@ impl Network for MemoryNetwork {
         Opened::Ready
     }
 
-    fn share(&mut self) -> Shared<MemoryNetwork> {
+    fn share(&mut self) -> Shared<MemoryNetwork>
+        ensures counts { MatchShared result (λ _. self.new.counts ≡ self.old.counts) (HasFailed self.old.counts self.new.counts) }
+        ensures events { self.new.events ≡ self.old.events }
+
+        // It fails at the listed calls and at no others, and the share has nothing yet.
+        ensures listed { MatchShared result (λ _. ¬ IsNextListed self.old) (IsNextListed self.old) }
+        ensures fresh { MatchShared result (λ net. net ≡ record { plans = []; failing = []; calls = 0; counts = no_counts; events = Some [] }) ⊤ }
+        ensures calls { self.new.calls ≡ counted_up self.old.calls }
+        ensures others { self.new ≡ record self.old { calls = self.new.calls; counts = self.new.counts } }
+    {
         if self.fails() {
             return Shared::Failed;
         }
@@ -188,6 +199,8 @@ impl Network for MemoryNetwork {
         // It fails at the listed calls and at no others, and gives the links in the order of their plans.
         ensures listed { MatchAccepted result (λ _. ¬ IsNextListed self.old) (¬ IsNextListed self.old) (IsNextListed self.old) }
         ensures planned { MatchAccepted result (λ link. self.old.plans ≡ link.link.taking.bytes ∷ self.new.plans) (self.old.plans ≡ []) (self.new.plans ≡ self.old.plans) }
+        ensures calls { self.new.calls ≡ counted_up self.old.calls }
+        ensures others { self.new ≡ record self.old { plans = self.new.plans; calls = self.new.calls; counts = self.new.counts; events = self.new.events } }
     {
         if self.fails() {
             return Accepted::Failed;
@@ -215,6 +228,8 @@ impl Network for MemoryNetwork {
         ensures listed { MatchDialled result (λ _. ¬ IsNextListed self.old) ⊤ }
         ensures planned { MatchDialled result (λ link. self.old.plans ≡ link.link.taking.bytes ∷ self.new.plans) (self.new.plans ≡ self.old.plans) }
         ensures spent { MatchDialled result (λ _. ⊤) (¬ IsNextListed self.old → self.old.plans ≡ []) }
+        ensures calls { self.new.calls ≡ counted_up self.old.calls }
+        ensures others { self.new ≡ record self.old { plans = self.new.plans; calls = self.new.calls; counts = self.new.counts; events = self.new.events } }
     {
         if self.fails() {
             return Dialled::Failed;
@@ -231,7 +246,11 @@ impl Network for MemoryNetwork {
         }
     }
 
-    fn retire(&mut self, link: PlannedLink) {
+    fn retire(&mut self, link: PlannedLink)
+        ensures faults { RisesWith self.old.counts.faults self.new.counts.faults link.faults }
+        ensures others { self.new ≡ record self.old { counts = record self.old.counts { faults = self.new.counts.faults }; events = self.new.events } }
+        ensures events { Retires self.old.events self.new.events (Some link.link.taking.bytes) (Some link.link.giving.bytes) }
+    {
         let mut link = link;
         link.close();
         if link.faults > 0 {
@@ -240,7 +259,17 @@ impl Network for MemoryNetwork {
         self.past = retired(self.past.take(), link);
     }
 
-    fn back(&mut self, share: MemoryNetwork) {
+    fn back(&mut self, share: MemoryNetwork)
+        ensures faults { RisesWith self.old.counts.faults self.new.counts.faults share.counts.faults }
+        ensures others { self.new ≡ record self.old {
+          counts = record self.old.counts {
+            faults = self.new.counts.faults;
+            dialled = added self.old.counts.dialled share.counts.dialled;
+          };
+          events = self.new.events;
+        } }
+        ensures events { Joins self.old.events self.new.events share.events }
+    {
         if share.faults > 0 {
             self.faults = one_more_fault(self.faults);
         }

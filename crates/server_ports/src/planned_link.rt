@@ -1,5 +1,8 @@
 // Links in memory that are planned before someone accepts or dials them.
-ghost use Rattle.std.specs.Prelude.{◌≡◌, ℕ, [], Some};
+ghost use Rattle.std.specs.Prelude.{◌≡◌, ◌<◌, ◌≤◌, ◌↔◌, [], Some, length};
+ghost use Rattle.bosh_ports.specs.Faults.{HasRisen};
+ghost use Rattle.bosh_ports.specs.Link.{GivesAtMost, next_piece};
+ghost use Rattle.bosh_ports.specs.Memory.{IsNextToFail};
 
 use crate::counting::one_more_fault;
 use bosh_ports::{Gave, Got, Link, MemoryLink, MemorySink, MemorySource};
@@ -59,6 +62,9 @@ impl PlannedLink {
 }
 
 impl Link for PlannedLink {
+    ghost use Rattle.bosh_ports.specs.Source.{Takes, CountsTake};
+    ghost use Rattle.bosh_ports.specs.Sink.{Gives, CountsGive};
+
     ghost left = { λ l. Some l.link.taking.bytes };
 
     ghost given = { λ l. Some l.link.giving.bytes };
@@ -67,7 +73,20 @@ impl Link for PlannedLink {
 
     ghost faults = { λ l. l.faults };
 
-    fn take(&mut self, into: &mut [u8]) -> Got {
+    fn take(&mut self, into: &mut [u8]) -> Got
+        requires { 0 < length into.old }
+        ensures takes { Takes (Some self.old.link.taking.bytes) (Some self.new.link.taking.bytes) into.new result }
+        ensures given { self.new.link.giving.bytes ≡ self.old.link.giving.bytes }
+        ensures closed { self.new.link.is_closed ≡ self.old.link.is_closed }
+        ensures failed { result ≡ Got.Failed → HasRisen self.old.faults self.new.faults }
+        ensures counts { CountsTake self.old.faults self.new.faults result }
+        ensures faults { self.old.faults ≤ self.new.faults }
+
+        // It fails at the listed takes and at no others, and gives no more than the next piece has.
+        ensures listed { (result ≡ Got.Failed) ↔ (IsNextToFail self.old.link.taking) }
+        ensures piece { GivesAtMost (next_piece self.old.link.pieces (length into.old)) result }
+        ensures giving { self.new.link.giving ≡ self.old.link.giving }
+    {
         let got = self.link.take(into);
         if got == Got::Failed {
             self.faults = one_more_fault(self.faults);
@@ -75,7 +94,19 @@ impl Link for PlannedLink {
         got
     }
 
-    fn give(&mut self, bytes: &[u8]) -> Gave {
+    fn give(&mut self, bytes: &[u8]) -> Gave
+        requires { 0 < length bytes.now }
+        ensures gives { Gives (Some self.old.link.giving.bytes) (Some self.new.link.giving.bytes) bytes.now result }
+        ensures left { self.new.link.taking.bytes ≡ self.old.link.taking.bytes }
+        ensures closed { self.new.link.is_closed ≡ self.old.link.is_closed }
+        ensures failed { result ≡ Gave.Failed → HasRisen self.old.faults self.new.faults }
+        ensures counts { CountsGive self.old.faults self.new.faults result }
+        ensures faults { self.old.faults ≤ self.new.faults }
+
+        // It fails at the listed gives, and at others for want of memory alone.
+        ensures listed { IsNextToFail self.old.link.giving → result ≡ Gave.Failed }
+        ensures others { self.new.link ≡ record self.old.link { giving = self.new.link.giving } }
+    {
         let gave = self.link.give(bytes);
         if gave == Gave::Failed {
             self.faults = one_more_fault(self.faults);

@@ -1,5 +1,5 @@
 // A network without faults: their count is constantly 0.
-ghost use Rattle.std.specs.Prelude.{◌≡◌, None};
+ghost use Rattle.std.specs.Prelude.{◌≡◌, [], ◌∷◌, ⊤, None, map};
 
 use crate::counting::add;
 use crate::network::{Accepted, Dialled, Network, Opened, Shared};
@@ -55,7 +55,12 @@ impl Network for QuietNetwork {
         Shared::Net(QuietNetwork::new(self.alloc, Vec::new(self.alloc)))
     }
 
-    fn accept(&mut self) -> Accepted<QuietLink> {
+    fn accept(&mut self) -> Accepted<QuietLink>
+        ensures counts { AcceptCounts (record { faults = 0; accepted = self.old.accepted; dialled = self.old.dialled; stops = self.old.stops }) (record { faults = 0; accepted = self.new.accepted; dialled = self.new.dialled; stops = self.new.stops }) result }
+
+        // The links give their bytes in order, until none are left.
+        ensures streams { MatchAccepted result (λ link. map (λ s. s.items) self.old.streams.items ≡ link.source ∷ map (λ s. s.items) self.new.streams.items) (self.old.streams.items ≡ []) ⊥ }
+    {
         match self.streams.pop_front() {
             Some(bytes) => {
                 self.accepted = add(self.accepted, 1);
@@ -68,7 +73,12 @@ impl Network for QuietNetwork {
         }
     }
 
-    fn dial(&mut self, _port: u16) -> Dialled<QuietLink> {
+    fn dial(&mut self, _port: u16) -> Dialled<QuietLink>
+        ensures counts { DialCounts (record { faults = 0; accepted = self.old.accepted; dialled = self.old.dialled; stops = self.old.stops }) (record { faults = 0; accepted = self.new.accepted; dialled = self.new.dialled; stops = self.new.stops }) result }
+
+        // It never fails.
+        ensures given { MatchDialled result (λ _. ⊤) ⊥ }
+    {
         self.dialled = add(self.dialled, 1);
         match self.streams.pop_front() {
             Some(bytes) => Dialled::Link(QuietLink::new(bytes)),
