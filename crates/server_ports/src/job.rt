@@ -22,7 +22,7 @@ pub enum Started {
     Refused,
 }
 
-/// Starts a job where the spawner gives leave: in a thread of its own, whose handle the spawner keeps, or here and at once.
+/// Starts a job where the spawner gives leave, and only then: in a thread of its own, whose handle the spawner keeps, or here and at once.
 /// It is a function and no method of the spawner, since no trait's method that makes a thread gets a proof.
 pub fn start<R, S, J>(rt: &R, spawner: &mut S, job: J) -> Started
 where
@@ -32,6 +32,8 @@ where
     ensures refused { result ≡ Started.Refused → HasRisen (S.refusals spawner.old) (S.refusals spawner.new) }
     ensures running { result ≡ Started.Running → S.refusals spawner.new ≡ S.refusals spawner.old }
     ensures never_falls { S.refusals spawner.old ≤ S.refusals spawner.new }
+    ensures leave { result ≡ Started.Running → HasRisen (S.leaves spawner.old) (S.leaves spawner.new) }
+    ensures none_lost { S.kept spawner.old ≤ S.kept spawner.new }
 {
     let leave = spawner.ask();
     match leave {
@@ -55,6 +57,9 @@ where
     ensures refused { result ≡ Started.Refused → HasRisen (S.refusals spawner.old) (S.refusals spawner.new) }
     ensures running { result ≡ Started.Running → S.refusals spawner.new ≡ S.refusals spawner.old }
     ensures never_falls { S.refusals spawner.old ≤ S.refusals spawner.new }
+    ensures leaves { S.leaves spawner.new ≡ S.leaves spawner.old }
+    ensures kept { result ≡ Started.Running → HasRisen (S.kept spawner.old) (S.kept spawner.new) }
+    ensures none_lost { S.kept spawner.old ≤ S.kept spawner.new }
 {
     match thread::spawn(rt, move || job.run(Leave::InThread)) {
         Ok(handle) => {

@@ -8,18 +8,26 @@ use std::thread::JoinHandle;
 
 /// Every job runs at once, in the thread that starts it. The count of refusals is constantly 0.
 #[derive(Clone, Copy, Debug)]
-pub struct SteadySpawner;
+pub struct SteadySpawner {
+    pub leaves: u64,
+}
 
 impl Spawner for SteadySpawner {
     ghost refusals = { λ _. 0 };
+
+    ghost leaves = { λ s. s.leaves };
+
+    ghost kept = { λ _. 0 };
 
     ghost has_threads = { λ _. ⊥ };
 
     ghost has_room = { λ _. ⊤ };
 
     fn ask(&mut self) -> Leave
-        ensures { result ≡ Leave.Here }
+        ensures here { result ≡ Leave.Here }
+        ensures leaves { self.new.leaves ≡ counted_up self.old.leaves }
     {
+        self.leaves = self.leaves.saturating_add(1);
         Leave::Here
     }
 
@@ -71,6 +79,10 @@ impl<S: Spawner> ListedSpawner<S> {
 impl<S: Spawner> Spawner for ListedSpawner<S> {
     ghost refusals = { λ s. s.refusals + S.refusals s.inner };
 
+    ghost leaves = { λ s. S.leaves s.inner };
+
+    ghost kept = { λ s. S.kept s.inner };
+
     ghost has_threads = { λ s. S.has_threads s.inner };
 
     ghost has_room = { λ s. S.has_room s.inner };
@@ -79,6 +91,8 @@ impl<S: Spawner> Spawner for ListedSpawner<S> {
         ensures refused { result ≡ Leave.Refused → HasRisen (self.old.refusals + S.refusals self.old.inner) (self.new.refusals + S.refusals self.new.inner) }
         ensures given { result ≢ Leave.Refused → self.new.refusals + S.refusals self.new.inner ≡ self.old.refusals + S.refusals self.old.inner }
         ensures never_falls { self.old.refusals + S.refusals self.old.inner ≤ self.new.refusals + S.refusals self.new.inner }
+        ensures leave { result ≢ Leave.Refused → HasRisen (S.leaves self.old.inner) (S.leaves self.new.inner) }
+        ensures kept { S.kept self.new.inner ≡ S.kept self.old.inner }
         ensures threads { result ≡ Leave.InThread → S.has_threads self.new.inner }
         ensures room { result ≡ Leave.InThread → S.has_room self.new.inner }
 

@@ -1,5 +1,6 @@
 // Names that can't be foreseen.
 ghost use Rattle.std.specs.Prelude.{◌≡◌, ◌<◌, ◌≤◌, IfOk, true, false};
+ghost use Rattle.rand_chacha.specs.ChaCha.{of_seed};
 ghost use Rattle.server_ports.specs.Names.{IsNamePart, is_name_byte};
 
 use crate::names::Names;
@@ -25,7 +26,9 @@ pub struct RealNames {
 }
 
 impl RealNames {
-    pub fn new(alloc: Global, seed: [u8; 32]) -> RealNames {
+    pub fn new(alloc: Global, seed: [u8; 32]) -> RealNames
+        ensures { result.rng ≡ of_seed seed }
+    {
         RealNames {
             alloc,
             rng: ChaCha20Rng::from_seed(seed),

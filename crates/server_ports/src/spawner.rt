@@ -14,9 +14,14 @@ pub enum Leave {
     Refused,
 }
 
-/// Gives leave to start jobs, keeps the handles of their threads, and counts what it refused.
+/// Gives leave to start jobs, keeps the handles of their threads, and counts what it allowed and what it refused.
 pub trait Spawner {
     ghost refusals: { Self → ℕ };
+
+    // How often it gave leave, and how many handles it keeps.
+    ghost leaves: { Self → ℕ };
+
+    ghost kept: { Self → ℕ };
 
     // It may give leave for a thread.
     ghost has_threads: { Self → Type 0 };
@@ -28,16 +33,23 @@ pub trait Spawner {
         ensures refused { result ≡ Leave.Refused → HasRisen (refusals self.old) (refusals self.new) }
         ensures given { result ≢ Leave.Refused → refusals self.new ≡ refusals self.old }
         ensures never_falls { refusals self.old ≤ refusals self.new }
+        ensures leave { result ≢ Leave.Refused → HasRisen (leaves self.old) (leaves self.new) }
+        ensures kept { kept self.new ≡ kept self.old }
         ensures threads { result ≡ Leave.InThread → has_threads self.new }
         ensures room { result ≡ Leave.InThread → has_room self.new };
 
     /// Keeps the handle of a thread that was started, until it is joined.
     fn keep(&mut self, handle: JoinHandle<()>)
         requires { has_room self.old }
-        ensures { refusals self.new ≡ refusals self.old };
+        ensures refusals { refusals self.new ≡ refusals self.old }
+        ensures leaves { leaves self.new ≡ leaves self.old }
+        ensures kept { has_threads self.old → HasRisen (kept self.old) (kept self.new) }
+        ensures none_lost { kept self.old ≤ kept self.new };
 
     /// Counts that the system made no thread although there was leave for one.
     fn refuse(&mut self)
         ensures risen { has_threads self.old → HasRisen (refusals self.old) (refusals self.new) }
-        ensures never_falls { refusals self.old ≤ refusals self.new };
+        ensures never_falls { refusals self.old ≤ refusals self.new }
+        ensures leaves { leaves self.new ≡ leaves self.old }
+        ensures kept { kept self.new ≡ kept self.old };
 }

@@ -80,7 +80,7 @@ fn a_refused_job_is_dropped(rt: HostRuntime) -> Result<(), Fail> {
     let expected = [Started::Running, Started::Refused, Started::Running];
     assert_eq!(rt; started, expected);
     assert_eq!(rt; runs.load(Ordering::SeqCst), 2);
-    let started = start(&rt, &mut SteadySpawner, fourth);
+    let started = start(&rt, &mut SteadySpawner { leaves: 0 }, fourth);
     assert_eq!(rt; started, Started::Running);
     assert_eq!(rt; runs.load(Ordering::SeqCst), 3);
     Ok(())
