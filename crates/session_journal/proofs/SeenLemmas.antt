@@ -1,5 +1,5 @@
 -- What was seen of a session keeps the laws of its journal.
-use Rattle.std.proofs.Common.{◌≡◌, ◌↔◌, ℕ, false, List, [], ◌∷◌, ◌++◌, Option, Some, None, refl, sym, ◌∙◌, ap, ap₂, subst}
+use Rattle.std.proofs.Common.{◌≡◌, ◌↔◌, ℕ, false, List, [], ◌∷◌, ◌++◌, Option, Some, None, slice_get, refl, sym, ◌∙◌, ap, ap₂, subst}
 use Rattle.std.specs.Option.{option_map}
 use Rattle.bosh_types.specs.declared.ending.Ending.{Ending}
 use Rattle.bosh_types.specs.declared.kept.KeptAnswer.{KeptAnswer}
@@ -7,11 +7,11 @@ use Rattle.session_attrs.specs.declared.request.Request.{Request}
 use Rattle.session_core.specs.declared.replies.Arrived.TheVariants as arrivals
 use Rattle.session_core.specs.Facts.{Fact}
 use Rattle.session_core.specs.Journal as plain
-use Rattle.session_core.specs.Journal.{Journal, IsJournal, IsMade, none, more, IsAllowed, Arrive, ToArrive, state_of, reply_of, entered_by, after_entry}
+use Rattle.session_core.specs.Journal.{Journal, IsJournal, IsMade, none, more, IsAllowed, Arrive, TakeInward, ToArrive, ToTakeInward, state_of, reply_of, entered_by, after_entry}
 use Rattle.session_core.specs.Kept.{kept_of}
 use Rattle.session_core.specs.Machine.{Opening, opened, body_cost, bytes_for, is_full}
 use Rattle.session_core.specs.Points.{tested_at}
-use Rattle.session_core.specs.State.{PlainSession, is_over}
+use Rattle.session_core.specs.State.{PlainSession, inward, is_over}
 use Rattle.session_core.specs.Time.{time_applied}
 use Rattle.session_journal.specs.declared.entry.Entry.{Entry}
 use Rattle.session_journal.specs.Entries.{opening_in, entered_in, entry_in, all_of, entries_in, journal_in}
@@ -69,6 +69,11 @@ module _ (log : List Entry) (journal : Journal) (here : IsJournalOf log journal)
       replies.reply_is ∙ ap (λ j. reply_of j (Arrive request body now)) (one_journal log replies.journal journal (replies.is).told here.told)
       ∙ laws.repeats request body now answer on room kept
 
+  seen_next : (reply : plain.Reply) (made : Option Entry) → Replies log TakeInward reply made
+      → reply ≡ ToTakeInward (slice_get (inward (state_of journal)) (state_of journal).passed)
+  seen_next reply made replies =
+      replies.reply_is ∙ ap (λ j. reply_of j TakeInward) (one_journal log replies.journal journal (replies.is).told here.told) ∙ laws.takes
+
   seen_grows : (later : List Entry) (longer : Journal) → IsJournalOf (log ++ later) longer → Grows (state_of journal) (state_of longer)
   seen_grows later longer more_seen =
       let more = journal_later log later journal longer here.told more_seen.told in
@@ -97,6 +102,8 @@ module _ (log : List Entry) (journal : Journal) (here : IsJournalOf log journal)
   pub seen_keeps : SeenLaws log journal
   seen_keeps = record {
     longest_run = laws.run;
+    taken = laws.passed;
+    next_taken = seen_next;
     kept_again = seen_again;
     ends_by_rule = seen_ends;
     grows = seen_grows;

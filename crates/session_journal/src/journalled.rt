@@ -83,9 +83,9 @@ impl Journalled {
         Ok((journalled, text))
     }
 
-    /// Makes a call for the caller with this number, and enters it: each call but those after the ending, a tick at which
-    /// nothing is due and a look for an inward item where none is left. In the place of a call for which the journal had no
-    /// room its limit is entered. The only error is want of memory, and then all is as it was.
+    /// Makes a call for the caller with this number, and enters it, or its limit where the journal had no room for it. Only
+    /// these are not entered: arrivals, stanzas and closings after the ending, a tick at which nothing is due, and a look for an
+    /// inward item where none is left. The only error is want of memory, and then all is as it was.
     pub fn step(&mut self, caller: u32, call: Call) -> Result<Reply, AllocError>
         requires { IsAllowed (call_in call) }
         ensures step { IfOk result (λ reply. Steps self.old caller (call_in call) (reply_in reply) self.new) }
