@@ -1,8 +1,7 @@
 -- That what the code stores of a call is what the plain machine enters.
-use Rattle.std.proofs.Common.{◌≡◌, ℕ, Bool, true, false, List, Option, Some, None, is_some, if◌then◌else◌, refl, sym, ◌∙◌, ap, subst, inl, inr}
+use Rattle.std.proofs.Common.{◌≡◌, ℕ, Bool, true, false, Option, Some, None, is_some, if◌then◌else◌, refl, sym, ◌∙◌, ap, subst, inl, inr}
 use Rattle.bosh_types.specs.declared.ending.Ending.{Ending}
 use Rattle.bosh_types.specs.declared.ending.Ending.TheVariants.{Terminated, Stale, Above, WrongKey, UnknownStream, PauseTooLong, Overactive, Silent, Closed, JournalFull}
-use Rattle.bosh_types.specs.declared.inward.Inward.{Inward}
 use Rattle.session_core.specs.declared.replies.Collected.{Collected}
 use Rattle.session_core.specs.declared.replies.Collected.TheVariants as collections
 use Rattle.session_core.specs.Facts.{Fact}
@@ -13,7 +12,6 @@ use Rattle.session_core.specs.Points.{tested_at}
 use Rattle.session_core.specs.State.{PlainSession, is_over}
 use Rattle.session_core.specs.Tickets.{uses_up}
 use Rattle.session_journal.specs.declared.entry.Entered.{Entered}
-use Rattle.session_journal.specs.declared.entry.Entered.TheVariants as stored
 use Rattle.session_journal.specs.declared.entry.Limited.{Limited}
 use Rattle.session_journal.specs.Entries.{limited_in, entered_in}
 use Rattle.session_journal.specs.Stored.{Enters}

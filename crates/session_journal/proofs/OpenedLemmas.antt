@@ -1,9 +1,9 @@
 -- A session as it is opened, beside its first entry.
-use Rattle.std.proofs.Common.{◌≡◌, ℕ, List, [], ◌∷◌, Option, Some, None, refl, sym, ◌∙◌, ap, subst}
+use Rattle.std.proofs.Common.{◌≡◌, ℕ, List, [], ◌∷◌, Some, refl, sym, ◌∙◌, ap, subst}
 use Rattle.std.specs.Prelude.{option_and_then}
 use Rattle.std.specs.Option.{option_map}
 use Rattle.session_core.specs.declared.session.Session.{Session}
-use Rattle.session_core.specs.Journal.{Journal, IsOpening, IsMade, none}
+use Rattle.session_core.specs.Journal.{Journal, IsOpening, none}
 use Rattle.session_core.specs.Machine.{Opening, opened}
 use Rattle.session_core.specs.Opened.{opening_of}
 use Rattle.session_core.specs.StandsFor.{StandsFor}

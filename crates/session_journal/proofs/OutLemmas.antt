@@ -1,5 +1,5 @@
 -- How many tickets are out after a call.
-use Rattle.std.proofs.Common.{◌≡◌, ◌≤◌, ℕ, zero, suc, ◌+◌, ◌==◌, true, List, [], ◌∷◌, ◌++◌, Option, Some, None, map, slice_get, slice_set, refl, sym, ◌∙◌, ap, ap₂, arith}
+use Rattle.std.proofs.Common.{◌≡◌, ◌≤◌, ℕ, zero, suc, ◌+◌, ◌==◌, true, List, [], ◌∷◌, ◌++◌, Option, Some, map, slice_get, slice_set, refl, sym, ◌∙◌, ap, ap₂, arith}
 use Rattle.session_core.specs.declared.replies.Arrived.{Arrived}
 use Rattle.session_core.specs.declared.replies.Arrived.TheVariants as arrivals
 use Rattle.session_core.specs.declared.replies.Collected.{Collected}

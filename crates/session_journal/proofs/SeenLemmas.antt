@@ -9,15 +9,15 @@ use Rattle.session_core.specs.Facts.{Fact}
 use Rattle.session_core.specs.Journal as plain
 use Rattle.session_core.specs.Journal.{Journal, IsJournal, IsMade, none, more, IsAllowed, Arrive, TakeInward, ToArrive, ToTakeInward, state_of, reply_of, entered_by, after_entry}
 use Rattle.session_core.specs.Kept.{kept_of}
-use Rattle.session_core.specs.Machine.{Opening, opened, body_cost, bytes_for, is_full}
+use Rattle.session_core.specs.Machine.{opened, body_cost, bytes_for, is_full}
 use Rattle.session_core.specs.Points.{tested_at}
 use Rattle.session_core.specs.State.{PlainSession, inward, is_over}
 use Rattle.session_core.specs.Time.{time_applied}
 use Rattle.session_journal.specs.declared.entry.Entry.{Entry}
-use Rattle.session_journal.specs.Entries.{opening_in, entered_in, entry_in, all_of, entries_in, journal_in}
+use Rattle.session_journal.specs.Entries.{opening_in, entered_in, entry_in, entries_in, journal_in}
 use Rattle.session_journal.specs.SeenLaws.{SeenLaws}
 use Rattle.session_journal.specs.Stored.{IsJournalOf, Replies}
-use Rattle.session_journal.proofs.JournalLemmas.{all_there, consed, entries_append, journal_append, one_journal, opened_with}
+use Rattle.session_journal.proofs.JournalLemmas.{all_there, consed, journal_append, one_journal, opened_with}
 use Rattle.session_laws.specs.Growing.{Grows, with_later}
 use Rattle.session_laws.specs.Laws.{KeptLaws}
 use Rattle.session_laws.proofs.Grows.{made_later}

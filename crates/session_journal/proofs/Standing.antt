@@ -1,15 +1,14 @@
 -- That a session beside its entries goes on to stand for their replay.
-use Rattle.std.proofs.Common.{◌≡◌, ℕ, List, [], ◌∷◌, ◌++◌, Option, Some, None, refl, sym, ◌∙◌, ap, subst}
+use Rattle.std.proofs.Common.{◌≡◌, ℕ, List, [], ◌∷◌, Option, Some, None, sym, ◌∙◌, ap, subst}
 use Rattle.std.specs.Option.{option_map}
 use Rattle.parked_gate.specs.Histories.{Appends}
 use Rattle.session_core.specs.declared.session.Session.{Session}
 use Rattle.session_core.specs.Journal as plain
-use Rattle.session_core.specs.Journal.{Journal, IsAllowed, state_of, reply_of, step, entered_by, after_entry}
+use Rattle.session_core.specs.Journal.{Journal, IsAllowed, state_of, reply_of, step, entered_by}
 use Rattle.session_core.specs.StandsFor.{StandsFor}
 use Rattle.session_core.specs.State.{PlainSession}
 use Rattle.session_journal.specs.declared.entry.Entry.{Entry}
-use Rattle.session_journal.specs.Entries.{entered_in}
-use Rattle.session_journal.specs.Stored.{IsJournalOf, Enters, Replies, Steps, tickets_out}
+use Rattle.session_journal.specs.Stored.{IsJournalOf, Enters, Steps, tickets_out}
 use Rattle.session_journal.specs.Storing.{Stands}
 use Rattle.session_journal.proofs.JournalLemmas.{journal_append, one_entry}
 use Rattle.session_laws.specs.Growing.{with_later}

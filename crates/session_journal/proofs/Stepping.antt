@@ -1,5 +1,5 @@
 -- What each call makes of a session beside its entries, and what it is replied.
-use Rattle.std.proofs.Common.{◌≡◌, ℕ, ◌+◌, ◌-◌, Bool, true, false, not, List, Option, Some, None, is_some, if◌then◌else◌, refl, sym, ◌∙◌, ap, ap₂, subst, arith, inl, inr}
+use Rattle.std.proofs.Common.{◌≡◌, ℕ, ◌+◌, ◌-◌, true, false, not, List, Option, Some, None, is_some, if◌then◌else◌, refl, sym, ◌∙◌, ap, ap₂, subst, arith, inl, inr}
 use Rattle.std.specs.Option.{option_map}
 use Rattle.bosh_types.specs.declared.ending.Closing.{Closing}
 use Rattle.bosh_types.specs.declared.ending.Ending.{Ending}
@@ -12,7 +12,7 @@ use Rattle.session_core.specs.declared.replies.Taken.{Taken}
 use Rattle.session_core.specs.declared.replies.Ticked.{Ticked}
 use Rattle.session_core.specs.declared.session.Session.{Session}
 use Rattle.session_core.specs.Journal as plain
-use Rattle.session_core.specs.Journal.{Journal, IsAllowed, state_of, reply_of, step, cost_of, entered_by}
+use Rattle.session_core.specs.Journal.{IsAllowed, state_of, reply_of, step, cost_of, entered_by}
 use Rattle.session_core.specs.Machine.{arrive, back, back_closed, collect, is_full, take_inward, tick}
 use Rattle.session_core.specs.StandsFor.{StandsFor}
 use Rattle.session_core.specs.State.{PlainSession, is_over}

@@ -3,9 +3,7 @@ use Rattle.std.specs.Prelude.{ℕ, List, [], ◌∷◌, Option, Some, None, Resu
 use Rattle.std.specs.Option.{option_map}
 use Rattle.bosh_types.specs.declared.terms.Terms.{Terms}
 use Rattle.body_cutter.specs.declared.parts.Cut.{Cut}
-use Rattle.body_cutter.specs.declared.parts.CutRefusal.{CutRefusal}
 use Rattle.body_cutter.specs.Cutting.{body_cut_of}
-use Rattle.session_attrs.specs.declared.refusal.AttrRefusal.{AttrRefusal}
 use Rattle.session_attrs.specs.declared.request.Kind.{Kind}
 use Rattle.session_attrs.specs.declared.request.Kind.TheVariants as kinds
 use Rattle.session_attrs.specs.declared.request.Request.{Request}

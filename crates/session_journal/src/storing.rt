@@ -1,5 +1,5 @@
 // The steps with which entries are stored.
-ghost use Rattle.std.specs.Prelude.{◌≡◌, ◌+◌, ◌<◌, ◌≤◌, ◌^◌, OnOk, OnErr, vec_len, vec_capacity};
+ghost use Rattle.std.specs.Prelude.{◌≡◌, ◌+◌, ◌<◌, ◌≤◌, ◌^◌, OnOk, vec_len, vec_capacity};
 ghost use Rattle.parked_gate.specs.Histories.{Appends};
 ghost use Rattle.session_core.specs.Tickets.{uses_up};
 ghost use Rattle.session_journal.specs.Storing.{by_caller, handed_out, cost_at_end, is_quiet, stored_as};

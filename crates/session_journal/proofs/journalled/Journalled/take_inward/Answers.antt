@@ -1,4 +1,4 @@
-use Rattle.std.proofs.Common.{arith, subst, sym, ◌∙◌, not, ap, Some}
+use Rattle.std.proofs.Common.{arith, subst, ◌∙◌, not, ap, Some}
 use Rattle.parked_gate.specs.Histories.{Appends}
 use Rattle.session_core.specs.Journal as plain
 use Rattle.session_journal.specs.declared.entry.Entered.TheVariants as stored
