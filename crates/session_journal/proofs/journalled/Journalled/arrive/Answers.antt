@@ -1,0 +1,28 @@
+use Rattle.std.proofs.Common.{arith, subst}
+use Rattle.parked_gate.specs.Histories.{Appends}
+use Rattle.session_core.specs.Journal as plain
+use Rattle.session_core.specs.Journal.{state_of}
+use Rattle.session_core.specs.Machine.{arrive}
+use Rattle.session_core.specs.Steps.{Does}
+use Rattle.session_journal.proofs.OutLemmas.{handed_few}
+use Rattle.session_journal.specs.Stored.{Steps}
+use Rattle.session_journal.specs.Storing.{by_caller}
+use Rattle.session_journal.proofs.Stepping.{arrived}
+use Rattle.session_journal.proofs.journalled.Journalled.arrive.Goals as goal
+
+pub invariant_of-self-2 : goal.invariant_of-self-2
+invariant_of-self-2 c =
+    let old = (c.self.invariant).0 in
+    let stands = old.stands in
+    let does = subst (λ bytes. Does c.arrive.new.self c.in_ok-reply.reply (arrive (state_of old.journal) c.args.request.now bytes c.args.now)) c.as_slice.ensures (c.in_ok-reply.ensures.step (state_of old.journal) stands) in
+    let adds = subst (λ l. Appends (λ e. e.caller) c.args.caller l (by_caller c.args.caller c.stored_as-entered.result) c.store.new.entries.items) c.make_room.ensures.items c.store.ensures.items in
+    ((arrived old c.arrive.new.self c.args.caller c.store.new.entries.items c.args.request.now c.args.body c.args.now c.requires c.in_ok-reply.reply does c.ending-before.result c.ending-after.result c.stored_as-entered.result c.handed_out.result (c.ending-before.ensures _ stands) (c.ending-after.ensures _ does.after) c.stored_as-entered.ensures c.handed_out.ensures adds).0, omega (arith, c.in_ok-make_room.ensures.ok, c.handed_out.ensures, handed_few c.in_ok-reply.reply))
+
+pub returns-clause-step : goal.returns-clause-step
+returns-clause-step c =
+    let old = (c.self.invariant).0 in
+    let stands = old.stands in
+    let does = subst (λ bytes. Does c.arrive.new.self c.in_ok-reply.reply (arrive (state_of old.journal) c.args.request.now bytes c.args.now)) c.as_slice.ensures (c.in_ok-reply.ensures.step (state_of old.journal) stands) in
+    let adds = subst (λ l. Appends (λ e. e.caller) c.args.caller l (by_caller c.args.caller c.stored_as-entered.result) c.store.new.entries.items) c.make_room.ensures.items c.store.ensures.items in
+    subst (λ l. Steps l c.args.caller (plain.Arrive c.args.request.now c.args.body c.args.now) (plain.ToArrive c.in_ok-reply.reply) c.store.new.entries.items) c.self.view_is
+    (arrived old c.arrive.new.self c.args.caller c.store.new.entries.items c.args.request.now c.args.body c.args.now c.requires c.in_ok-reply.reply does c.ending-before.result c.ending-after.result c.stored_as-entered.result c.handed_out.result (c.ending-before.ensures _ stands) (c.ending-after.ensures _ does.after) c.stored_as-entered.ensures c.handed_out.ensures adds).1

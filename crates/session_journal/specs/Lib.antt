@@ -1,0 +1,6 @@
+pub mod Entries
+pub mod Calls
+pub mod Stored
+pub mod Storing
+pub mod Seen
+pub mod SeenLaws
