@@ -1,0 +1,69 @@
+// What stands behind a manager.
+use bosh_types::{Closing, Inward, SharedText, Wire};
+
+/// What became of a call that opens a wire, passes an item or closes a wire.
+#[derive(Clone, Copy, Debug, PartialEq, Eq)]
+pub enum Passed {
+    Done,
+    /// The back end failed. Nothing was done.
+    Failed,
+    /// There was no memory for it. Nothing was done.
+    NoMemory,
+}
+
+/// What the server gave.
+#[derive(Debug, Drop)]
+pub enum Given {
+    Stanza(SharedText),
+    Closed(Closing),
+}
+
+/// What a poll found.
+#[derive(Debug, Drop)]
+pub enum Polled {
+    /// A stanza of the server for this wire.
+    Out(Wire, SharedText),
+    /// The server closed this wire.
+    Closed(Wire, Closing),
+    /// There is nothing to be had now.
+    Nothing,
+    /// The back end failed. Nothing was given.
+    Failed,
+    /// There was no memory for it. Nothing was given.
+    NoMemory,
+}
+
+/// Where the items of sessions go, each on its wire, and where the stanzas for them come from. What it was passed and what
+/// its polls gave are lists that only grow, in the order of the calls, where it tells them.
+pub trait Backend: Drop {
+    ghost use Rattle.std.specs.Prelude.{Option};
+    ghost use Rattle.xmpp_backend.specs.Counts.{Counts, CountsPassed, CountsPolled};
+    ghost use Rattle.xmpp_backend.specs.Told.{Told, Opens, Passes, Polls, Closes, GivesStanza};
+
+    // The wires that were opened and closed, what it was passed and what its polls gave, where it tells them.
+    ghost told: { Self → Option Told };
+
+    // How often it failed, and how often a poll found nothing and gave something.
+    ghost counts: { Self → Counts };
+
+    /// Opens a wire to the host of this name. What is passed on a wire that isn't open may be let go.
+    fn open(&mut self, wire: Wire, to: &[u8]) -> Passed
+        ensures lists { Opens (told self.old) (told self.new) wire result }
+        ensures counts { CountsPassed (counts self.old) (counts self.new) result };
+
+    /// Passes an item on a wire, whose number its own stream has no part in.
+    fn pass(&mut self, wire: Wire, item: &Inward) -> Passed
+        ensures lists { Passes (told self.old) (told self.new) wire item.now result }
+        ensures counts { CountsPassed (counts self.old) (counts self.new) result };
+
+    /// The next thing that the server gave, on whichever wire, if there is one.
+    fn poll(&mut self) -> Polled
+        ensures lists { Polls (told self.old) (told self.new) result }
+        ensures stanza { GivesStanza result }
+        ensures counts { CountsPolled (counts self.old) (counts self.new) result };
+
+    /// Closes a wire.
+    fn close(&mut self, wire: Wire) -> Passed
+        ensures lists { Closes (told self.old) (told self.new) wire result }
+        ensures counts { CountsPassed (counts self.old) (counts self.new) result };
+}

@@ -1,0 +1,16 @@
+// The back ends that stand behind a manager: where the stanzas of its sessions go, and where the server's come from. A trait
+// with its written meaning, and three kinds in memory: an echo, a room, and one that gives by a list and fails at listed
+// calls.
+#![tactic(auto)]
+
+mod backend;
+mod echo;
+mod ledger;
+mod lists;
+mod owed;
+mod stanza;
+mod tally;
+mod wires;
+
+pub use backend::{Backend, Given, Passed, Polled};
+pub use echo::Echo;
