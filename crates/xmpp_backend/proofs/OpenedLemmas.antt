@@ -1,9 +1,11 @@
 -- The open wires, and those on which something is owed, were opened.
-use Rattle.std.proofs.Common.{◌≡◌, ℕ, ◌==◌, Bool, true, false, not, List, [], ◌∷◌, ◌++◌, filter, refl, sym, subst, arith, if◌then◌else◌}
+use Rattle.std.proofs.Common.{◌≡◌, ℕ, ◌==◌, Bool, true, false, not, List, [], ◌∷◌, ◌++◌, filter, refl, sym, subst, arith, map, get_or, if◌then◌else◌}
 use Rattle.std.specs.Prelude.{Contains, All, IsTrue}
-use Rattle.std.proofs.lemmas.List.Elements.{All-filter, All-weaker, All-push, All-tail, All-contains, All-append, Contains-append_left, Contains-append_right}
+use Rattle.std.proofs.lemmas.List.Elements.{All-filter, All-weaker, All-push, All-tail, All-contains, All-append, Contains-append_left, All-map, Contains-append_right}
 use Rattle.std.proofs.lemmas.Map.Views.{Contains-from_any}
-use borrow.Author.Tests.{eqb-true}
+use Rattle.std.proofs.lemmas.Bool.{eqb-true}
+use Rattle.std.proofs.lemmas.Bool.Decides.{nat_tests}
+use Rattle.std.proofs.lemmas.List.Folds.{list_any_at}
 use Rattle.xmpp_backend.specs.Owing.{OwedText, AllWereOpened, has_wire, with_wire}
 
 -- the last of a list is in it
@@ -57,3 +59,17 @@ opened-for opened live owed more are were =
       wires = were.wires;
       owed = All-append P owed more were.owed (All-weaker (λ (stanza : OwedText). IsTrue (has_wire stanza.0 live)) P (λ stanza. opened-wire opened live stanza.0 were.wires) more are);
     }
+
+same-wire : (wire : ℕ) → (wire == wire) ≡ true
+same-wire wire = grind (arith, nat_tests)
+
+-- what is owed on all the open wires is owed on open wires
+pub on_all-live : (live : List ℕ) (text : List ℕ) → All (λ (stanza : OwedText). IsTrue (has_wire stanza.0 live)) (map (λ wire. (wire, text)) live)
+on_all-live live text =
+    All-map (λ (stanza : OwedText). IsTrue (has_wire stanza.0 live)) (λ wire. (wire, text)) live
+    (λ k d within. list_any_at (λ other. other == get_or live k d) live k d within (same-wire (get_or live k d)))
+
+-- what is owed in turn on an open wire is owed on open wires
+pub in_turn-live : (live : List ℕ) (wire : ℕ) (stanzas : List (List ℕ)) → IsTrue (has_wire wire live) →
+    All (λ (stanza : OwedText). IsTrue (has_wire stanza.0 live)) (map (λ stanza. (wire, stanza)) stanzas)
+in_turn-live live wire stanzas is = All-map (λ (stanza : OwedText). IsTrue (has_wire stanza.0 live)) (λ stanza. (wire, stanza)) stanzas (λ k d within. is)

@@ -34,5 +34,5 @@ abbrev pub echo_on : Owing → ℕ → Inward → Option (List ℕ)
 echo_on owing wire item = if is_open owing wire then echo_of item else None
 
 -- for an item that is passed on an open wire a room owes its stanza on each open wire, and for another one nothing
-abbrev pub shared_on : Owing → ℕ → Inward → Option (List ℕ)
-shared_on owing wire item = if is_open owing wire then stanza_of item else None
+abbrev pub shared_on : Owing → ℕ → Inward → List OwedText
+shared_on owing wire item = if is_open owing wire then on_all owing.wires (stanza_of item) else []

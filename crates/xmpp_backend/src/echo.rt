@@ -93,7 +93,8 @@ impl Backend for Echo {
     }
 
     fn close(&mut self, wire: Wire) -> Passed
-        ensures { IsDoneOrSame self.old self.new (closed wire self.old) result }
+        ensures done { result ≡ Passed.Done }
+        ensures closed { self.new ≡ closed wire self.old }
     {
         self.ledger.close(wire);
         Passed::Done

@@ -4,13 +4,19 @@
 #![tactic(auto)]
 
 mod backend;
+mod calls;
 mod echo;
 mod ledger;
 mod lists;
 mod owed;
+mod room;
+mod scripted;
 mod stanza;
 mod tally;
 mod wires;
 
 pub use backend::{Backend, Given, Passed, Polled};
+pub use calls::{BackendCall, Calls, Failing};
 pub use echo::Echo;
+pub use room::Room;
+pub use scripted::Scripted;

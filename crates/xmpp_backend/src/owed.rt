@@ -1,7 +1,10 @@
-ghost use Rattle.std.specs.Prelude.{◌≡◌, IsTrue};
+ghost use Rattle.std.specs.Prelude.{◌≡◌, All, IfOk, IsTrue, map};
 ghost use Rattle.body_cutter.specs.Cutting.{is_stanza};
+ghost use Rattle.xmpp_backend.specs.Owing.{has_wire};
 
-use bosh_types::{SharedText, Wire};
+use bosh_types::{CopyIn, SharedText, Text, Wire};
+use std::alloc::{AllocError, Global};
+use std::collections::VecDeque;
 use std::marker::Model;
 
 // A stanza that is owed on a wire.
@@ -46,4 +49,38 @@ impl Owed {
         let Owed { wire, stanza } = self;
         (wire, stanza)
     }
+}
+
+// This stanza on each of these wires, in order. No byte is copied.
+pub(crate) fn owed_on_all(
+    alloc: Global,
+    wires: &[Wire],
+    stanza: &SharedText,
+) -> Result<VecDeque<Owed>, AllocError>
+    requires { IsTrue (is_stanza stanza.now) }
+    ensures owed { IfOk result (λ owed. owed.items ≡ map (λ wire. (wire, stanza.now)) wires.now) }
+    ensures among { IfOk result (λ owed. All (λ stanza. IsTrue (has_wire stanza.0 wires.now)) owed.items) }
+{
+    let mut owed = VecDeque::with_capacity(alloc, wires.len())?;
+    for wire in wires {
+        owed.push_back(Owed::new(*wire, stanza.again()?))?;
+    }
+    Ok(owed)
+}
+
+// Each of these stanzas on this wire, in order. Each is copied once.
+pub(crate) fn owed_in_turn(
+    alloc: Global,
+    wire: Wire,
+    stanzas: &[Text],
+) -> Result<VecDeque<Owed>, AllocError>
+    requires { All (λ stanza. IsTrue (is_stanza stanza)) stanzas.now }
+    ensures { IfOk result (λ owed. owed.items ≡ map (λ stanza. (wire, stanza)) stanzas.now) }
+{
+    let mut owed = VecDeque::with_capacity(alloc, stanzas.len())?;
+    for stanza in stanzas {
+        let stanza = SharedText::new(alloc, stanza.copy_in(alloc)?)?;
+        owed.push_back(Owed::new(wire, stanza))?;
+    }
+    Ok(owed)
 }

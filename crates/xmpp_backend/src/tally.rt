@@ -20,7 +20,7 @@ impl Model for Tally {
 }
 
 // One more, where the type has it.
-fn counted_on(count: u64) -> u64
+pub(crate) fn counted_on(count: u64) -> u64
     ensures { result ≡ counted_on count }
 {
     if count < u64::MAX { count + 1 } else { count }
