@@ -1,5 +1,7 @@
 -- A back end that gives by a list, and fails at listed calls.
-use Rattle.std.specs.Prelude.{◌≡◌, ℕ, List, [], ◌∷◌, Contains, drop, map, if◌then◌else◌}
+use Rattle.std.specs.Prelude.{◌≡◌, ℕ, Bool, List, [], ◌∷◌, Contains, drop, map, if◌then◌else◌}
+use Rattle.std.specs.List.{list_all}
+use Rattle.body_cutter.specs.Cutting.{is_stanza}
 use Rattle.xmpp_backend.specs.Counts.{counted_on}
 use Rattle.xmpp_backend.specs.Owing.{Owing, OwedText, is_open, failed, PaysFirst}
 use Rattle.xmpp_backend.specs.declared.calls.BackendCall.{BackendCall}
@@ -42,6 +44,13 @@ called call script = record script { calls = with_call call script.calls }
 -- the next call of a kind is one of those that are to fail
 abbrev pub IsNextToFail : BackendCall → Script → Type 0
 IsNextToFail call script = Contains script.failing (record { call = call; number = number_of call (with_call call script.calls) })
+
+-- each text of each list is a stanza
+abbrev pub are_stanzas : List (List ℕ) → Bool
+are_stanzas stanzas = list_all is_stanza stanzas
+
+abbrev pub are_answers : List (List (List ℕ)) → Bool
+are_answers answers = list_all are_stanzas answers
 
 -- the stanzas for the next item
 abbrev pub next_answer : List (List (List ℕ)) → List (List ℕ)

@@ -13,6 +13,8 @@ mod room;
 mod scripted;
 mod stanza;
 mod tally;
+#[cfg(test)]
+mod tests;
 mod wires;
 
 pub use backend::{Backend, Given, Passed, Polled};
@@ -20,3 +22,4 @@ pub use calls::{BackendCall, Calls, Failing};
 pub use echo::Echo;
 pub use room::Room;
 pub use scripted::Scripted;
+pub use stanza::are_answers;

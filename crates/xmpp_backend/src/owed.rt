@@ -1,6 +1,7 @@
 ghost use Rattle.std.specs.Prelude.{◌≡◌, All, IfOk, IsTrue, map};
 ghost use Rattle.body_cutter.specs.Cutting.{is_stanza};
 ghost use Rattle.xmpp_backend.specs.Owing.{has_wire};
+ghost use Rattle.xmpp_backend.specs.Script.{are_stanzas};
 
 use bosh_types::{CopyIn, SharedText, Text, Wire};
 use std::alloc::{AllocError, Global};
@@ -74,7 +75,7 @@ pub(crate) fn owed_in_turn(
     wire: Wire,
     stanzas: &[Text],
 ) -> Result<VecDeque<Owed>, AllocError>
-    requires { All (λ stanza. IsTrue (is_stanza stanza)) stanzas.now }
+    requires { IsTrue (are_stanzas stanzas.now) }
     ensures { IfOk result (λ owed. owed.items ≡ map (λ stanza. (wire, stanza)) stanzas.now) }
 {
     let mut owed = VecDeque::with_capacity(alloc, stanzas.len())?;

@@ -1,6 +1,5 @@
 // A back end that gives by a list.
 ghost use Rattle.std.specs.Prelude.{◌≡◌, ◌≢◌, ◌↔◌, Some, All, IfOk, IsTrue, drop};
-ghost use Rattle.body_cutter.specs.Cutting.{is_stanza};
 
 use crate::backend::{Backend, Passed, Polled};
 use crate::calls::{BackendCall, Calls, Failing};
@@ -23,24 +22,24 @@ pub struct Scripted {
 }
 
 impl Model for Scripted {
-    ghost use Rattle.std.specs.Prelude.{All, IsTrue};
-    ghost use Rattle.body_cutter.specs.Cutting.{is_stanza};
-    ghost use Rattle.xmpp_backend.specs.Script.{Script};
+    ghost use Rattle.std.specs.Prelude.{IsTrue};
+    ghost use Rattle.xmpp_backend.specs.Script.{Script, are_answers};
 
     ghost Value = { Script };
 
     ghost view = { λ s. record { owing = s.ledger; answers = s.answers.items; failing = s.failing.items; calls = s.calls } };
 
-    ghost invariant = { λ s. All (λ stanzas. All (λ stanza. IsTrue (is_stanza stanza)) stanzas) s.answers.items };
+    ghost invariant = { λ s. IsTrue (are_answers s.answers.items) };
 }
 
 impl Scripted {
     ghost use Rattle.xmpp_backend.specs.Owing.{nothing_owed, is_open};
-    ghost use Rattle.xmpp_backend.specs.Script.{no_calls, called, answer_on, IsNextToFail};
+    ghost use Rattle.xmpp_backend.specs.Script.{no_calls, called, answer_on, are_answers, IsNextToFail};
 
-    /// No wire is open, nothing is owed and no call was made. It takes no memory.
+    /// No wire is open, nothing is owed and no call was made. Each text of the lists is a stanza, which `are_answers` tests.
+    /// It takes no memory.
     pub fn new(alloc: Global, answers: Vec<Stanzas>, failing: Vec<Failing>) -> Self
-        requires { All (λ stanzas. All (λ stanza. IsTrue (is_stanza stanza)) stanzas) answers.items }
+        requires { IsTrue (are_answers answers.items) }
         ensures { result ≡ record { owing = nothing_owed; answers = answers.items; failing = failing.items; calls = no_calls } }
     {
         Scripted {

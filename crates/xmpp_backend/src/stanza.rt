@@ -2,9 +2,10 @@
 ghost use Rattle.std.specs.Prelude.{◌≡◌, Option, IfOk, IfSome, IsTrue};
 ghost use Rattle.body_cutter.specs.Cutting.{is_stanza};
 ghost use Rattle.xmpp_backend.specs.Kinds.{features, stanza_of, echo_of};
+ghost use Rattle.xmpp_backend.specs.Script.{are_stanzas, are_answers};
 
 use body_cutter::{CutError, read_stanza};
-use bosh_types::{Inward, SharedText, Text};
+use bosh_types::{Inward, SharedText, Stanzas, Text};
 use std::alloc::{AllocError, Global};
 
 // Whether the text is a stanza by itself.
@@ -53,4 +54,28 @@ pub(crate) fn echo_of(alloc: Global, item: &Inward) -> Result<Option<SharedText>
         Inward::Item(_, _) => stanza_in(alloc, item),
         Inward::Restart(_) => Ok(Some(features(alloc)?)),
     }
+}
+
+// Whether each of the texts is a stanza.
+fn are_stanzas(alloc: Global, texts: &[Text]) -> Result<bool, AllocError>
+    ensures { IfOk result (λ yes. yes ≡ are_stanzas texts.now) }
+{
+    for text in texts {
+        if !is_stanza(alloc, text.as_slice())? {
+            return Ok(false);
+        }
+    }
+    Ok(true)
+}
+
+/// Whether each text of each list is a stanza by itself.
+pub fn are_answers(alloc: Global, answers: &[Stanzas]) -> Result<bool, AllocError>
+    ensures { IfOk result (λ yes. yes ≡ are_answers answers.now) }
+{
+    for stanzas in answers {
+        if !are_stanzas(alloc, stanzas.as_slice())? {
+            return Ok(false);
+        }
+    }
+    Ok(true)
 }
