@@ -1,5 +1,5 @@
 -- The open wires, and those on which something is owed, were opened.
-use Rattle.std.proofs.Common.{◌≡◌, ℕ, ◌==◌, Bool, true, false, not, List, [], ◌∷◌, ◌++◌, filter, refl, sym, subst, arith, map, get_or, if◌then◌else◌}
+use Rattle.std.proofs.Common.{◌≡◌, ℕ, ◌==◌, true, false, not, List, [], ◌∷◌, ◌++◌, filter, refl, sym, subst, arith, map, get_or, if◌then◌else◌}
 use Rattle.std.specs.Prelude.{Contains, All, IsTrue}
 use Rattle.std.proofs.lemmas.List.Elements.{All-filter, All-weaker, All-push, All-tail, All-contains, All-append, Contains-append_left, All-map, Contains-append_right}
 use Rattle.std.proofs.lemmas.Map.Views.{Contains-from_any}

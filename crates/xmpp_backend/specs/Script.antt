@@ -1,5 +1,5 @@
 -- A back end that gives by a list, and fails at listed calls.
-use Rattle.std.specs.Prelude.{◌≡◌, ℕ, Bool, List, [], ◌∷◌, Contains, drop, map, if◌then◌else◌}
+use Rattle.std.specs.Prelude.{◌≡◌, ℕ, Bool, List, [], ◌∷◌, Contains, map, if◌then◌else◌}
 use Rattle.std.specs.List.{list_all}
 use Rattle.body_cutter.specs.Cutting.{is_stanza}
 use Rattle.xmpp_backend.specs.Counts.{counted_on}

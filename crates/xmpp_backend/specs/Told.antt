@@ -1,7 +1,6 @@
 -- What a back end tells: what it was passed and what its polls gave.
 use Rattle.std.specs.Prelude.{◌≡◌, ℕ, List, [], ◌∷◌, ◌++◌, ◌==◌, Option, Some, None, Contains, IsTrue, map, filter}
 use Rattle.bosh_types.specs.declared.inward.Inward.{Inward}
-use Rattle.bosh_types.specs.declared.ending.Closing.{Closing}
 use Rattle.body_cutter.specs.Cutting.{is_stanza}
 use Rattle.xmpp_backend.specs.declared.backend.Given.{Given}
 use Rattle.xmpp_backend.specs.declared.backend.Given.TheVariants as given

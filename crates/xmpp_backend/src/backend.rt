@@ -34,7 +34,8 @@ pub enum Polled {
 }
 
 /// Where the items of sessions go, each on its wire, and where the stanzas for them come from. What it was passed and what
-/// its polls gave are lists that only grow, in the order of the calls, where it tells them.
+/// its polls gave are lists that only grow, in the order of the calls, where it tells them: a real back end may tell nothing.
+/// `Failed` comes only where its count of faults rose, and no other answer moves that count.
 pub trait Backend: Drop {
     ghost use Rattle.std.specs.Prelude.{Option};
     ghost use Rattle.xmpp_backend.specs.Counts.{Counts, CountsPassed, CountsPolled};
@@ -46,12 +47,13 @@ pub trait Backend: Drop {
     // How often it failed, and how often a poll found nothing and gave something.
     ghost counts: { Self → Counts };
 
-    /// Opens a wire to the host of this name. What is passed on a wire that isn't open may be let go.
+    /// Opens a wire to the host of this name. What is passed on a wire that isn't open is told like the rest, and nothing need
+    /// be given for it.
     fn open(&mut self, wire: Wire, to: &[u8]) -> Passed
         ensures lists { Opens (told self.old) (told self.new) wire result }
         ensures counts { CountsPassed (counts self.old) (counts self.new) result };
 
-    /// Passes an item on a wire, whose number its own stream has no part in.
+    /// Passes an item on a wire. The number of the stream within the item is not looked at.
     fn pass(&mut self, wire: Wire, item: &Inward) -> Passed
         ensures lists { Passes (told self.old) (told self.new) wire item.now result }
         ensures counts { CountsPassed (counts self.old) (counts self.new) result };
@@ -62,7 +64,7 @@ pub trait Backend: Drop {
         ensures stanza { GivesStanza result }
         ensures counts { CountsPolled (counts self.old) (counts self.new) result };
 
-    /// Closes a wire.
+    /// Closes a wire. What was to be given on it may be let go.
     fn close(&mut self, wire: Wire) -> Passed
         ensures lists { Closes (told self.old) (told self.new) wire result }
         ensures counts { CountsPassed (counts self.old) (counts self.new) result };

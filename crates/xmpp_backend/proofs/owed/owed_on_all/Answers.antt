@@ -1,4 +1,4 @@
-use Rattle.std.proofs.Common.{◌≡◌, ℕ, List, map, ap, ◌∙◌, arith}
+use Rattle.std.proofs.Common.{◌≡◌, ℕ, map, arith}
 use Rattle.std.proofs.lemmas.Grind.{common_steps}
 use Rattle.xmpp_backend.specs.Owing.{OwedText}
 use Rattle.xmpp_backend.proofs.OpenedLemmas.{on_all-live}

@@ -1,4 +1,4 @@
-use Rattle.std.proofs.Common.{rules, ℕ, ◌≡◌, ◌==◌, not, filter, ap}
+use Rattle.std.proofs.Common.{rules, ◌≡◌, ◌==◌, not, filter, ap}
 use Rattle.std.proofs.lemmas.Fn.{filter_same}
 use Rattle.xmpp_backend.specs.Owing.{OwedText}
 use Rattle.xmpp_backend.proofs.OpenedLemmas.{opened-less}

@@ -1,4 +1,4 @@
-use Rattle.std.proofs.Common.{◌≡◌, IsTrue, All, [], ◌∷◌, ap, sym, subst}
+use Rattle.std.proofs.Common.{IsTrue, All, [], ◌∷◌, ap, sym, subst}
 use Rattle.std.proofs.lemmas.List.Elements.{All-push, All-nil}
 use Rattle.xmpp_backend.specs.Owing.{Owing, OwedText, has_wire}
 use Rattle.xmpp_backend.proofs.OpenedLemmas.{opened-for}

@@ -1,4 +1,4 @@
-use Rattle.std.proofs.Common.{List, IsTrue, All, rules, sym, subst, map}
+use Rattle.std.proofs.Common.{List, IsTrue, All, rules, sym, subst}
 use Rattle.std.proofs.lemmas.Result.{IfOk-weaker}
 use Rattle.xmpp_backend.specs.Owing.{OwedText, has_wire}
 use Rattle.xmpp_backend.proofs.OpenedLemmas.{in_turn-live}
