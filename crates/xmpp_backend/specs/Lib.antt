@@ -1,0 +1,5 @@
+pub mod Counts
+pub mod Told
+pub mod Owing
+pub mod Kinds
+pub mod Script

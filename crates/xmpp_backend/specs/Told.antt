@@ -1,0 +1,79 @@
+-- What a back end tells: what it was passed and what its polls gave.
+use Rattle.std.specs.Prelude.{◌≡◌, ℕ, List, [], ◌∷◌, ◌++◌, ◌==◌, Option, Some, None, Contains, IsTrue, map, filter}
+use Rattle.bosh_types.specs.declared.inward.Inward.{Inward}
+use Rattle.body_cutter.specs.Cutting.{is_stanza}
+use Rattle.xmpp_backend.specs.declared.backend.Given.{Given}
+use Rattle.xmpp_backend.specs.declared.backend.Given.TheVariants as given
+use Rattle.xmpp_backend.specs.declared.backend.Passed.{Passed}
+use Rattle.xmpp_backend.specs.declared.backend.Passed.TheVariants as passed
+use Rattle.xmpp_backend.specs.declared.backend.Polled.{Polled}
+use Rattle.xmpp_backend.specs.declared.backend.Polled.TheVariants as polled
+
+-- the wires for which `open` answered Done, the items for which `pass` did, what polls gave, closings among it, and the wires
+-- for which `close` answered Done; each in the order of the calls
+pub record Told : Type 0 where
+  pub opened : List ℕ
+  pub passed : List (ℕ × Inward)
+  pub given : List (ℕ × Given)
+  pub closed : List ℕ
+
+-- what was passed or given on one wire
+abbrev pub on_wire : {A : Type 0} → ℕ → List (ℕ × A) → List A
+on_wire wire entries = map (λ entry. entry.1) (filter (λ entry. entry.0 == wire) entries)
+
+abbrev pub opened_too : ℕ → Told → Told
+opened_too wire told = record told { opened = told.opened ++ wire ∷ [] }
+
+abbrev pub passed_too : ℕ → Inward → Told → Told
+passed_too wire item told = record told { passed = told.passed ++ (wire, item) ∷ [] }
+
+abbrev pub given_too : ℕ → Given → Told → Told
+given_too wire what told = record told { given = told.given ++ (wire, what) ∷ [] }
+
+abbrev pub closed_too : ℕ → Told → Told
+closed_too wire told = record told { closed = told.closed ++ wire ∷ [] }
+
+-- a stanza that was given on a wire
+abbrev pub stanza_on : ℕ × List ℕ → ℕ × Given
+stanza_on entry = (entry.0, given.Stanza entry.1)
+
+-- the lists are changed so, where they are told
+abbrev pub Becomes : Option Told → Option Told → (Told → Told) → Type 0
+Becomes None new change = Unit {0}
+Becomes (Some old) new change = new ≡ Some (change old)
+
+-- the lists are changed so by Done, and by no other answer
+abbrev pub BecomesIfDone : Option Told → Option Told → Passed → (Told → Told) → Type 0
+BecomesIfDone old new passed.Done change = Becomes old new change
+BecomesIfDone old new passed.Failed change = Becomes old new (λ told. told)
+BecomesIfDone old new passed.NoMemory change = Becomes old new (λ told. told)
+
+abbrev pub Opens : Option Told → Option Told → ℕ → Passed → Type 0
+Opens old new wire result = BecomesIfDone old new result (opened_too wire)
+
+abbrev pub Passes : Option Told → Option Told → ℕ → Inward → Passed → Type 0
+Passes old new wire item result = BecomesIfDone old new result (passed_too wire item)
+
+abbrev pub Closes : Option Told → Option Told → ℕ → Passed → Type 0
+Closes old new wire result = BecomesIfDone old new result (closed_too wire)
+
+-- `open` answered Done for the wire, where that is told
+abbrev pub WasOpened : Option Told → ℕ → Type 0
+WasOpened None wire = Unit {0}
+WasOpened (Some told) wire = Contains told.opened wire
+
+-- a poll gives on a wire that was opened, and what it gave is in the lists
+abbrev pub Polls : Option Told → Option Told → Polled → Type 0
+Polls old new (polled.Out wire text) = WasOpened old wire × Becomes old new (given_too wire (given.Stanza text))
+Polls old new (polled.Closed wire closing) = WasOpened old wire × Becomes old new (given_too wire (given.Closed closing))
+Polls old new polled.Nothing = Becomes old new (λ told. told)
+Polls old new polled.Failed = Becomes old new (λ told. told)
+Polls old new polled.NoMemory = Becomes old new (λ told. told)
+
+-- the text that a poll gave is a stanza
+abbrev pub GivesStanza : Polled → Type 0
+GivesStanza (polled.Out wire text) = IsTrue (is_stanza text)
+GivesStanza (polled.Closed wire closing) = Unit {0}
+GivesStanza polled.Nothing = Unit {0}
+GivesStanza polled.Failed = Unit {0}
+GivesStanza polled.NoMemory = Unit {0}
