@@ -1,14 +1,17 @@
 -- What one line of a script says, by its own bytes. Words are separated by one space.
 use Rattle.std.specs.Prelude.{ℕ, ◌+◌, ◌==◌, ◌&&◌, ◌||◌, nat_le, Bool, false, List, [], Option, None, Some, length, take, drop, position, chars, codes, if◌then◌else◌}
-use Rattle.std.specs.List.{list_all}
-use Rattle.std.specs.Str.{bytes_eq, is_utf8}
-use Rattle.body_cutter.specs.Chars.{is_allowed}
+use Rattle.std.specs.Str.{bytes_eq}
 use Rattle.body_cutter.specs.Cutting.{is_stanza}
 use Rattle.bosh_types.specs.Rid.{rid_of}
-use Rattle.script_text.specs.declared.line.BadKind.TheVariants.{Grammar, Later}
-use Rattle.script_text.specs.declared.line.ScriptLine.TheVariants.{Open, Short, Host, Post, End}
+use Rattle.bosh_types.specs.Condition.{name_of}
+use Rattle.bosh_types.specs.declared.condition.Condition.TheVariants as conditions
+use Rattle.bosh_types.specs.declared.ending.Closing.{Closing}
+use Rattle.bosh_types.specs.declared.ending.Closing.TheVariants.{Plain, RemoteConnectionFailed, RemoteStreamError, SystemShutdown}
+use Rattle.script_text.specs.declared.line.BadKind.TheVariants.{Grammar}
+use Rattle.script_text.specs.declared.line.ScriptLine.TheVariants.{Open, Short, Host, At, Post, Close, Back, Shut, End}
 use Rattle.script_text.specs.declared.line.LineRead.{LineRead}
 use Rattle.script_text.specs.declared.line.LineRead.TheVariants.{Line, BadLine}
+use Rattle.script_text.specs.Names.{is_host_name, is_sid}
 use Rattle.script_text.specs.Stanza.{row_of}
 
 -- the first word: what stands before the first space
@@ -34,14 +37,6 @@ request_of (Some rid) (Some stanza) = if is_stanza stanza then Line (Short rid s
 abbrev pub short_of : Option (List ℕ) → LineRead
 short_of None = BadLine Grammar
 short_of (Some text) = request_of (rid_of (word_of text)) (rest_of text)
-
--- UTF-8 of the characters that XML 1.0 section 2.2 allows
-abbrev pub is_allowed_text : List ℕ → Bool
-is_allowed_text bytes = if is_utf8 bytes then list_all is_allowed (chars bytes) else false
-
--- the name of a host has 1 to 1023 bytes
-unfoldable pub is_host_name : List ℕ → Bool
-is_host_name name = (nat_le 1 (length name) && nat_le (length name) 1023) && is_allowed_text name
 
 -- a host with this greeting
 abbrev pub host_with : List ℕ → Option (List (List ℕ)) → LineRead
@@ -72,14 +67,61 @@ abbrev pub post_of : Option (List ℕ) → LineRead
 post_of None = BadLine Grammar
 post_of (Some text) = body_of (connection_of (rid_of (word_of text))) (rest_of text)
 
--- the first words of lines that this version doesn't know yet
-unfoldable pub is_later : List ℕ → Bool
-is_later word = (bytes_eq word (codes "at") || bytes_eq word (codes "close")) || (bytes_eq word (codes "back") || bytes_eq word (codes "shut"))
+-- a number of milliseconds: `0`, or one that a request id might be
+unfoldable pub moment_of : List ℕ → Option ℕ
+moment_of text = if bytes_eq text (codes "0") then Some 0 else rid_of text
 
--- a line of another word
-unfoldable pub other_line : List ℕ → LineRead
-other_line line =
-    if is_later (word_of line) then BadLine Later else if bytes_eq line (codes "end") then Line End else BadLine Grammar
+-- `at MILLISECONDS`
+abbrev pub at_of : Option (List ℕ) → LineRead
+at_of None = BadLine Grammar
+at_of (Some text) = elim (moment_of text) [ None ↦ BadLine Grammar | Some moment ↦ Line (At moment) ]
+
+-- `close CONNECTION`
+abbrev pub close_of : Option (List ℕ) → LineRead
+close_of None = BadLine Grammar
+close_of (Some text) = elim (connection_of (rid_of text)) [ None ↦ BadLine Grammar | Some conn ↦ Line (Close conn) ]
+
+-- what a session is given: a stanza
+abbrev pub given_of : List ℕ → Option (List ℕ) → LineRead
+given_of sid None = BadLine Grammar
+given_of sid (Some stanza) = if is_stanza stanza then Line (Back sid stanza) else BadLine Grammar
+
+-- `back SID STANZA`
+abbrev pub back_of : Option (List ℕ) → LineRead
+back_of None = BadLine Grammar
+back_of (Some text) = if is_sid (word_of text) then given_of (word_of text) (rest_of text) else BadLine Grammar
+
+-- the word for a closing of the server
+unfoldable pub closing_of : List ℕ → Option Closing
+closing_of word =
+    if bytes_eq word (codes "plain") then Some Plain
+    else if bytes_eq word (name_of conditions.RemoteConnectionFailed) then Some RemoteConnectionFailed
+    else if bytes_eq word (name_of conditions.RemoteStreamError) then Some RemoteStreamError
+    else if bytes_eq word (name_of conditions.SystemShutdown) then Some SystemShutdown
+    else None
+
+abbrev pub shutting_of : List ℕ → Option Closing → LineRead
+shutting_of sid None = BadLine Grammar
+shutting_of sid (Some closing) = Line (Shut sid closing)
+
+abbrev pub closed_of : List ℕ → Option (List ℕ) → LineRead
+closed_of sid None = BadLine Grammar
+closed_of sid (Some word) = shutting_of sid (closing_of word)
+
+-- `shut SID CLOSING`
+abbrev pub shut_of : Option (List ℕ) → LineRead
+shut_of None = BadLine Grammar
+shut_of (Some text) = if is_sid (word_of text) then closed_of (word_of text) (rest_of text) else BadLine Grammar
+
+-- a line about a session that there is, or the last one
+unfoldable pub later_line : List ℕ → LineRead
+later_line line =
+    if bytes_eq (word_of line) (codes "at") then at_of (rest_of line)
+    else if bytes_eq (word_of line) (codes "close") then close_of (rest_of line)
+    else if bytes_eq (word_of line) (codes "back") then back_of (rest_of line)
+    else if bytes_eq (word_of line) (codes "shut") then shut_of (rest_of line)
+    else if bytes_eq line (codes "end") then Line End
+    else BadLine Grammar
 
 -- what a line says
 unfoldable pub line_of : List ℕ → LineRead
@@ -88,4 +130,4 @@ line_of line =
     else if bytes_eq (word_of line) (codes "short") then short_of (rest_of line)
     else if bytes_eq (word_of line) (codes "host") then host_of (rest_of line)
     else if bytes_eq (word_of line) (codes "post") then post_of (rest_of line)
-    else other_line line
+    else later_line line

@@ -6,11 +6,15 @@ use Rattle.bosh_types.specs.declared.condition.Condition.TheVariants.{RemoteConn
 use Rattle.bosh_types.specs.declared.ending.Closing.{Closing}
 use Rattle.bosh_types.specs.declared.ending.Closing.TheVariants.{Plain, RemoteConnectionFailed as ByConnection, RemoteStreamError as ByStream, SystemShutdown as ByShutdown}
 use Rattle.bosh_types.specs.declared.ending.Ending.{Ending}
+use Rattle.bosh_types.specs.declared.inward.Inward.{Inward}
+use Rattle.bosh_types.specs.declared.inward.Inward.TheVariants.{Item, Restart}
 use Rattle.bosh_types.specs.declared.ending.Ending.TheVariants.{Terminated, Stale, Above, WrongKey, UnknownStream, PauseTooLong, Overactive, Silent, Closed, JournalFull}
 use Rattle.script_text.specs.declared.line.BadKind.{BadKind}
-use Rattle.script_text.specs.declared.line.BadKind.TheVariants.{Count, End, Length, Later, Grammar}
+use Rattle.script_text.specs.declared.line.BadKind.TheVariants.{Count, End, Length, Grammar, Time, Connection, Session}
 use Rattle.script_text.specs.declared.report.ReportLine.{ReportLine}
-use Rattle.script_text.specs.declared.report.ReportLine.TheVariants.{In, Out, Over, Done, Bad}
+use Rattle.script_text.specs.declared.report.ReportLine.TheVariants.{In, Out, Lost, Gone, Refused, Over, Done, Bad}
+use Rattle.script_text.specs.declared.report.Refusal.{Refusal}
+use Rattle.script_text.specs.declared.report.Refusal.TheVariants.{BackFull, BackOver, ShutOver}
 
 -- numbers, each after a space
 abbrev pub numbers_text : List ℕ → List ℕ
@@ -42,13 +46,29 @@ abbrev pub kind_text : BadKind → List ℕ
 kind_text Count = codes "count"
 kind_text End = codes "end"
 kind_text Length = codes "length"
-kind_text Later = codes "later"
 kind_text Grammar = codes "grammar"
+kind_text Time = codes "time"
+kind_text Connection = codes "connection"
+kind_text Session = codes "session"
+
+-- what goes inward, on its stream
+abbrev pub inward_text : Inward → List ℕ
+inward_text (Item stream stanza) = decimal stream ++ codes " " ++ stanza
+inward_text (Restart stream) = decimal stream ++ codes " restart"
+
+-- a line of the server that was refused for this session
+abbrev pub refused_text : Refusal → ℕ → List ℕ
+refused_text BackFull session = codes "refused back s" ++ decimal session ++ codes " full"
+refused_text BackOver session = codes "refused back s" ++ decimal session ++ codes " over"
+refused_text ShutOver session = codes "refused shut s" ++ decimal session ++ codes " over"
 
 -- one line of a report, without its LF
 unfoldable pub line_text : ReportLine → List ℕ
-line_text (In session stream stanza) = codes "in s" ++ decimal session ++ codes " " ++ decimal stream ++ codes " " ++ stanza
+line_text (In session item) = codes "in s" ++ decimal session ++ codes " " ++ inward_text item
 line_text (Out conn body) = codes "out " ++ decimal conn ++ codes " " ++ body
+line_text (Lost conn) = codes "lost " ++ decimal conn
+line_text (Gone conn) = codes "gone " ++ decimal conn
+line_text (Refused session refusal) = refused_text refusal session
 line_text (Over session ending) = codes "over s" ++ decimal session ++ codes " " ++ ending_text ending
 line_text (Done line) = codes "done " ++ decimal line
 line_text (Bad line kind) = codes "bad " ++ decimal line ++ codes " " ++ kind_text kind
@@ -57,12 +77,3 @@ line_text (Bad line kind) = codes "bad " ++ decimal line ++ codes " " ++ kind_te
 abbrev pub report_text : List ReportLine → List ℕ
 report_text [] = []
 report_text (line ∷ lines) = line_text line ++ 10 ∷ report_text lines
-
--- the stanzas that a report says went inward, in order
-abbrev pub inward_in : List ReportLine → List (List ℕ)
-inward_in [] = []
-inward_in (In session stream stanza ∷ lines) = stanza ∷ inward_in lines
-inward_in (Out conn body ∷ lines) = inward_in lines
-inward_in (Over session ending ∷ lines) = inward_in lines
-inward_in (Done line ∷ lines) = inward_in lines
-inward_in (Bad line kind ∷ lines) = inward_in lines

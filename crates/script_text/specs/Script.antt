@@ -1,103 +1,181 @@
--- What a script gives: its outcome, its report, and what it leaves.
-use Rattle.std.specs.Prelude.{ℕ, ◌+◌, ◌≡◌, List, [], ◌∷◌, ◌++◌, Option, None, Some, false, length, drop, map, nat_lt, if◌then◌else◌}
+-- What a script gives: its outcome, its report, and its sessions.
+use Rattle.std.specs.Prelude.{ℕ, ◌+◌, ◌≡◌, ◌&&◌, Bool, true, false, not, nat_lt, nat_le, List, [], ◌∷◌, ◌++◌, Option, None, Some, length, codes, filter, if◌then◌else◌}
+use Rattle.std.specs.Fmt.{decimal}
 use Rattle.std.specs.Io.KnownBytes.{Appends}
+use Rattle.std.specs.List.{list_any}
+use Rattle.std.specs.Str.{bytes_eq}
 use Rattle.bosh_types.specs.Limits.{longest_line, most_lines}
-use Rattle.bosh_types.specs.declared.ending.Ending.{Ending}
-use Rattle.session_core.specs.Bare.{BareSession, inward_of}
-use Rattle.session_core.specs.BareEnding.{over_at, session_after}
-use Rattle.session_core.specs.BareRun.{IsLongestRun}
-use Rattle.session_core.specs.declared.copy.RequestCopy.{RequestCopy}
-use Rattle.session_core.specs.Copy.{stanzas_of}
-use Rattle.session_core.specs.Machine.{Opening}
-use Rattle.session_core.specs.Run.{run_of}
+use Rattle.bosh_types.specs.declared.ending.Closing.{Closing}
+use Rattle.bosh_types.specs.declared.hosts.HostName.{HostName}
+use Rattle.script_text.specs.declared.event.Event.{Event}
+use Rattle.script_text.specs.declared.event.Event.TheVariants.{Gives, Shuts}
 use Rattle.script_text.specs.declared.line.BadKind.{BadKind}
-use Rattle.script_text.specs.declared.line.BadKind.TheVariants.{Count, End, Length, Later, Grammar}
+use Rattle.script_text.specs.declared.line.BadKind.TheVariants.{Count, End, Length, Grammar, Time, Connection, Session}
 use Rattle.script_text.specs.declared.line.ScriptLine.{ScriptLine}
-use Rattle.script_text.specs.declared.line.ScriptLine.TheVariants.{Open, Short, Host, Post, End as LastLine}
+use Rattle.script_text.specs.declared.line.ScriptLine.TheVariants.{Open, Short, Host, At, Post, Close, Back, Shut, End as LastLine}
 use Rattle.script_text.specs.declared.line.LineRead.{LineRead}
 use Rattle.script_text.specs.declared.line.LineRead.TheVariants.{Line, BadLine}
 use Rattle.script_text.specs.declared.driven.Driven.{Driven}
-use Rattle.script_text.specs.declared.driven.Driven.TheVariants.{Bad}
+use Rattle.script_text.specs.declared.driven.Driven.TheVariants.{Done, Bad}
+use Rattle.script_text.specs.declared.report.Refusal.{Refusal}
+use Rattle.script_text.specs.declared.report.Refusal.TheVariants.{BackOver, ShutOver}
 use Rattle.script_text.specs.declared.report.ReportLine.{ReportLine}
-use Rattle.script_text.specs.declared.report.ReportLine.TheVariants.{In, Over}
-use Rattle.script_text.specs.declared.run.Manager.{Manager}
-use Rattle.script_text.specs.declared.run.Next.TheVariants.{Goes, Ends}
-use Rattle.script_text.specs.declared.run.Run.{Run}
-use Rattle.script_text.specs.declared.run.Run.TheVariants.{Beginning, Arrivals, Creations}
-use Rattle.script_text.specs.Creation.{Step, bad_step, done_step, manager_step}
+use Rattle.script_text.specs.declared.report.ReportLine.TheVariants.{In, Out, Lost, Gone, Refused, Over, Done as SaysDone, Bad as SaysBad}
+use Rattle.script_text.specs.Hosts.{takes_name}
 use Rattle.script_text.specs.Line.{line_of}
 use Rattle.script_text.specs.Lines.{lines_of}
-use Rattle.script_text.specs.Report.{report_text, inward_in}
+use Rattle.script_text.specs.Live.{PlainLive}
+use Rattle.script_text.specs.Manager.{PlainManager, Change, new_manager, is_waiting, closed, comes, number_of, passed, posted}
+use Rattle.script_text.specs.Report.{report_text}
 
--- what a script gives: how it ended, its report, what it was run over at its end, and the sessions that it created
-pub record Drive : Type 0 where
-  pub outcome : Driven
-  pub report : List ReportLine
-  pub last : Run
-  pub openings : List Opening
+-- what the lines so far make of a script: no line was read; it tells of the requests of one session; or of bodies and of all
+-- that comes to a manager
+pub data PlainRun : Type 0 where
+  Beginning : PlainRun
+  Arrivals : PlainManager → PlainRun
+  Bodies : PlainManager → PlainRun
 
--- the session of arrivals, whose creation had this id and answers `s1`
-abbrev pub opened : ℕ → BareSession
-opened rid = record { first = rid; arrivals = []; is_over = false }
+-- what follows a line
+pub data PlainNext : Type 0 where
+  Goes : PlainRun → PlainNext
+  Ends : Driven → PlainNext
 
--- a manager without hosts and sessions
-abbrev pub new_manager : Manager
-new_manager = record { hosts = []; opened = 0; posted = false }
+-- what a line does: its lines of the report, what follows it, and the sessions that ended with it
+pub record Step : Type 0 where
+  pub lines : List ReportLine
+  pub next : PlainNext
+  pub over : List PlainLive
 
--- an ending, if there is one
-abbrev pub over_lines : Option Ending → List ReportLine
-over_lines None = []
-over_lines (Some ending) = Over 1 ending ∷ []
+-- the script is bad at this line
+abbrev pub bad_step : ℕ → BadKind → Step
+bad_step n kind = record { lines = SaysBad n kind ∷ []; next = Ends (Bad n kind); over = [] }
 
--- what the run newly has goes inward on stream 0, and then the session may end
-abbrev pub request_lines : BareSession → ℕ → List ℕ → List ReportLine
-request_lines session rid stanza =
-    map (In 1 0) (drop (length (inward_of session)) (inward_of (session_after session rid stanza)))
-    ++ over_lines (over_at session rid)
+-- the script ends with this line
+abbrev pub done_step : ℕ → Step
+done_step n = record { lines = SaysDone n ∷ []; next = Ends Done; over = [] }
 
--- these lines of the report, and then the run goes on
-abbrev pub goes_on : List ReportLine → Run → Step
-goes_on lines run = record { lines = lines; next = Goes run; openings = [] }
+-- the line changes the manager, and the script goes on
+abbrev pub change_step : Change → Step
+change_step change = record { lines = change.lines; next = Goes (Bodies change.after); over = change.over }
 
--- the first line tells what the script is about
+-- Scripts of bodies.
+
+-- after this line no host may come
+abbrev pub begun : PlainManager → PlainManager
+begun m = record m { begun = true }
+
+-- a host that may still come: its name is new, and it is the sixteenth at most
+abbrev pub takes_host : PlainManager → List ℕ → Bool
+takes_host m name = not m.begun && takes_name m.hosts name
+
+abbrev pub with_host : PlainManager → List ℕ → List (List ℕ) → PlainManager
+with_host m name greeting = record m { hosts = m.hosts ++ record { name = name; greeting = greeting } ∷ [] }
+
+abbrev pub host_step : PlainManager → ℕ → List ℕ → List (List ℕ) → Step
+host_step m n name greeting =
+    if takes_host m name then record { lines = []; next = Goes (Bodies (with_host m name greeting)); over = [] } else bad_step n Grammar
+
+-- moments don't go back
+abbrev pub at_step : PlainManager → ℕ → ℕ → Step
+at_step m n moment = if nat_lt moment m.moment then bad_step n Time else change_step (passed m moment)
+
+-- a connection carries one request at a time
+abbrev pub post_step : PlainManager → ℕ → ℕ → List ℕ → Step
+post_step m n conn body = if is_waiting m conn then bad_step n Connection else change_step (posted (begun m) conn body)
+
+abbrev pub close_step : PlainManager → ℕ → ℕ → Step
+close_step m n conn = if is_waiting m conn then change_step (closed (begun m) conn) else bad_step n Connection
+
+-- a session that a creation was given
+abbrev pub was_given : ℕ → Option ℕ → Option ℕ
+was_given opened None = None
+was_given opened (Some number) = if nat_le number opened then Some number else None
+
+abbrev pub server_step : PlainManager → ℕ → Event → Refusal → Option ℕ → Step
+server_step m n event refusal None = bad_step n Session
+server_step m n event refusal (Some number) = change_step (comes (begun m) event (Refused number refusal) number)
+
+-- a line of a script that tells of bodies
+abbrev pub body_step : PlainManager → ℕ → ScriptLine → Step
+body_step m n (Open rid) = bad_step n Grammar
+body_step m n (Short rid stanza) = bad_step n Grammar
+body_step m n (Host name greeting) = host_step m n name greeting
+body_step m n (At moment) = at_step m n moment
+body_step m n (Post conn body) = post_step m n conn body
+body_step m n (Close conn) = close_step m n conn
+body_step m n (Back sid stanza) = server_step m n (Gives stanza) BackOver (was_given m.opened (number_of sid))
+body_step m n (Shut sid closing) = server_step m n (Shuts closing) ShutOver (was_given m.opened (number_of sid))
+body_step m n LastLine = done_step n
+
+-- Scripts of the requests of one session.
+
+-- of these only what goes inward and the ending is told
+abbrev pub is_told : ReportLine → Bool
+is_told (In session item) = true
+is_told (Out conn body) = false
+is_told (Lost conn) = false
+is_told (Gone conn) = false
+is_told (Refused session refusal) = false
+is_told (Over session ending) = true
+is_told (SaysDone line) = true
+is_told (SaysBad line kind) = true
+
+abbrev pub arrival_change : Change → Step
+arrival_change change = record { lines = filter is_told change.lines; next = Goes (Arrivals change.after); over = change.over }
+
+-- its host greets nobody
+abbrev pub host_alone : PlainManager
+host_alone = record new_manager { hosts = record { name = codes "example.org"; greeting = [] } ∷ [] }
+
+-- a creation with this id, which asks for a wait of 60 seconds and a hold of 1
+unfoldable pub creation_text : ℕ → List ℕ
+creation_text rid =
+    codes "<body rid='" ++ decimal rid ++ codes "' to='example.org' wait='60' hold='1' ver='1.6' xmlns='http://jabber.org/protocol/httpbind'/>"
+
+-- a request of the session `s1` with this id and stanza
+unfoldable pub request_head : ℕ → List ℕ
+request_head rid = codes "<body rid='" ++ decimal rid ++ codes "' sid='s1' xmlns='http://jabber.org/protocol/httpbind'>"
+
+abbrev pub request_text : ℕ → List ℕ → List ℕ
+request_text rid stanza = request_head rid ++ stanza ++ codes "</body>"
+
+abbrev pub open_step : ℕ → Step
+open_step rid = arrival_change (posted host_alone 0 (creation_text rid))
+
+abbrev pub arrival_step : PlainManager → ℕ → ScriptLine → Step
+arrival_step m n (Open rid) = bad_step n Grammar
+arrival_step m n (Short rid stanza) = arrival_change (posted m 0 (request_text rid stanza))
+arrival_step m n (Host name greeting) = bad_step n Grammar
+arrival_step m n (At moment) = bad_step n Grammar
+arrival_step m n (Post conn body) = bad_step n Grammar
+arrival_step m n (Close conn) = bad_step n Grammar
+arrival_step m n (Back sid stanza) = bad_step n Grammar
+arrival_step m n (Shut sid closing) = bad_step n Grammar
+arrival_step m n LastLine = done_step n
+
+-- The first line tells what the script is about.
+
 abbrev pub first_step : ℕ → ScriptLine → Step
-first_step n (Open rid) = goes_on [] (Arrivals (opened rid))
+first_step n (Open rid) = open_step rid
 first_step n (Short rid stanza) = bad_step n Grammar
-first_step n (Host name greeting) = manager_step new_manager n (Host name greeting)
-first_step n (Post conn body) = manager_step new_manager n (Post conn body)
+first_step n (Host name greeting) = body_step new_manager n (Host name greeting)
+first_step n (At moment) = body_step new_manager n (At moment)
+first_step n (Post conn body) = body_step new_manager n (Post conn body)
+first_step n (Close conn) = body_step new_manager n (Close conn)
+first_step n (Back sid stanza) = body_step new_manager n (Back sid stanza)
+first_step n (Shut sid closing) = body_step new_manager n (Shut sid closing)
 first_step n LastLine = done_step n
 
--- a line of a script that tells of arrivals
-abbrev pub arrival_step : BareSession → ℕ → ScriptLine → Step
-arrival_step session n (Open rid) = bad_step n Grammar
-arrival_step session n (Short rid stanza) = goes_on (request_lines session rid stanza) (Arrivals (session_after session rid stanza))
-arrival_step session n (Host name greeting) = bad_step n Grammar
-arrival_step session n (Post conn body) = bad_step n Grammar
-arrival_step session n LastLine = done_step n
-
--- in a script of arrivals no line is for later
-abbrev pub never_later : BadKind → BadKind
-never_later Count = Count
-never_later End = End
-never_later Length = Length
-never_later Later = Grammar
-never_later Grammar = Grammar
-
-abbrev pub kind_in : Run → BadKind → BadKind
-kind_in Beginning kind = kind
-kind_in (Arrivals session) kind = never_later kind
-kind_in (Creations manager) kind = kind
-
 -- what a line does that says this
-abbrev pub said_step : Run → ℕ → ScriptLine → Step
+abbrev pub said_step : PlainRun → ℕ → ScriptLine → Step
 said_step Beginning n said = first_step n said
-said_step (Arrivals session) n said = arrival_step session n said
-said_step (Creations manager) n said = manager_step manager n said
+said_step (Arrivals m) n said = arrival_step m n said
+said_step (Bodies m) n said = body_step m n said
 
 -- what a line does, by what was read
-abbrev pub step_by : Run → ℕ → LineRead → Step
+abbrev pub step_by : PlainRun → ℕ → LineRead → Step
 step_by run n (Line said) = said_step run n said
-step_by run n (BadLine kind) = bad_step n (kind_in run kind)
+step_by run n (BadLine kind) = bad_step n kind
 
 -- a line that is too long is bad, whatever it says
 abbrev pub within_length : List ℕ → LineRead → LineRead
@@ -107,20 +185,29 @@ within_length line read = if nat_lt longest_line (length line) then BadLine Leng
 abbrev pub said : ℕ → List ℕ → LineRead
 said n line = if nat_lt most_lines n then BadLine Count else within_length line (line_of line)
 
+-- Whole scripts.
+
+-- what a script gives: how it ended, its report, what it was run over at its end, and the sessions that ended before
+pub record Drive : Type 0 where
+  pub outcome : Driven
+  pub report : List ReportLine
+  pub last : PlainRun
+  pub over : List PlainLive
+
 -- the script ends with this step
-abbrev pub ended_with : Run → Step → Driven → Drive
-ended_with run step outcome = record { outcome = outcome; report = step.lines; last = run; openings = step.openings }
+abbrev pub ended_with : PlainRun → Step → Driven → Drive
+ended_with run step outcome = record { outcome = outcome; report = step.lines; last = run; over = step.over }
 
 -- this step, and then what the rest of the script gives
 abbrev pub after_step : Step → Drive → Drive
-after_step step drive = record drive { report = step.lines ++ drive.report; openings = step.openings ++ drive.openings }
+after_step step drive = record drive { report = step.lines ++ drive.report; over = step.over ++ drive.over }
 
 -- the script is bad at this line
-abbrev pub bad_at : Run → ℕ → BadKind → Drive
+abbrev pub bad_at : PlainRun → ℕ → BadKind → Drive
 bad_at run n kind = ended_with run (bad_step n kind) (Bad n kind)
 
 -- the rest of a script, from the line with this number on
-abbrev pub drive_on : Run → ℕ → List (List ℕ) → Drive
+abbrev pub drive_on : PlainRun → ℕ → List (List ℕ) → Drive
 drive_on run n [] = bad_at run n (if nat_lt most_lines n then Count else End)
 drive_on run n (line ∷ others) =
     elim (step_by run n (said n line)).next [
@@ -135,27 +222,3 @@ drive_of script = drive_on Beginning 1 (lines_of script)
 -- this outcome is the script's, and the sink was given its report and nothing else
 abbrev pub Reports : Drive → Driven → Option (List ℕ) → Option (List ℕ) → Type 0
 Reports drive outcome old new = (outcome ≡ drive.outcome) × Appends old new (report_text drive.report)
-
--- the stanzas of a run of copies
-abbrev pub stanzas_in : List RequestCopy → List (List ℕ)
-stanzas_in [] = []
-stanzas_in (copy ∷ copies) = stanzas_of copy ++ stanzas_in copies
-
--- the stanzas of the runs of these sessions, of which nothing arrived but their creations
-abbrev pub created_inward : List Opening → List (List ℕ)
-created_inward [] = []
-created_inward (o ∷ openings) = stanzas_in (run_of (record { opening = o; entries = [] })) ++ created_inward openings
-
--- the stanzas that went inward are those of the longest unbroken run of the request ids that arrived
-abbrev pub IsInwardOf : Run → List Opening → List (List ℕ) → Type 0
-IsInwardOf Beginning openings inward = inward ≡ []
-IsInwardOf (Arrivals session) openings inward = IsLongestRun session.first session.arrivals inward
-IsInwardOf (Creations manager) openings inward = inward ≡ created_inward openings
-
--- the sink was given a report, and what this says went inward is the longest run of what arrived
-abbrev pub GivesLongestRun : Drive → Option (List ℕ) → Option (List ℕ) → Type 0
-GivesLongestRun drive old new = (report : List ReportLine) × Appends old new (report_text report) × IsInwardOf drive.last drive.openings (inward_in report)
-
--- it is so of a script's report
-abbrev pub InwardIsLongestRun : Drive → Type 0
-InwardIsLongestRun drive = IsInwardOf drive.last drive.openings (inward_in drive.report)
