@@ -1,75 +1,86 @@
-// The lines of a script that tells of arrivals at one session.
-ghost use Rattle.std.specs.Prelude.{◌≡◌, ◌++◌, List, [], map, IfOk, OnOk};
-ghost use Rattle.script_text.specs.declared.report.ReportLine.TheVariants.{In};
-ghost use Rattle.session_core.specs.BareEnding.{session_after};
-ghost use Rattle.script_text.specs.declared.run.Run.TheVariants.{Arrivals};
-ghost use Rattle.script_text.specs.Creation.{Does};
-ghost use Rattle.script_text.specs.Script.{arrival_step, goes_on, over_lines, request_lines};
+// The lines of a script that tells of the requests of one session.
+ghost use Rattle.std.specs.Prelude.{◌≡◌, IfOk};
+ghost use Rattle.script_text.specs.Manager.{Change, PlainManager};
+ghost use Rattle.script_text.specs.Script.{arrival_change, arrival_step, host_alone, is_told, open_step};
+ghost use Rattle.script_text.specs.Stands.{Does, IsChange, IsManager};
 
+use crate::hosts::Hosts;
 use crate::line::{BadKind, ScriptLine};
+use crate::manager::{Changed, Manager};
 use crate::report::ReportLine;
 use crate::run::{Effect, Next, Run};
-use bosh_types::{Ending, Rid, Stanzas, StreamNo};
-use session_core::{Bare, BareSeen};
+use crate::words::{creation_text, request_text};
+use bosh_types::{Rid, Stanzas, Text};
 use std::alloc::{AllocError, Global};
+
+// The session is created with this id.
+pub(crate) fn open(alloc: Global, rid: Rid) -> Result<Effect, AllocError>
+    ensures { IfOk result (λ effect. Does effect (open_step rid)) }
+{
+    let manager = Manager::new(alloc, host_alone(alloc)?);
+    let body = creation_text(alloc, rid)?;
+    let changed = manager.post(alloc, 0, body)?;
+    Ok(effect_of(changed))
+}
+
+// One host, which greets nobody.
+fn host_alone(alloc: Global) -> Result<Hosts, AllocError>
+    ensures { IfOk result (λ hosts. hosts ≡ host_alone.hosts) }
+{
+    let name = Text::from_vec(Vec::from_slice(alloc, b"example.org")?);
+    let greeting = Stanzas::from_vec(Vec::new(alloc));
+    Hosts::new(alloc).with(name, greeting)
+}
 
 // What a line does to the session.
 pub(crate) fn arrival_effect(
     alloc: Global,
-    session: Bare,
+    manager: Manager,
     n: u64,
     said: ScriptLine,
 ) -> Result<Effect, AllocError>
-    ensures { IfOk result (λ effect. Does effect (arrival_step session n said)) }
+    ensures { IfOk result (λ effect. (m : PlainManager) → IsManager manager m → Does effect (arrival_step m n said)) }
 {
     match said {
-        ScriptLine::Short { rid, stanza } => short(alloc, session, rid, stanza.as_slice()),
+        ScriptLine::Short { rid, stanza } => {
+            let body = request_text(alloc, rid, stanza.as_slice())?;
+            let changed = manager.post(alloc, 0, body)?;
+            Ok(effect_of(changed))
+        }
         ScriptLine::End => Effect::done(alloc, n),
         ScriptLine::Open { .. } => Effect::bad(alloc, n, BadKind::Grammar),
         ScriptLine::Host { .. } => Effect::bad(alloc, n, BadKind::Grammar),
+        ScriptLine::At { .. } => Effect::bad(alloc, n, BadKind::Grammar),
         ScriptLine::Post { .. } => Effect::bad(alloc, n, BadKind::Grammar),
+        ScriptLine::Close { .. } => Effect::bad(alloc, n, BadKind::Grammar),
+        ScriptLine::Back { .. } => Effect::bad(alloc, n, BadKind::Grammar),
+        ScriptLine::Shut { .. } => Effect::bad(alloc, n, BadKind::Grammar),
     }
 }
 
-// A request with one stanza arrives.
-fn short(alloc: Global, mut session: Bare, rid: Rid, stanza: &[u8]) -> Result<Effect, AllocError>
-    ensures { IfOk result (λ effect. Does effect (goes_on (request_lines session rid stanza.now) (Arrivals (session_after session rid stanza.now)))) }
+// Of a change only what goes inward and the ending is told.
+fn effect_of(changed: Changed) -> Effect
+    ensures { (change : Change) → IsChange changed change → Does result (arrival_change change) }
 {
-    let seen = session.short(alloc, rid, stanza)?;
-    let lines = seen_lines(alloc, seen)?;
-    Ok(Effect {
+    let Changed { mut lines, manager } = changed;
+    lines.retain(is_told);
+    Effect {
         lines,
-        next: Next::Goes(Run::Arrivals(session)),
-    })
+        next: Next::Goes(Run::Arrivals(manager)),
+    }
 }
 
-// What an arrival makes visible.
-fn seen_lines(alloc: Global, seen: BareSeen) -> Result<Vec<ReportLine>, AllocError>
-    ensures { IfOk result (λ lines. lines.items ≡ map (In 1 0) seen.inward ++ over_lines seen.over) }
+fn is_told(line: &ReportLine) -> bool
+    ensures { result ≡ is_told line.now }
 {
-    let mut lines = inward_lines(alloc, 1, seen.inward)?;
-    if let Some(ending) = seen.over {
-        lines.push(ReportLine::Over { session: 1, ending })?;
+    match line {
+        ReportLine::In { .. } => true,
+        ReportLine::Out { .. } => false,
+        ReportLine::Lost { .. } => false,
+        ReportLine::Gone { .. } => false,
+        ReportLine::Refused { .. } => false,
+        ReportLine::Over { .. } => true,
+        ReportLine::Done { .. } => true,
+        ReportLine::Bad { .. } => true,
     }
-    Ok(lines)
-}
-
-// The stanzas that go inward in this session.
-pub(crate) fn inward_lines(
-    alloc: Global,
-    session: u32,
-    stanzas: Stanzas,
-) -> Result<Vec<ReportLine>, AllocError>
-    ensures { IfOk result (λ lines. lines.items ≡ map (In session 0) stanzas) }
-{
-    let stream = StreamNo::unnamed();
-    let mut lines = Vec::new(alloc);
-    for stanza in stanzas.into_vec() {
-        lines.push(ReportLine::In {
-            session,
-            stream,
-            stanza,
-        })?;
-    }
-    Ok(lines)
 }

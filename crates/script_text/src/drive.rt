@@ -2,22 +2,25 @@
 ghost use Rattle.std.specs.Prelude.{◌≡◌, ◌≤◌, [], ◌∷◌, IfOk, IfSome, OnOk, OnErr, IsErrOf};
 ghost use Rattle.bosh_ports.specs.Faults.{HasRisen};
 ghost use Rattle.bosh_ports.specs.Sink.{AppendsFront, GivesAll};
-ghost use Rattle.script_text.specs.Creation.{Does};
+ghost use Rattle.script_text.specs.Given.{GivesItsReport};
 ghost use Rattle.script_text.specs.Report.{report_text};
-ghost use Rattle.script_text.specs.Script.{drive_of, first_step, kind_in, never_later, said_step, step_by, Reports, GivesLongestRun};
+ghost use Rattle.script_text.specs.Said.{IsSaid, IsWellRead};
+ghost use Rattle.script_text.specs.Script.{PlainRun, drive_of, first_step, said_step, step_by, Reports};
+ghost use Rattle.script_text.specs.Stands.{Does, IsRun};
 ghost use Rattle.script_text.specs.Step.{read_of};
 
-use crate::arrivals::arrival_effect;
-use crate::creations::manager_effect;
+use crate::arrivals::{arrival_effect, open};
+use crate::bodies::body_effect;
 use crate::driven::{DriveError, Driven};
+use crate::hosts::Hosts;
+use crate::laws::reports_tell_of_sessions;
 use crate::line::{BadKind, LineRead, ScriptLine, read_line};
 use crate::lines::{LineReader, NextLine};
+use crate::manager::Manager;
 use crate::report::{ReportLine, print_line};
-use crate::run::{Effect, Manager, Next, Run};
+use crate::run::{Effect, Next, Run};
 use bosh_ports::{Sink, Source, give_all};
-use bosh_types::HostNames;
 use bosh_types::limits::MOST_LINES;
-use session_core::Bare;
 use std::alloc::{AllocError, Global};
 
 /// Runs a script line by line and gives its report, each line as soon as it is known. After an error what was given
@@ -32,8 +35,8 @@ pub fn run_drive<S: Source, K: Sink>(
     ensures report { IfOk result (λ outcome. IfSome (S.left source.old) (λ script. Reports (drive_of script) outcome (K.given sink.old) (K.given sink.new))) }
     ensures part { OnErr result (IfSome (S.left source.old) (λ script. AppendsFront (K.given sink.old) (K.given sink.new) (report_text (drive_of script).report))) }
 
-    // The sink was given a report whose stanzas inward are the longest unbroken run of the request ids that arrived.
-    ensures longest { IfOk result (λ outcome. IfSome (S.left source.old) (λ script. GivesLongestRun (drive_of script) (K.given sink.old) (K.given sink.new))) }
+    // The sink was given a report that keeps its word.
+    ensures headline { IfOk result (λ outcome. IfSome (S.left source.old) (λ script. GivesItsReport script (K.given sink.old) (K.given sink.new))) }
 
     // A fault rises with the error that names it, and with nothing else.
     ensures no_fault { OnOk result ((S.faults source.new ≡ S.faults source.old) × (K.faults sink.new ≡ K.faults sink.old)) }
@@ -45,6 +48,7 @@ pub fn run_drive<S: Source, K: Sink>(
     ensures source_faults { S.faults source.old ≤ S.faults source.new }
     ensures sink_faults { K.faults sink.old ≤ K.faults sink.new }
 {
+    reports_tell_of_sessions();
     let mut reader = LineReader::new(alloc)?;
     let mut run = Run::Beginning;
     for n in 1..MOST_LINES + 1 {
@@ -64,17 +68,18 @@ pub fn run_drive<S: Source, K: Sink>(
 
 // What a line does.
 fn effect_of(alloc: Global, run: Run, n: u64, line: NextLine) -> Result<Effect, AllocError>
-    ensures { IfOk result (λ effect. Does effect (step_by run n (read_of line))) }
+    ensures { IfOk result (λ effect. (plain : PlainRun) → IsRun run plain → Does effect (step_by plain n (read_of line))) }
 {
     match read(alloc, line)? {
         LineRead::Line(said) => effect_by(alloc, run, n, said),
-        LineRead::BadLine(kind) => Effect::bad(alloc, n, kind_in(&run, kind)),
+        LineRead::BadLine(kind) => Effect::bad(alloc, n, kind),
     }
 }
 
 // What a line says.
 fn read(alloc: Global, line: NextLine) -> Result<LineRead, AllocError>
-    ensures { IfOk result (λ read. read ≡ read_of line) }
+    ensures read { IfOk result (λ read. read ≡ read_of line) }
+    ensures well { IfOk result (λ read. IsWellRead read) }
 {
     match line {
         NextLine::Line(line) => read_line(alloc, line.as_slice()),
@@ -83,54 +88,27 @@ fn read(alloc: Global, line: NextLine) -> Result<LineRead, AllocError>
     }
 }
 
-// The kind of a bad line: in a script of arrivals no line is for later.
-fn kind_in(run: &Run, kind: BadKind) -> BadKind
-    ensures { result ≡ kind_in run.now kind }
-{
-    match run {
-        Run::Arrivals(_) => never_later(kind),
-        _ => kind,
-    }
-}
-
-fn never_later(kind: BadKind) -> BadKind
-    ensures { result ≡ never_later kind }
-{
-    match kind {
-        BadKind::Later => BadKind::Grammar,
-        kind => kind,
-    }
-}
-
 // What a line does that says this.
 fn effect_by(alloc: Global, run: Run, n: u64, said: ScriptLine) -> Result<Effect, AllocError>
-    ensures { IfOk result (λ effect. Does effect (said_step run n said)) }
+    requires { IsSaid said }
+    ensures { IfOk result (λ effect. (plain : PlainRun) → IsRun run plain → Does effect (said_step plain n said)) }
 {
     match run {
         Run::Beginning => first_effect(alloc, n, said),
-        Run::Arrivals(session) => arrival_effect(alloc, session, n, said),
-        Run::Creations(manager) => manager_effect(alloc, manager, n, said),
+        Run::Arrivals(manager) => arrival_effect(alloc, manager, n, said),
+        Run::Bodies(manager) => body_effect(alloc, manager, n, said),
     }
 }
 
 // The first line tells what the script is about.
 fn first_effect(alloc: Global, n: u64, said: ScriptLine) -> Result<Effect, AllocError>
+    requires { IsSaid said }
     ensures { IfOk result (λ effect. Does effect (first_step n said)) }
 {
     match said {
-        ScriptLine::Open { rid } => Ok(Effect {
-            lines: Vec::new(alloc),
-            next: Next::Goes(Run::Arrivals(Bare::open(alloc, rid))),
-        }),
+        ScriptLine::Open { rid } => open(alloc, rid),
         ScriptLine::Short { .. } => Effect::bad(alloc, n, BadKind::Grammar),
-        said => {
-            let manager = Manager {
-                hosts: HostNames::from_vec(Vec::new(alloc)),
-                opened: 0,
-                posted: false,
-            };
-            manager_effect(alloc, manager, n, said)
-        }
+        said => body_effect(alloc, Manager::new(alloc, Hosts::new(alloc)), n, said),
     }
 }
 

@@ -3,20 +3,26 @@
 #![tactic(auto)]
 
 mod arrivals;
-mod creations;
+mod bodies;
+mod calls;
 mod drive;
 mod driven;
 mod ending;
+mod event;
+mod hosts;
 mod laws;
 mod line;
 mod lines;
+mod live;
+mod manager;
 mod report;
 mod run;
 mod stanza;
 mod text;
+mod words;
 
 pub use drive::run_drive;
 pub use driven::{DriveError, Driven};
-pub use laws::reports_have_the_longest_run;
+pub use laws::reports_tell_of_sessions;
 pub use line::{BadKind, LineRead, ScriptLine, read_line};
 pub use report::{ReportLine, print_line};

@@ -4,14 +4,17 @@ ghost use Rattle.std.specs.List.{list_all};
 ghost use Rattle.std.specs.Option.{option_copied};
 ghost use Rattle.body_cutter.specs.Chars.{is_allowed};
 ghost use Rattle.bosh_types.specs.Rid.{rid_of};
-ghost use Rattle.script_text.specs.Line.{line_of, open_of, short_of, host_of, greeting_of, post_of, connection_of, other_line, word_of, rest_of, is_allowed_text, is_host_name, is_later};
+ghost use Rattle.script_text.specs.Names.{is_allowed_text, is_host_name, is_sid};
+ghost use Rattle.script_text.specs.Line.{line_of, open_of, short_of, host_of, greeting_of, post_of, connection_of, word_of, rest_of, later_line, moment_of, at_of, close_of, back_of, closing_of, shut_of};
 
 use crate::stanza::{is_stanza, row_of};
 use body_cutter::is_allowed;
-use bosh_types::{Rid, Stanzas, Text};
+use bosh_types::{Closing, Condition, Moment, Rid, Stanzas, Text};
 use std::alloc::{AllocError, Global};
 
 const LONGEST_NAME: usize = 1023;
+
+const LONGEST_SID: usize = 64;
 
 /// Why a line of a script is bad. They are tested in this order.
 #[derive(Clone, Copy, Debug, PartialEq, Eq)]
@@ -22,10 +25,14 @@ pub enum BadKind {
     End,
     /// It has more than 2,097,152 bytes.
     Length,
-    /// It says something that this version doesn't know yet.
-    Later,
-    /// It is no line of a script.
+    /// It is no line of a script, or stands where such a line may not.
     Grammar,
+    /// It sets a moment that is over.
+    Time,
+    /// It posts on a connection that waits for an answer, or closes one that doesn't.
+    Connection,
+    /// It names a session that no creation was given.
+    Session,
 }
 
 /// A line of a script.
@@ -37,8 +44,16 @@ pub enum ScriptLine {
     Short { rid: Rid, stanza: Text },
     /// `host NAME GREETING`: the manager serves this host, and greets each new session with these stanzas.
     Host { name: Text, greeting: Stanzas },
+    /// `at MILLISECONDS`: it is this moment, counted from the beginning of the script.
+    At { moment: Moment },
     /// `post CONNECTION BODY`: a body arrives on this connection.
     Post { conn: u16, body: Text },
+    /// `close CONNECTION`: the connection breaks.
+    Close { conn: u16 },
+    /// `back SID STANZA`: the server gives the session a stanza.
+    Back { sid: Text, stanza: Text },
+    /// `shut SID CLOSING`: the server closes the stream of the session.
+    Shut { sid: Text, closing: Closing },
     /// `end`
     End,
 }
@@ -50,8 +65,7 @@ pub enum LineRead {
     BadLine(BadKind),
 }
 
-/// Reads one line, without its LF. A line is bad by its own bytes as `Grammar`, or as `Later` where its first word is `at`,
-/// `close`, `back` or `shut`.
+/// Reads one line, without its LF. A line is bad by its own bytes as `Grammar` alone.
 #[tactic(auto, unfolding(crate::specs::Line::line_of))]
 pub fn read_line(alloc: Global, line: &[u8]) -> Result<LineRead, AllocError>
     ensures { IfOk result (λ read. read ≡ line_of line.now) }
@@ -69,32 +83,31 @@ pub fn read_line(alloc: Global, line: &[u8]) -> Result<LineRead, AllocError>
     if word == b"post".as_slice() {
         return read_post(alloc, rest);
     }
-    Ok(read_other(line))
+    read_later(alloc, line)
 }
 
-// A line of another word.
-#[tactic(auto, unfolding(crate::specs::Line::other_line))]
-fn read_other(line: &[u8]) -> LineRead
-    ensures { result ≡ other_line line.now }
+// A line about a session that there is, or the last one.
+#[tactic(auto, unfolding(crate::specs::Line::later_line))]
+fn read_later(alloc: Global, line: &[u8]) -> Result<LineRead, AllocError>
+    ensures { IfOk result (λ read. read ≡ later_line line.now) }
 {
-    let (word, _) = split_word(line);
-    if is_later(word) {
-        return LineRead::BadLine(BadKind::Later);
+    let (word, rest) = split_word(line);
+    if word == b"at".as_slice() {
+        return Ok(read_at(rest));
+    }
+    if word == b"close".as_slice() {
+        return Ok(read_close(rest));
+    }
+    if word == b"back".as_slice() {
+        return read_back(alloc, rest);
+    }
+    if word == b"shut".as_slice() {
+        return read_shut(alloc, rest);
     }
     if line == b"end".as_slice() {
-        return LineRead::Line(ScriptLine::End);
+        return Ok(LineRead::Line(ScriptLine::End));
     }
-    LineRead::BadLine(BadKind::Grammar)
-}
-
-// The words of lines that this version doesn't know yet.
-#[tactic(auto, unfolding(crate::specs::Line::is_later))]
-fn is_later(word: &[u8]) -> bool
-    ensures { result ≡ is_later word.now }
-{
-    let is_time = word == b"at".as_slice() || word == b"close".as_slice();
-    let is_server = word == b"back".as_slice() || word == b"shut".as_slice();
-    is_time || is_server
+    Ok(LineRead::BadLine(BadKind::Grammar))
 }
 
 // The rest of a line `open RID`.
@@ -157,7 +170,7 @@ fn read_greeting(alloc: Global, text: Option<&[u8]>) -> Result<Option<Stanzas>, 
 }
 
 // Whether a host may have this name.
-#[tactic(auto, unfolding(crate::specs::Line::is_host_name))]
+#[tactic(auto, unfolding(crate::specs::Names::is_host_name))]
 fn is_host_name(name: &[u8]) -> bool
     ensures { result ≡ is_host_name name.now }
 {
@@ -207,6 +220,108 @@ fn read_connection(word: &[u8]) -> Option<u16>
 {
     let number = Rid::read(word)?.value();
     u16::try_from(number).ok()
+}
+
+// The rest of a line `at MILLISECONDS`.
+fn read_at(rest: Option<&[u8]>) -> LineRead
+    ensures { result ≡ at_of (option_copied rest.entry) }
+{
+    match rest.and_then(read_moment) {
+        Some(moment) => LineRead::Line(ScriptLine::At { moment }),
+        None => LineRead::BadLine(BadKind::Grammar),
+    }
+}
+
+// A number of milliseconds, from 0.
+#[tactic(auto, unfolding(crate::specs::Line::moment_of))]
+fn read_moment(text: &[u8]) -> Option<Moment>
+    ensures { result ≡ moment_of text.now }
+{
+    if text == b"0".as_slice() {
+        return Some(Moment::from_millis(0));
+    }
+    let millis = Rid::read(text)?.value();
+    Some(Moment::from_millis(millis))
+}
+
+// The rest of a line `close CONNECTION`.
+fn read_close(rest: Option<&[u8]>) -> LineRead
+    ensures { result ≡ close_of (option_copied rest.entry) }
+{
+    match rest.and_then(read_connection) {
+        Some(conn) => LineRead::Line(ScriptLine::Close { conn }),
+        None => LineRead::BadLine(BadKind::Grammar),
+    }
+}
+
+// Whether the word may name a session.
+fn is_sid(word: &[u8]) -> bool
+    ensures { result ≡ is_sid word.now }
+{
+    !word.is_empty() && word.len() <= LONGEST_SID
+}
+
+// The rest of a line `back SID STANZA`.
+fn read_back(alloc: Global, rest: Option<&[u8]>) -> Result<LineRead, AllocError>
+    ensures { IfOk result (λ read. read ≡ back_of (option_copied rest.entry)) }
+{
+    let Some(rest) = rest else {
+        return Ok(LineRead::BadLine(BadKind::Grammar));
+    };
+    let (sid, stanza) = split_word(rest);
+    if !is_sid(sid) {
+        return Ok(LineRead::BadLine(BadKind::Grammar));
+    }
+    let Some(stanza) = stanza else {
+        return Ok(LineRead::BadLine(BadKind::Grammar));
+    };
+    if !is_stanza(alloc, stanza)? {
+        return Ok(LineRead::BadLine(BadKind::Grammar));
+    }
+    let sid = Text::from_vec(Vec::from_slice(alloc, sid)?);
+    let stanza = Text::from_vec(Vec::from_slice(alloc, stanza)?);
+    Ok(LineRead::Line(ScriptLine::Back { sid, stanza }))
+}
+
+// The rest of a line `shut SID CLOSING`.
+fn read_shut(alloc: Global, rest: Option<&[u8]>) -> Result<LineRead, AllocError>
+    ensures { IfOk result (λ read. read ≡ shut_of (option_copied rest.entry)) }
+{
+    let Some(rest) = rest else {
+        return Ok(LineRead::BadLine(BadKind::Grammar));
+    };
+    let (sid, word) = split_word(rest);
+    if !is_sid(sid) {
+        return Ok(LineRead::BadLine(BadKind::Grammar));
+    }
+    let Some(word) = word else {
+        return Ok(LineRead::BadLine(BadKind::Grammar));
+    };
+    let Some(closing) = read_closing(word) else {
+        return Ok(LineRead::BadLine(BadKind::Grammar));
+    };
+    let sid = Text::from_vec(Vec::from_slice(alloc, sid)?);
+    Ok(LineRead::Line(ScriptLine::Shut { sid, closing }))
+}
+
+// The word for a closing of the server.
+#[tactic(auto, unfolding(crate::specs::Line::closing_of))]
+fn read_closing(word: &[u8]) -> Option<Closing>
+    ensures { result ≡ closing_of word.now }
+{
+    if word == b"plain".as_slice() {
+        return Some(Closing::Plain);
+    }
+    if word == Condition::RemoteConnectionFailed.name().as_bytes() {
+        return Some(Closing::RemoteConnectionFailed);
+    }
+    if word == Condition::RemoteStreamError.name().as_bytes() {
+        return Some(Closing::RemoteStreamError);
+    }
+    if word == Condition::SystemShutdown.name().as_bytes() {
+        return Some(Closing::SystemShutdown);
+    }
+    None
 }
 
 // The first word, and what follows the space after it.

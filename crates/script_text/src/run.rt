@@ -1,12 +1,12 @@
 // What a script is run over, and what a line of it does.
-ghost use Rattle.std.specs.Prelude.{◌≡◌, IfOk};
-ghost use Rattle.script_text.specs.Creation.{Does, bad_step, done_step};
+ghost use Rattle.std.specs.Prelude.{IfOk};
+ghost use Rattle.script_text.specs.Script.{bad_step, done_step};
+ghost use Rattle.script_text.specs.Stands.{Does};
 
 use crate::driven::Driven;
 use crate::line::BadKind;
+use crate::manager::Manager;
 use crate::report::ReportLine;
-use bosh_types::HostNames;
-use session_core::Bare;
 use std::alloc::{AllocError, Global};
 
 // What the lines so far make of a script.
@@ -14,20 +14,10 @@ use std::alloc::{AllocError, Global};
 pub(crate) enum Run {
     // No line was read.
     Beginning,
-    // It tells of arrivals at one session.
-    Arrivals(Bare),
-    // It tells of bodies that arrive at a manager.
-    Creations(Manager),
-}
-
-// A manager whose sessions are created, and nothing more so far.
-#[derive(Drop)]
-pub(crate) struct Manager {
-    pub(crate) hosts: HostNames,
-    // How many sessions were created.
-    pub(crate) opened: u32,
-    // A body came, so no further host may.
-    pub(crate) posted: bool,
+    // It tells of the requests of one session.
+    Arrivals(Manager),
+    // It tells of bodies, and of all else that comes to a manager.
+    Bodies(Manager),
 }
 
 // What follows a line.

@@ -1,13 +1,15 @@
 // Stanzas and rows of stanzas, as scripts have them.
-ghost use Rattle.std.specs.Prelude.{◌≡◌, slice_range, IfOk};
+ghost use Rattle.std.specs.Prelude.{◌≡◌, slice_range, IfOk, length, nat_le, sum_by};
+ghost use Rattle.std.specs.List.{list_all};
+ghost use Rattle.bosh_types.specs.Limits.{longest_stanza};
 ghost use Rattle.body_cutter.specs.Cutting.{is_stanza};
+ghost use Rattle.script_text.specs.Hosts.{may_greet};
 ghost use Rattle.script_text.specs.Stanza.{parts_of, is_row, row_of, slices_of, within_body};
 
 use body_cutter::{Cut, CutError, Span, cut, read_stanza};
+use bosh_types::limits::{LONGEST_STANZA, MOST_WAITING};
 use bosh_types::{Stanzas, Text};
 use std::alloc::{AllocError, Global};
-
-const LONGEST_ROW: usize = 1_000_000;
 
 // Whether the text is a stanza by itself.
 #[tactic(auto, unfolding(body_cutter::specs::Cutting::is_stanza))]
@@ -37,9 +39,6 @@ pub(crate) fn parts_of(alloc: Global, text: &[u8]) -> Result<Option<Cut>, AllocE
 pub(crate) fn row_of(alloc: Global, text: &[u8]) -> Result<Option<Stanzas>, AllocError>
     ensures { IfOk result (λ row. row ≡ row_of text.now) }
 {
-    if text.len() > LONGEST_ROW {
-        return Ok(None);
-    }
     let body = within_body(alloc, text)?;
     let Some(parts) = parts_of(alloc, &body)? else {
         return Ok(None);
@@ -47,7 +46,48 @@ pub(crate) fn row_of(alloc: Global, text: &[u8]) -> Result<Option<Stanzas>, Allo
     if !is_row(6, parts.children.as_slice(), 6 + text.len()) {
         return Ok(None);
     }
-    Ok(Some(slices_of(alloc, &body, parts.children.as_slice())?))
+    let stanzas = slices_of(alloc, &body, parts.children.as_slice())?;
+    if !may_greet(alloc, stanzas.as_slice())? {
+        return Ok(None);
+    }
+    Ok(Some(stanzas))
+}
+
+// Whether one answer may take these: at most 1024 stanzas of at most 1,000,000 bytes in all.
+#[tactic(auto, unfolding(crate::specs::Hosts::may_greet))]
+fn may_greet(alloc: Global, stanzas: &[Text]) -> Result<bool, AllocError>
+    ensures { IfOk result (λ may. may ≡ may_greet stanzas.now) }
+{
+    if stanzas.len() > MOST_WAITING || !fits(stanzas) {
+        return Ok(false);
+    }
+    all_stanzas(alloc, stanzas)
+}
+
+// Whether the texts have at most 1,000,000 bytes in all.
+fn fits(texts: &[Text]) -> bool
+    ensures { result ≡ nat_le (sum_by (λ text. length text) texts.now) longest_stanza }
+{
+    let mut room = LONGEST_STANZA;
+    for text in texts {
+        if text.len() > room {
+            return false;
+        }
+        room -= text.len();
+    }
+    true
+}
+
+// Whether each text is a stanza by itself.
+fn all_stanzas(alloc: Global, texts: &[Text]) -> Result<bool, AllocError>
+    ensures { IfOk result (λ all. all ≡ list_all is_stanza texts.now) }
+{
+    for text in texts {
+        if !is_stanza(alloc, text.as_slice())? {
+            return Ok(false);
+        }
+    }
+    Ok(true)
 }
 
 // The text as the content of a body.
