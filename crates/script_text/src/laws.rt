@@ -1,8 +1,18 @@
-// What is true of every script, whatever runs it.
-ghost use Rattle.std.specs.Prelude.{ℕ, List};
-ghost use Rattle.script_text.specs.Script.{drive_of, InwardIsLongestRun};
+ghost use Rattle.std.specs.Prelude.{All, List, ℕ};
+ghost use Rattle.script_text.specs.Answered.{IsAccounted};
+ghost use Rattle.script_text.specs.Headline.{KeepsItsWord, opened_by, sessions_of};
+ghost use Rattle.script_text.specs.Posted.{CameFrom, posts_by};
+ghost use Rattle.script_text.specs.Script.{drive_of};
 
-/// What a script's report says went inward is the longest unbroken run of the request ids that arrived.
-pub fn reports_have_the_longest_run()
-    ensures { (script : List ℕ) → InwardIsLongestRun (drive_of script) }
-{}
+use session_laws::every_journal_keeps_the_laws;
+
+/// What the report of every script, whatever its bytes, says of the sessions that it opens: of each what went inward, once and
+/// in order, and how it ended; that to each came what the script posted for it; and that each answer that went out is what one
+/// of them gave an id for good, or refuses a request.
+pub fn reports_tell_of_sessions()
+    ensures told { (script : List ℕ) → KeepsItsWord (drive_of script) }
+    ensures came { (script : List ℕ) → All (CameFrom (posts_by script)) (sessions_of (drive_of script)) }
+    ensures answers { (script : List ℕ) → All (IsAccounted (opened_by (drive_of script)) (sessions_of (drive_of script))) (drive_of script).report }
+{
+    every_journal_keeps_the_laws();
+}

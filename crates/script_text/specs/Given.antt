@@ -1,0 +1,18 @@
+-- What is said of a script whose whole report was given.
+use Rattle.std.specs.Prelude.{ℕ, List, Option, All}
+use Rattle.std.specs.Io.KnownBytes.{Appends}
+use Rattle.script_text.specs.Answered.{IsAccounted}
+use Rattle.script_text.specs.Headline.{KeepsItsWord, opened_by, sessions_of}
+use Rattle.script_text.specs.Posted.{CameFrom, posts_by}
+use Rattle.script_text.specs.Report.{report_text}
+use Rattle.script_text.specs.Script.{drive_of}
+
+pub record GivesItsReport (script : List ℕ) (old new : Option (List ℕ)) : Type 0 where
+  -- the sink was given the report and nothing else
+  pub given : Appends old new (report_text (drive_of script).report)
+  -- which tells of each session, by its journal, what went inward, once and in order, and how it ended
+  pub told : KeepsItsWord (drive_of script)
+  -- and to each session came what the script posted for it
+  pub came : All (CameFrom (posts_by script)) (sessions_of (drive_of script))
+  -- and each answer that went out is what a session gave an id for good, or refuses a request
+  pub answers : All (IsAccounted (opened_by (drive_of script)) (sessions_of (drive_of script))) (drive_of script).report
