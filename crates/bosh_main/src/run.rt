@@ -2,8 +2,9 @@
 ghost use Rattle.std.specs.Prelude.{◌≡◌, ◌≢◌, ◌↔◌, List, [], ◌∷◌, IfSome, IsTrue, Contains};
 ghost use Rattle.bosh_ports.specs.Faults.{HasRisen};
 ghost use Rattle.bosh_ports.specs.Sink.{AppendsFront};
+ghost use Rattle.script_text.specs.Given.{GivesItsReport};
 ghost use Rattle.script_text.specs.Report.{report_text};
-ghost use Rattle.script_text.specs.Script.{drive_of, GivesLongestRun};
+ghost use Rattle.script_text.specs.Script.{drive_of};
 ghost use Rattle.bosh_main.specs.Run.{IsDrive, ReportsStatus};
 
 use bosh_ports::{Sink, Source};
@@ -47,9 +48,10 @@ pub fn run_local<S: Source, K: Sink>(
     ensures part_written { result ≡ 5 → IfSome (S.left source.old) (λ script. AppendsFront (K.given sink.old) (K.given sink.new) (report_text (drive_of script).report)) }
     ensures part_in_memory { result ≡ 6 → IfSome (S.left source.old) (λ script. AppendsFront (K.given sink.old) (K.given sink.new) (report_text (drive_of script).report)) }
 
-    // What a whole report that was given says went inward is the longest unbroken run of the request ids that arrived.
-    ensures longest_done { result ≡ 0 → IfSome (S.left source.old) (λ script. GivesLongestRun (drive_of script) (K.given sink.old) (K.given sink.new)) }
-    ensures longest_bad { result ≡ 3 → IfSome (S.left source.old) (λ script. GivesLongestRun (drive_of script) (K.given sink.old) (K.given sink.new)) }
+    // A whole report that was given keeps its word: it tells of each session, by its journal, what went inward, once and in
+    // order, and how it ended; each was sent what the script posted for it; and each answer is what an id was given for good.
+    ensures headline_done { result ≡ 0 → IfSome (S.left source.old) (λ script. GivesItsReport script (K.given sink.old) (K.given sink.new)) }
+    ensures headline_bad { result ≡ 3 → IfSome (S.left source.old) (λ script. GivesItsReport script (K.given sink.old) (K.given sink.new)) }
 
     // A count of faults rises with the status that names it, and with no other.
     ensures read_fault { result ≡ 4 → HasRisen (S.faults source.old) (S.faults source.new) }
