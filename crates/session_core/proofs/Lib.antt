@@ -1,6 +1,4 @@
-pub mod BareLemmas
 pub mod RowTools
-pub mod RunLemmas
 pub mod NamedValues
 pub mod ReadBackRows
 pub mod WrittenNumbers

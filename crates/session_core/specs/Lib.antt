@@ -1,8 +1,5 @@
 pub mod Answers
 pub mod Arriving
-pub mod Bare
-pub mod BareEnding
-pub mod BareRun
 pub mod Copy
 pub mod Endings
 pub mod Facts

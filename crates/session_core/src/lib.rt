@@ -1,12 +1,9 @@
 // One session, apart from every connection, clock and thread: which request stands for an id, what goes inward, what each
-// request is answered, and when the session ends. `Session` is a session as a manager holds it; `Bare` keeps all that arrived,
-// knows of nothing else, and searches it each time.
+// request is answered, and when the session ends. `Session` is a session as a manager holds it.
 #![tactic(auto)]
 
 mod answering;
-mod arrival;
 mod arriving;
-mod bare;
 mod collecting;
 mod copy;
 mod copying;
@@ -22,7 +19,6 @@ mod processing;
 mod reasons;
 mod replies;
 mod rules;
-mod search;
 mod serving;
 mod session;
 mod tickets;
@@ -31,8 +27,6 @@ mod timing;
 mod words;
 mod written;
 
-pub use arrival::Arrival;
-pub use bare::{Bare, BareSeen};
 pub use copy::RequestCopy;
 pub use held::{HeldRequest, HeldRequests};
 pub use inbox::Inbox;
@@ -44,5 +38,7 @@ pub use replies::{Arrived, Collected, Taken, Ticked, Waiting};
 pub use session::Session;
 pub use tickets::{OpenTicket, Tickets};
 
+#[cfg(test)]
+mod call_tests;
 #[cfg(test)]
 mod tests;
