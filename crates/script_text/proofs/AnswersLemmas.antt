@@ -1,8 +1,8 @@
--- What the answers of one turn are.
-use Rattle.std.proofs.Common.{◌≡◌, ℕ, zero, suc, ◌==◌, Bool, true, false, List, [], ◌∷◌, ◌++◌, All, map, length, Option, Some, None, refl, ◌∙◌, ap, cond, inl, inr, if◌then◌else◌}
+-- What the answers of one turn are, and what the requests that wait on are for.
+use Rattle.std.proofs.Common.{◌≡◌, ℕ, zero, suc, ◌==◌, Bool, true, false, List, [], ◌∷◌, ◌++◌, All, map, length, Option, Some, None, refl, sym, subst, ◌∙◌, ap, cond, inl, inr, if◌then◌else◌}
 use Rattle.std.specs.Prelude.{⊤, ◌⊎◌}
 use Rattle.std.specs.Option.{option_map, option_or}
-use Rattle.std.proofs.lemmas.List.Elements.{All-nil, All-cons, All-append, All-weaker}
+use Rattle.std.proofs.lemmas.List.Elements.{All-nil, All-cons, All-head, All-tail, All-append, All-weaker}
 use Rattle.bosh_types.specs.declared.condition.Condition.TheVariants.{ItemNotFound, UndefinedCondition}
 use Rattle.bosh_types.specs.declared.ending.Ending.{Ending}
 use Rattle.bosh_types.specs.declared.inward.Inward.{Inward}
@@ -20,21 +20,25 @@ use Rattle.session_core.specs.declared.replies.Ticked.TheVariants.{Changed, Quie
 use Rattle.session_core.specs.Copy.{unnamed}
 use Rattle.session_core.specs.Journal.{Call, Arrive, Back, BackClosed, Collect, Tick, TakeInward, Entered, Journal, ToArrive, IsJournal, IsAllowed, state_of, step, entered_by, called}
 use Rattle.session_core.specs.Machine.{Opening, opened, created_parts, bytes_for, arrive, back, back_closed, tick}
-use Rattle.session_core.specs.State.{PlainSession}
+use Rattle.session_core.specs.State.{PlainSession, Issued}
+use Rattle.session_core.specs.TicketsOut.{issued_at}
 use Rattle.session_laws.specs.Replies.{IsToldTo}
 use Rattle.session_laws.specs.Tickets.{Tells}
 use Rattle.session_laws.proofs.LawsOf.{every_answer_told, every_same_bytes}
+use Rattle.session_laws.proofs.Tests.{some_is}
 use Rattle.session_laws.proofs.TicketLemmas.{collect_tells}
 use Rattle.script_text.specs.declared.event.Event.{Event}
 use Rattle.script_text.specs.declared.event.Event.TheVariants.{Arrives, Gives, Shuts, Passes}
 use Rattle.script_text.specs.declared.live.Parked.{Parked}
 use Rattle.script_text.specs.declared.report.ReportLine.{ReportLine}
 use Rattle.script_text.specs.declared.report.ReportLine.TheVariants.{In, Out, Lost, Gone, Refused, Over, Done, Bad}
-use Rattle.script_text.specs.Answered.{IsRefusal}
-use Rattle.script_text.specs.Live.{PlainLive, state, Turn, with_entered, after_call, untold, with_taken, all_taken, fate, fate_lines, collected_lines, all_collected, over_lines, settled_after, told, refused_first, with_journal, with_parked, not_found, arrived, refusal_of_back, refusal_of_shut, ticked, turn_at}
+use Rattle.script_text.specs.Answered.{Posting, IsRefusal, Asks, IsFor}
+use Rattle.script_text.specs.Live.{PlainLive, state, Turn, with_entered, after_call, untold, with_taken, all_taken, fate, answer_line, fate_lines, is_not_yet, still, still_parked, collected_lines, all_collected, over_lines, settled_after, told, refused_first, with_journal, with_parked, not_found, arrived, refusal_of_back, refusal_of_shut, ticked, turn_at}
 use Rattle.script_text.specs.Manager.{opened_live}
 use Rattle.script_text.specs.Stands.{IsEvent}
 use Rattle.script_text.proofs.JournalSteps.{after_is, after_made}
+use Rattle.script_text.proofs.BodiesLemmas.{with_opening}
+use Rattle.script_text.proofs.TicketIds.{KeepsIds, id_at, called_reply, after_keeps_ids, issued_id, parked_id}
 use Rattle.script_text.proofs.ToldLemmas.{same_number}
 use Rattle.script_text.proofs.TurnLemmas.{IsUp}
 
@@ -49,19 +53,31 @@ keeps_by journal (Some entered) made = λ rid bytes is. every_same_bytes journal
 after_keeps : (journal : Journal) (call : Call) → IsJournal journal → IsAllowed call → KeepsBytes (state_of journal) (state_of (after_call journal call))
 after_keeps journal call made allowed = keeps_by journal (entered_by (state_of journal) call) (after_made journal call made allowed)
 
--- a journal that goes on: it is one, and gives what it gave
+-- a journal that goes on: it is one, opened by the same request, gives what it gave, and its tickets are for what they were
 record GoesTo (journal later : Journal) : Type 0 where
   pub made : IsJournal later
+  pub opening : later.opening ≡ journal.opening
   pub keeps : KeepsBytes (state_of journal) (state_of later)
+  pub ids : KeepsIds (state_of journal).tickets (state_of later).tickets
 
 goes_same : (journal : Journal) → IsJournal journal → GoesTo journal journal
-goes_same journal made = record { made = made; keeps = λ rid bytes is. is }
+goes_same journal made = record { made = made; opening = refl; keeps = λ rid bytes is. is; ids = λ number rid is. is }
 
 goes_on : (one two three : Journal) → GoesTo one two → GoesTo two three → GoesTo one three
-goes_on one two three first next = record { made = next.made; keeps = λ rid bytes is. next.keeps rid bytes (first.keeps rid bytes is) }
+goes_on one two three first next = record {
+  made = next.made;
+  opening = next.opening ∙ first.opening;
+  keeps = λ rid bytes is. next.keeps rid bytes (first.keeps rid bytes is);
+  ids = λ number rid is. next.ids number rid (first.ids number rid is);
+}
 
 call_goes : (journal : Journal) (call : Call) → IsJournal journal → IsAllowed call → GoesTo journal (after_call journal call)
-call_goes journal call made allowed = record { made = after_made journal call made allowed; keeps = after_keeps journal call made allowed }
+call_goes journal call made allowed = record {
+  made = after_made journal call made allowed;
+  opening = with_opening journal (entered_by (state_of journal) call);
+  keeps = after_keeps journal call made allowed;
+  ids = after_keeps_ids journal made call;
+}
 
 taken_goes : (count : ℕ) (journal : Journal) → IsJournal journal → GoesTo journal (with_taken count journal)
 taken_goes zero journal made = goes_same journal made
@@ -81,145 +97,254 @@ settled_goes s made =
     let one = taken_goes (length (untold s.journal)) s.journal made in
     goes_on s.journal (all_taken s.journal) (settled_after s).journal one (collected_goes s.parked (all_taken s.journal) one.made)
 
--- an answer is what this state gives an id, or a refusal
-abbrev pub IsOf : PlainSession → ReportLine → Type 0
-IsOf s (In session item) = ⊤
-IsOf s (Out conn body) = IsRefusal body ⊎ ((rid : ℕ) × (bytes_for s rid ≡ Some body))
-IsOf s (Lost conn) = ⊤
-IsOf s (Gone conn) = ⊤
-IsOf s (Refused session refusal) = ⊤
-IsOf s (Over session ending) = ⊤
-IsOf s (Done line) = ⊤
-IsOf s (Bad line kind) = ⊤
-
-of_later : (s t : PlainSession) → KeepsBytes s t → (line : ReportLine) → IsOf s line → IsOf t line
-of_later s t keeps (In session item) is = tt
-of_later s t keeps (Out conn body) is = elim is [
-  | inl refusal ↦ inl refusal
-  | inr given ↦ inr (given.0, keeps given.0 body given.1)
+-- a request is for this session later too
+pub for_later : (request : Request) (number : ℕ) (journal later : Journal) → later.opening ≡ journal.opening → IsFor request number journal → IsFor request number later
+for_later request number journal later same is = elim is [
+  | inl names ↦ inl names
+  | inr created ↦ inr (ap (λ (o : Opening). o.request) same ∙ created)
 ]
-of_later s t keeps (Lost conn) is = tt
-of_later s t keeps (Gone conn) is = tt
-of_later s t keeps (Refused session refusal) is = tt
-of_later s t keeps (Over session ending) is = tt
-of_later s t keeps (Done line) is = tt
-of_later s t keeps (Bad line kind) is = tt
 
-one_of : (s : PlainSession) (line : ReportLine) → IsOf s line → All (IsOf s) (line ∷ [])
-one_of s line is = All-cons (IsOf s) line [] is (All-nil (IsOf s))
+-- an answer is what this session gives the id of the latest request on its connection, or a refusal
+abbrev pub IsOf : List Posting → ℕ → Journal → ReportLine → Type 0
+IsOf posted number journal (In session item) = ⊤
+IsOf posted number journal (Out conn body) =
+    IsRefusal body ⊎ ((request : Request) × Asks posted conn request × IsFor request number journal × (bytes_for (state_of journal) request.rid ≡ Some body))
+IsOf posted number journal (Lost conn) = ⊤
+IsOf posted number journal (Gone conn) = ⊤
+IsOf posted number journal (Refused session refusal) = ⊤
+IsOf posted number journal (Over session ending) = ⊤
+IsOf posted number journal (Done line) = ⊤
+IsOf posted number journal (Bad line kind) = ⊤
 
-all_later : (s t : PlainSession) → KeepsBytes s t → (lines : List ReportLine) → All (IsOf s) lines → All (IsOf t) lines
-all_later s t keeps lines all = All-weaker (IsOf s) (IsOf t) (of_later s t keeps) lines all
+-- a request that waits on an open connection is the latest there, and its ticket is for its id
+abbrev pub WaitsFor : List Posting → ℕ → Journal → Parked → Type 0
+WaitsFor posted number journal parked =
+    parked.is_open ≡ true
+    → (request : Request) × Asks posted parked.conn request × IsFor request number journal × (id_at (state_of journal).tickets parked.ticket ≡ Some request.rid)
 
--- Collected tickets.
+abbrev pub Waiting : List Posting → PlainLive → Type 0
+Waiting posted s = All (WaitsFor posted s.number s.journal) s.parked
 
-answer_of : (s : PlainSession) (is_open : Bool) (conn : ℕ) (body : List ℕ) (rid : ℕ) → bytes_for s rid ≡ Some body → All (IsOf s) ((if is_open then Out conn body else Lost conn) ∷ [])
-answer_of s true conn body rid is = one_of s (Out conn body) (inr (rid, is))
-answer_of s false conn body rid is = one_of s (Lost conn) tt
-
-gone_of : (s : PlainSession) (is_open : Bool) (conn : ℕ) → All (IsOf s) (if is_open then Gone conn ∷ [] else [])
-gone_of s true conn = one_of s (Gone conn) tt
-gone_of s false conn = All-nil (IsOf s)
-
-fate_of : (s : PlainSession) (parked : Parked) (reply : Collected) → Tells s parked.ticket reply → All (IsOf s) (fate_lines parked reply)
-fate_of s parked (collections.Answer body) tells = answer_of s parked.is_open parked.conn body tells.0.rid tells.3
-fate_of s parked collections.NotYet tells = All-nil (IsOf s)
-fate_of s parked collections.Superseded tells = gone_of s parked.is_open parked.conn
-fate_of s parked collections.UnknownTicket tells = All-nil (IsOf s)
-
-collected_of : (parked : List Parked) (journal : Journal) → IsJournal journal → All (IsOf (state_of (all_collected journal parked))) (collected_lines journal parked)
-collected_of [] journal made = All-nil (IsOf (state_of journal))
-collected_of (first ∷ parked) journal made =
-    let next : Journal = after_call journal (Collect first.ticket) in
-    let end : PlainSession = state_of (all_collected next parked) in
-    let one = call_goes journal (Collect first.ticket) made tt in
-    let all = goes_on journal next (all_collected next parked) one (collected_goes parked next one.made) in
-    All-append (IsOf end) (fate_lines first (fate journal first)) (collected_lines next parked)
-    (all_later (state_of journal) end all.keeps (fate_lines first (fate journal first)) (fate_of (state_of journal) first (fate journal first) (collect_tells (state_of journal) first.ticket)))
-    (collected_of parked next one.made)
-
-items_of : (s : PlainSession) (n : ℕ) (items : List Inward) → All (IsOf s) (map (In n) items)
-items_of s n [] = All-nil (IsOf s)
-items_of s n (item ∷ items) = All-cons (IsOf s) (In n item) (map (In n) items) tt (items_of s n items)
-
-over_of : (s : PlainSession) (n : ℕ) (ending : Option Ending) → All (IsOf s) (over_lines n ending)
-over_of s n None = All-nil (IsOf s)
-over_of s n (Some ending) = one_of s (Over n ending) tt
-
--- the answers of a turn are what its session gives an id after it, and it gives what it gave
-pub record Answers (s : PlainLive) (turn : Turn) : Type 0 where
-  pub keeps : KeepsBytes (state s) (state turn.after)
-  pub are : All (IsOf (state turn.after)) turn.lines
-
-told_answers : (s : PlainLive) (answer : List ReportLine) → IsJournal s.journal → All (IsOf (state s)) answer → Answers s (told s answer)
-told_answers s answer made are =
-    let goes = settled_goes s made in
-    let end : PlainSession = state (settled_after s) in
-    let lines : List ReportLine = collected_lines (all_taken s.journal) s.parked in
-    let last : List ReportLine = over_lines s.number end.ending in
-    record {
-      keeps = goes.keeps;
-      are = All-append (IsOf end) (map (In s.number) (untold s.journal)) (answer ++ (lines ++ last)) (items_of end s.number (untold s.journal))
-          (All-append (IsOf end) answer (lines ++ last) (all_later (state s) end goes.keeps answer are)
-          (All-append (IsOf end) lines last (collected_of s.parked (all_taken s.journal) (taken_goes (length (untold s.journal)) s.journal made).made) (over_of end s.number end.ending)));
-    }
-
-module _ (s : PlainLive) (up : IsUp s) (call : Call) (allowed : IsAllowed call) where
-  called_answers : (parked : List Parked) (answer : List ReportLine) → All (IsOf (state_of (after_call s.journal call))) answer
-      → Answers s (told (record s { journal = after_call s.journal call; parked = parked }) answer)
-  called_answers parked answer are =
-      let one = call_goes s.journal call up.made allowed in
-      let after = told_answers (record s { journal = after_call s.journal call; parked = parked }) answer one.made are in
-      record { keeps = λ rid bytes is. after.keeps rid bytes (one.keeps rid bytes is); are = after.are }
-
-refused_answers : (s : PlainLive) (lines : List ReportLine) (turn : Turn) → ((t : PlainSession) → All (IsOf t) lines) → Answers s turn → Answers s (refused_first lines turn)
-refused_answers s lines turn these a = record { keeps = a.keeps; are = All-append (IsOf (state turn.after)) lines turn.lines (these (state turn.after)) a.are }
-
-back_of : (s : PlainSession) (n : ℕ) (reply : Taken) → All (IsOf s) (refusal_of_back n reply)
-back_of s n takings.Done = All-nil (IsOf s)
-back_of s n takings.Full = one_of s (Refused n _) tt
-back_of s n takings.Over = one_of s (Refused n _) tt
-
-shut_of : (s : PlainSession) (n : ℕ) (reply : Taken) → All (IsOf s) (refusal_of_shut n reply)
-shut_of s n takings.Done = All-nil (IsOf s)
-shut_of s n takings.Full = All-nil (IsOf s)
-shut_of s n takings.Over = one_of s (Refused n _) tt
-
-module _ (s : PlainLive) (up : IsUp s) (request : Request) (body : List ℕ) (now : ℕ) (allowed : IsAllowed (Arrive request body now)) where
-  abbrev arriving : Call
-  arriving = Arrive request body now
-
-  told_to : (bytes : List ℕ) → IsToldTo (step (state s) arriving).0 request.rid bytes → IsRefusal bytes ⊎ ((rid : ℕ) × (bytes_for (state_of (after_call s.journal arriving)) rid ≡ Some bytes))
-  told_to bytes is = elim is [
-    | inl given ↦ inr (request.rid, ap (λ (t : PlainSession). bytes_for t request.rid) (after_is s.journal arriving) ∙ given)
-    | inr refused ↦ elim refused.1 [
-      | inl lost ↦ inl (ItemNotFound, lost)
-      | inr full ↦ inl (UndefinedCondition, full)
-    ]
+module _ (posted : List Posting) (number : ℕ) where
+  of_later : (journal later : Journal) → GoesTo journal later → (line : ReportLine) → IsOf posted number journal line → IsOf posted number later line
+  of_later journal later goes (In session item) is = tt
+  of_later journal later goes (Out conn body) is = elim is [
+    | inl refusal ↦ inl refusal
+    | inr given ↦ inr (given.0, given.1, for_later given.0 number journal later goes.opening given.2, goes.keeps given.0.rid body given.3)
   ]
+  of_later journal later goes (Lost conn) is = tt
+  of_later journal later goes (Gone conn) is = tt
+  of_later journal later goes (Refused session refusal) is = tt
+  of_later journal later goes (Over session ending) is = tt
+  of_later journal later goes (Done line) is = tt
+  of_later journal later goes (Bad line kind) is = tt
 
-  arrived_answers : (conn : ℕ) (reply : Arrived) → (arrive (state s) request body now).1 ≡ reply → Answers s (arrived (with_journal s (after_call s.journal arriving)) conn reply)
-  arrived_answers conn (arrivals.Answer answer) is =
-      let told = every_answer_told s.journal up.made request body now answer allowed up.goes_on (called_reply (arrive (state s) request body now) ∙ ap ToArrive is) in
-      called_answers s up arriving allowed s.parked (Out conn answer ∷ []) (one_of (state_of (after_call s.journal arriving)) (Out conn answer) (told_to answer told))
+  one_of : (journal : Journal) (line : ReportLine) → IsOf posted number journal line → All (IsOf posted number journal) (line ∷ [])
+  one_of journal line is = All-cons (IsOf posted number journal) line [] is (All-nil (IsOf posted number journal))
+
+  none_of : (journal : Journal) → All (IsOf posted number journal) []
+  none_of journal = All-nil (IsOf posted number journal)
+
+  all_later : (journal later : Journal) → GoesTo journal later → (lines : List ReportLine) → All (IsOf posted number journal) lines → All (IsOf posted number later) lines
+  all_later journal later goes lines all = All-weaker (IsOf posted number journal) (IsOf posted number later) (of_later journal later goes) lines all
+
+  waits_later : (journal later : Journal) → GoesTo journal later → (parked : Parked) → WaitsFor posted number journal parked → WaitsFor posted number later parked
+  waits_later journal later goes parked waits is_open =
+      let w = waits is_open in
+      (w.0, w.1, for_later w.0 number journal later goes.opening w.2, goes.ids parked.ticket w.0.rid w.3)
+
+  all_waits_later : (journal later : Journal) → GoesTo journal later → (parked : List Parked) → All (WaitsFor posted number journal) parked
+      → All (WaitsFor posted number later) parked
+  all_waits_later journal later goes parked all = All-weaker (WaitsFor posted number journal) (WaitsFor posted number later) (waits_later journal later goes) parked all
+
+  -- Collected tickets.
+
+  -- what the ticket's id was given
+  same_id : (journal : Journal) (ticket : ℕ) (body : List ℕ) (request : Request) (t : Issued) → id_at (state_of journal).tickets ticket ≡ Some request.rid
+      → issued_at (state_of journal).tickets ticket ≡ Some t → bytes_for (state_of journal) t.rid ≡ Some body → bytes_for (state_of journal) request.rid ≡ Some body
+  same_id journal ticket body request t asked issued gives =
+      let same : t.rid ≡ request.rid = some_is t.rid request.rid (sym (issued_id (state_of journal).tickets ticket t issued) ∙ asked) in
+      subst (λ rid. bytes_for (state_of journal) rid ≡ Some body) same gives
+
+  answer_of : (journal : Journal) (parked : Parked) (body : List ℕ) → WaitsFor posted number journal parked → Tells (state_of journal) parked.ticket (collections.Answer body)
+      → All (IsOf posted number journal) (answer_line parked body ∷ [])
+  answer_of journal parked body waits tells = by parked.is_open refl
     where
-      called_reply : (p : PlainSession × Arrived) → (called ToArrive p).1 ≡ ToArrive p.1
-      called_reply (t, r) = refl
-  arrived_answers conn (arrivals.Parked ticket) is = called_answers s up arriving allowed (with_parked s ticket conn).parked [] (All-nil _)
-  arrived_answers conn arrivals.Over is = called_answers s up arriving allowed s.parked (not_found conn ∷ []) (one_of (state_of (after_call s.journal arriving)) (not_found conn) (inl (ItemNotFound, refl)))
+      by : (b : Bool) → parked.is_open ≡ b → All (IsOf posted number journal) ((if b then Out parked.conn body else Lost parked.conn) ∷ [])
+      by true is =
+          let w = waits is in
+          one_of journal (Out parked.conn body) (inr (w.0, w.1, w.2, same_id journal parked.ticket body w.0 tells.0 w.3 tells.1 tells.3))
+      by false is = one_of journal (Lost parked.conn) tt
 
-ticked_answers : (s : PlainLive) (up : IsUp s) (now : ℕ) (reply : Ticked) → Answers s (ticked s (with_journal s (after_call s.journal (Tick now))) reply)
-ticked_answers s up now Quiet = record { keeps = λ rid bytes is. is; are = All-nil (IsOf (state s)) }
-ticked_answers s up now Changed = called_answers s up (Tick now) tt s.parked [] (All-nil _)
+  gone_of : (journal : Journal) (is_open : Bool) (conn : ℕ) → All (IsOf posted number journal) (if is_open then Gone conn ∷ [] else [])
+  gone_of journal true conn = one_of journal (Gone conn) tt
+  gone_of journal false conn = none_of journal
 
--- whatever comes to a session
-pub turn_answers : (s : PlainLive) (now : ℕ) (event : Event) → IsUp s → IsEvent event → Answers s (turn_at now event s)
-turn_answers s now (Arrives conn request body) up allowed = arrived_answers s up request body now allowed conn (arrive (state s) request body now).1 refl
-turn_answers s now (Gives stanza) up allowed = refused_answers s _ _ (λ t. back_of t s.number (back (state s) unnamed stanza now).1)
-    (called_answers s up (Back unnamed stanza now) allowed s.parked [] (All-nil _))
-turn_answers s now (Shuts closing) up allowed = refused_answers s _ _ (λ t. shut_of t s.number (back_closed (state s) unnamed closing now).1)
-    (called_answers s up (BackClosed unnamed closing now) tt s.parked [] (All-nil _))
-turn_answers s now Passes up allowed = ticked_answers s up now (tick (state s) now).1
+  fate_of : (journal : Journal) (parked : Parked) (reply : Collected) → WaitsFor posted number journal parked → Tells (state_of journal) parked.ticket reply
+      → All (IsOf posted number journal) (fate_lines parked reply)
+  fate_of journal parked (collections.Answer body) waits tells = answer_of journal parked body waits tells
+  fate_of journal parked collections.NotYet waits tells = none_of journal
+  fate_of journal parked collections.Superseded waits tells = gone_of journal parked.is_open parked.conn
+  fate_of journal parked collections.UnknownTicket waits tells = none_of journal
+
+  collected_of : (parked : List Parked) (journal : Journal) → IsJournal journal → All (WaitsFor posted number journal) parked
+      → All (IsOf posted number (all_collected journal parked)) (collected_lines journal parked)
+  collected_of [] journal made waits = none_of journal
+  collected_of (first ∷ parked) journal made waits =
+      let next : Journal = after_call journal (Collect first.ticket) in
+      let end : Journal = all_collected next parked in
+      let one = call_goes journal (Collect first.ticket) made tt in
+      let all = goes_on journal next end one (collected_goes parked next one.made) in
+      All-append (IsOf posted number end) (fate_lines first (fate journal first)) (collected_lines next parked)
+      (all_later journal end all (fate_lines first (fate journal first))
+      (fate_of journal first (fate journal first) (All-head (WaitsFor posted number journal) first parked waits) (collect_tells (state_of journal) first.ticket)))
+      (collected_of parked next one.made (all_waits_later journal next one parked (All-tail (WaitsFor posted number journal) first parked waits)))
+
+  still_waits : (journal : Journal) (parked : Parked) (reply : Collected) → WaitsFor posted number journal parked → All (WaitsFor posted number journal) (still parked reply)
+  still_waits journal parked reply waits = by (is_not_yet reply)
+    where
+      by : (b : Bool) → All (WaitsFor posted number journal) (if b then parked ∷ [] else [])
+      by true = All-cons (WaitsFor posted number journal) parked [] waits (All-nil (WaitsFor posted number journal))
+      by false = All-nil (WaitsFor posted number journal)
+
+  collected_waits : (parked : List Parked) (journal : Journal) → IsJournal journal → All (WaitsFor posted number journal) parked
+      → All (WaitsFor posted number (all_collected journal parked)) (still_parked journal parked)
+  collected_waits [] journal made waits = All-nil (WaitsFor posted number journal)
+  collected_waits (first ∷ parked) journal made waits =
+      let next : Journal = after_call journal (Collect first.ticket) in
+      let end : Journal = all_collected next parked in
+      let one = call_goes journal (Collect first.ticket) made tt in
+      let all = goes_on journal next end one (collected_goes parked next one.made) in
+      All-append (WaitsFor posted number end) (still first (fate journal first)) (still_parked next parked)
+      (all_waits_later journal end all (still first (fate journal first)) (still_waits journal first (fate journal first) (All-head (WaitsFor posted number journal) first parked waits)))
+      (collected_waits parked next one.made (all_waits_later journal next one parked (All-tail (WaitsFor posted number journal) first parked waits)))
+
+  items_of : (journal : Journal) (items : List Inward) → All (IsOf posted number journal) (map (In number) items)
+  items_of journal [] = none_of journal
+  items_of journal (item ∷ items) = All-cons (IsOf posted number journal) (In number item) (map (In number) items) tt (items_of journal items)
+
+  over_of : (journal : Journal) (ending : Option Ending) → All (IsOf posted number journal) (over_lines number ending)
+  over_of journal None = none_of journal
+  over_of journal (Some ending) = one_of journal (Over number ending) tt
+
+-- the answers of a turn are what its session gives, after it, the ids of the latest requests; and it gives what it gave
+pub record Answers (posted : List Posting) (s : PlainLive) (turn : Turn) : Type 0 where
+  pub opening : turn.after.journal.opening ≡ s.journal.opening
+  pub keeps : KeepsBytes (state s) (state turn.after)
+  pub are : All (IsOf posted s.number turn.after.journal) turn.lines
+  pub waiting : All (WaitsFor posted s.number turn.after.journal) turn.after.parked
+
+module _ (posted : List Posting) where
+  told_answers : (s : PlainLive) (answer : List ReportLine) → IsJournal s.journal → Waiting posted s → All (IsOf posted s.number s.journal) answer → Answers posted s (told s answer)
+  told_answers s answer made waiting are =
+      let goes = settled_goes s made in
+      let taken = taken_goes (length (untold s.journal)) s.journal made in
+      let waits = all_waits_later posted s.number s.journal (all_taken s.journal) taken s.parked waiting in
+      let end : Journal = (settled_after s).journal in
+      let lines : List ReportLine = collected_lines (all_taken s.journal) s.parked in
+      let last : List ReportLine = over_lines s.number (state_of end).ending in
+      record {
+        opening = goes.opening;
+        keeps = goes.keeps;
+        are = All-append (IsOf posted s.number end) (map (In s.number) (untold s.journal)) (answer ++ (lines ++ last)) (items_of posted s.number end (untold s.journal))
+            (All-append (IsOf posted s.number end) answer (lines ++ last) (all_later posted s.number s.journal end goes answer are)
+            (All-append (IsOf posted s.number end) lines last (collected_of posted s.number s.parked (all_taken s.journal) taken.made waits) (over_of posted s.number end (state_of end).ending)));
+        waiting = collected_waits posted s.number s.parked (all_taken s.journal) taken.made waits;
+      }
+
+  module _ (s : PlainLive) (up : IsUp s) (call : Call) (allowed : IsAllowed call) where
+    abbrev called_journal : Journal
+    called_journal = after_call s.journal call
+
+    called_answers : (parked : List Parked) (answer : List ReportLine) → All (WaitsFor posted s.number called_journal) parked → All (IsOf posted s.number called_journal) answer
+        → Answers posted s (told (record s { journal = called_journal; parked = parked }) answer)
+    called_answers parked answer waiting are =
+        let one = call_goes s.journal call up.made allowed in
+        let after = told_answers (record s { journal = called_journal; parked = parked }) answer one.made waiting are in
+        record { opening = after.opening ∙ one.opening; keeps = λ rid bytes is. after.keeps rid bytes (one.keeps rid bytes is); are = after.are; waiting = after.waiting }
+
+    same_waiting : Waiting posted s → All (WaitsFor posted s.number called_journal) s.parked
+    same_waiting waiting = all_waits_later posted s.number s.journal called_journal (call_goes s.journal call up.made allowed) s.parked waiting
+
+  refused_answers : (s : PlainLive) (lines : List ReportLine) (turn : Turn) → ((journal : Journal) → All (IsOf posted s.number journal) lines) → Answers posted s turn
+      → Answers posted s (refused_first lines turn)
+  refused_answers s lines turn these a = record {
+    opening = a.opening;
+    keeps = a.keeps;
+    are = All-append (IsOf posted s.number turn.after.journal) lines turn.lines (these turn.after.journal) a.are;
+    waiting = a.waiting;
+  }
+
+  back_of : (n : ℕ) (reply : Taken) (journal : Journal) → All (IsOf posted n journal) (refusal_of_back n reply)
+  back_of n takings.Done journal = none_of posted n journal
+  back_of n takings.Full journal = one_of posted n journal (Refused n _) tt
+  back_of n takings.Over journal = one_of posted n journal (Refused n _) tt
+
+  shut_of : (n : ℕ) (reply : Taken) (journal : Journal) → All (IsOf posted n journal) (refusal_of_shut n reply)
+  shut_of n takings.Done journal = none_of posted n journal
+  shut_of n takings.Full journal = none_of posted n journal
+  shut_of n takings.Over journal = one_of posted n journal (Refused n _) tt
+
+  module _ (s : PlainLive) (up : IsUp s) (request : Request) (body : List ℕ) (now : ℕ) (allowed : IsAllowed (Arrive request body now)) (waiting : Waiting posted s)
+      (conn : ℕ) (asks : Asks posted conn request) (is_for : IsFor request s.number s.journal) where
+    abbrev arriving : Call
+    arriving = Arrive request body now
+
+    abbrev then_journal : Journal
+    then_journal = after_call s.journal arriving
+
+    for_then : IsFor request s.number then_journal
+    for_then = for_later request s.number s.journal then_journal (call_goes s.journal arriving up.made allowed).opening is_for
+
+    told_to : (bytes : List ℕ) → IsToldTo (step (state s) arriving).0 request.rid bytes → IsOf posted s.number then_journal (Out conn bytes)
+    told_to bytes is = elim is [
+      | inl given ↦ inr (request, asks, for_then, ap (λ (t : PlainSession). bytes_for t request.rid) (after_is s.journal arriving) ∙ given)
+      | inr refused ↦ elim refused.1 [
+        | inl lost ↦ inl (ItemNotFound, lost)
+        | inr full ↦ inl (UndefinedCondition, full)
+      ]
+    ]
+
+    then_waiting : All (WaitsFor posted s.number then_journal) s.parked
+    then_waiting = same_waiting s up arriving allowed waiting
+
+    arrived_answers : (reply : Arrived) → (arrive (state s) request body now).1 ≡ reply → Answers posted s (arrived (with_journal s then_journal) conn reply)
+    arrived_answers (arrivals.Answer answer) is =
+        let told = every_answer_told s.journal up.made request body now answer allowed up.goes_on (called_reply (arrive (state s) request body now) ∙ ap ToArrive is) in
+        called_answers s up arriving allowed s.parked (Out conn answer ∷ []) then_waiting (one_of posted s.number then_journal (Out conn answer) (told_to answer told))
+    arrived_answers (arrivals.Parked ticket) is =
+        let P = WaitsFor posted s.number then_journal in
+        let new : Parked = record { ticket = ticket; conn = conn; is_open = true } in
+        called_answers s up arriving allowed (with_parked s ticket conn).parked []
+        (All-append P s.parked (new ∷ []) then_waiting
+        (All-cons P new [] (λ is_open. (request, asks, for_then, parked_id s.journal up.made request body now allowed up.goes_on ticket is)) (All-nil P)))
+        (none_of posted s.number then_journal)
+    arrived_answers arrivals.Over is =
+        called_answers s up arriving allowed s.parked (not_found conn ∷ []) then_waiting (one_of posted s.number then_journal (not_found conn) (inl (ItemNotFound, refl)))
+
+  ticked_answers : (s : PlainLive) (up : IsUp s) (now : ℕ) → Waiting posted s → (reply : Ticked) → Answers posted s (ticked s (with_journal s (after_call s.journal (Tick now))) reply)
+  ticked_answers s up now waiting Quiet = record { opening = refl; keeps = λ rid bytes is. is; are = none_of posted s.number s.journal; waiting = waiting }
+  ticked_answers s up now waiting Changed =
+      called_answers s up (Tick now) tt s.parked [] (same_waiting s up (Tick now) tt waiting) (none_of posted s.number (after_call s.journal (Tick now)))
+
+  -- a request that comes was the latest on its connection, and is for the session
+  abbrev pub AsksHere : ℕ → Journal → Event → Type 0
+  AsksHere number journal (Arrives conn request body) = Asks posted conn request × IsFor request number journal
+  AsksHere number journal (Gives stanza) = ⊤
+  AsksHere number journal (Shuts closing) = ⊤
+  AsksHere number journal Passes = ⊤
+
+  -- whatever comes to a session
+  pub turn_answers : (s : PlainLive) (now : ℕ) (event : Event) → IsUp s → IsEvent event → Waiting posted s → AsksHere s.number s.journal event → Answers posted s (turn_at now event s)
+  turn_answers s now (Arrives conn request body) up allowed waiting asks =
+      arrived_answers s up request body now allowed waiting conn asks.0 asks.1 (arrive (state s) request body now).1 refl
+  turn_answers s now (Gives stanza) up allowed waiting asks = refused_answers s _ _ (back_of s.number (back (state s) unnamed stanza now).1)
+      (called_answers s up (Back unnamed stanza now) allowed s.parked [] (same_waiting s up (Back unnamed stanza now) allowed waiting)
+      (none_of posted s.number (after_call s.journal (Back unnamed stanza now))))
+  turn_answers s now (Shuts closing) up allowed waiting asks = refused_answers s _ _ (shut_of s.number (back_closed (state s) unnamed closing now).1)
+      (called_answers s up (BackClosed unnamed closing now) tt s.parked [] (same_waiting s up (BackClosed unnamed closing now) tt waiting)
+      (none_of posted s.number (after_call s.journal (BackClosed unnamed closing now))))
+  turn_answers s now Passes up allowed waiting asks = ticked_answers s up now waiting (tick (state s) now).1
 
 -- the answer to a creation
 first_is : (b : Bool) (bytes : List ℕ) (a : KeptAnswer) (rest : Option KeptAnswer) (other : Option (List ℕ)) → b ≡ true → a.bytes ≡ bytes
@@ -230,6 +355,8 @@ first_is false bytes a rest other is same = absurd (cc)
 created_bytes : (o : Opening) → bytes_for (opened o) o.request.rid ≡ Some (answer_text (created_parts o))
 created_bytes o = first_is (o.request.rid == o.request.rid) (answer_text (created_parts o)) _ _ _ (same_number o.request.rid) refl
 
-pub opened_answers : (number conn : ℕ) (o : Opening) → IsJournal (opened_live number o).journal → Answers (opened_live number o) (told (opened_live number o) (Out conn (answer_text (created_parts o)) ∷ []))
-opened_answers number conn o made = told_answers (opened_live number o) (Out conn (answer_text (created_parts o)) ∷ []) made
-    (one_of (opened o) (Out conn (answer_text (created_parts o))) (inr (o.request.rid, created_bytes o)))
+pub opened_answers : (posted : List Posting) (number conn : ℕ) (o : Opening) → Asks posted conn o.request → IsJournal (opened_live number o).journal
+    → Answers posted (opened_live number o) (told (opened_live number o) (Out conn (answer_text (created_parts o)) ∷ []))
+opened_answers posted number conn o asks made = told_answers posted (opened_live number o) (Out conn (answer_text (created_parts o)) ∷ []) made
+    (All-nil (WaitsFor posted number (opened_live number o).journal))
+    (one_of posted number (opened_live number o).journal (Out conn (answer_text (created_parts o))) (inr (o.request, asks, inr refl, created_bytes o)))

@@ -74,7 +74,7 @@ with_bodies : (journal : Journal) (o : Option Entered) → bodies_of (with_enter
 with_bodies journal None = sym (append-nil (bodies_of journal))
 with_bodies journal (Some entered) = ap (λ l. journal.opening.body ∷ l) (bodies_push journal.opening.now journal.entries (record { caller = 0; entered = entered }))
 
-with_opening : (journal : Journal) (o : Option Entered) → (with_entered journal o).opening ≡ journal.opening
+pub with_opening : (journal : Journal) (o : Option Entered) → (with_entered journal o).opening ≡ journal.opening
 with_opening journal None = refl
 with_opening journal (Some entered) = refl
 

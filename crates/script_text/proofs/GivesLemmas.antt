@@ -1,8 +1,8 @@
 -- A report that was given keeps its word.
-use Rattle.std.proofs.Common.{ℕ, List, Option, Some, None, All}
+use Rattle.std.proofs.Common.{◌≡◌, ℕ, List, Option, Some, None, All}
 use Rattle.std.specs.Prelude.{IfSome}
 use Rattle.script_text.specs.declared.driven.Driven.{Driven}
-use Rattle.script_text.specs.Answered.{IsAccounted}
+use Rattle.script_text.specs.Answered.{AreAccounted, GivesKept, lines_told, stages_by}
 use Rattle.script_text.specs.Given.{GivesItsReport}
 use Rattle.script_text.specs.Headline.{KeepsItsWord, opened_by, sessions_of}
 use Rattle.script_text.specs.Posted.{CameFrom, posts_by}
@@ -12,10 +12,19 @@ use Rattle.script_text.specs.Script.{Reports, drive_of}
 pub record Told : Type 0 where
   pub told : (script : List ℕ) → KeepsItsWord (drive_of script)
   pub came : (script : List ℕ) → All (CameFrom (posts_by script)) (sessions_of (drive_of script))
-  pub answers : (script : List ℕ) → All (IsAccounted (opened_by (drive_of script)) (sessions_of (drive_of script))) (drive_of script).report
+  pub stages : (script : List ℕ) → lines_told (stages_by script) ≡ (drive_of script).report
+  pub answers : (script : List ℕ) → All (AreAccounted (opened_by (drive_of script)) (sessions_of (drive_of script))) (stages_by script)
+  pub repeats : (script : List ℕ) → All GivesKept (stages_by script)
 
 pub gives_report : Told → (left : Option (List ℕ)) (outcome : Driven) (old new : Option (List ℕ))
     → IfSome left (λ script. Reports (drive_of script) outcome old new) → IfSome left (λ script. GivesItsReport script old new)
 gives_report laws None outcome old new reports = tt
 gives_report laws (Some script) outcome old new reports =
-    record { given = reports.1; told = laws.told script; came = laws.came script; answers = laws.answers script }
+    record {
+      given = reports.1;
+      told = laws.told script;
+      came = laws.came script;
+      stages = laws.stages script;
+      answers = laws.answers script;
+      repeats = laws.repeats script;
+    }

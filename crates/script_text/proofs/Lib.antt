@@ -16,11 +16,13 @@ pub mod ManagerLemmas
 pub mod OpeningLemmas
 pub mod PostedLemmas
 pub mod ReadLemmas
+pub mod RepeatsLemmas
 pub mod ReportLemmas
 pub mod Rows
 pub mod SaidLemmas
 pub mod SessionsLemmas
 pub mod StepLemmas
 pub mod TakingLemmas
+pub mod TicketIds
 pub mod ToldLemmas
 pub mod TurnLemmas

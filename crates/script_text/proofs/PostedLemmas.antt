@@ -130,6 +130,12 @@ get_is [] k s d is = absurd (cc)
 get_is (x ∷ live) zero s d is = cc
 get_is (x ∷ live) (suc k) s d is = get_is live k s d is
 
+-- the session at the place of a number has that number
+pub number_at : (number : ℕ) (live : List PlainLive) (place : ℕ) (s : PlainLive) → position (λ s. s.number == number) live ≡ Some place → slice_get live place ≡ Some s → s.number ≡ number
+number_at number live place s at is =
+    let there = position-Some (λ s. s.number == number) live place s at in
+    eqb-true s.number number (ap (λ (x : PlainLive). x.number == number) (sym (get_is live place s s is)) ∙ there.1)
+
 module _ (posts more : List (List ℕ)) (report : List ReportLine) (over : List PlainLive) (m : PlainManager) (holds : Holds report over m) (came : Came posts over m.live) where
   pub overs_more : All (CameFrom (posts ++ more)) over
   overs_more = all_both (CameFrom posts) (Ended report) (CameFrom (posts ++ more)) (λ s c e. came_over posts more s c e.over) over came.ended holds.tells.ended
@@ -182,10 +188,7 @@ module _ (posts more : List (List ℕ)) (report : List ReportLine) (over : List 
     at_came place at None is =
         let there = get_some m.live place (some_within (λ s. s.number == number) m.live place at) in
         absurd (none_some (slice_get m.live place) there.0 is there.1)
-    at_came place at (Some s) is =
-        let there = position-Some (λ s. s.number == number) m.live place s at in
-        turned_came event allowed otherwise number own others place s is
-        (eqb-true s.number number (ap (λ (x : PlainLive). x.number == number) (sym (get_is m.live place s s is)) ∙ there.1))
+    at_came place at (Some s) is = turned_came event allowed otherwise number own others place s is (number_at number m.live place s at is)
 
     -- what was posted comes to the session with this number
     pub comes_came : AfterChange (comes m event otherwise number)

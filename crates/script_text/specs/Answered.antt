@@ -1,30 +1,142 @@
--- What the answers of a report are: each is what a session gave an id, or a refusal.
-use Rattle.std.specs.Prelude.{◌≡◌, ℕ, true, ⊤, List, All, Some, ◌⊎◌}
+-- What the answers of a report are: each is for the latest request on its connection, and is what a session gave that request's
+-- id, or a refusal.
+use Rattle.std.specs.Prelude.{◌≡◌, ℕ, ◌+◌, ◌==◌, true, false, ⊤, nat_lt, List, [], ◌∷◌, ◌++◌, All, Option, Some, None, slice_get, ◌⊎◌, if◌then◌else◌}
+use Rattle.bosh_types.specs.Limits.{most_lines}
 use Rattle.bosh_types.specs.declared.condition.Condition.{Condition}
+use Rattle.bosh_types.specs.declared.kept.KeptAnswer.{KeptAnswer}
 use Rattle.body_writer.specs.Answer.{answer_text}
+use Rattle.session_attrs.specs.declared.request.Request.{Request}
 use Rattle.session_core.specs.Endings.{terminal}
-use Rattle.session_core.specs.Machine.{bytes_for}
+use Rattle.session_core.specs.Journal.{Journal, state_of}
+use Rattle.session_core.specs.Kept.{kept_of}
+use Rattle.session_core.specs.Machine.{bytes_for, body_cost, is_full}
+use Rattle.session_core.specs.State.{is_over}
+use Rattle.session_core.specs.Time.{time_applied}
+use Rattle.script_text.specs.declared.line.BadKind.TheVariants.{Count, End}
+use Rattle.script_text.specs.declared.line.LineRead.{LineRead}
+use Rattle.script_text.specs.declared.line.LineRead.TheVariants.{Line, BadLine}
+use Rattle.script_text.specs.declared.line.ScriptLine.{ScriptLine}
+use Rattle.script_text.specs.declared.line.ScriptLine.TheVariants.{Open, Short, Host, At, Post, Close, Back, Shut, End as LastLine}
 use Rattle.script_text.specs.declared.report.ReportLine.{ReportLine}
 use Rattle.script_text.specs.declared.report.ReportLine.TheVariants.{In, Out, Lost, Gone, Refused, Over, Done, Bad}
 use Rattle.script_text.specs.Headline.{is_opened}
+use Rattle.script_text.specs.Lines.{lines_of}
 use Rattle.script_text.specs.Live.{PlainLive, state}
+use Rattle.script_text.specs.Manager.{PlainManager, is_waiting, place_of, request_in}
+use Rattle.script_text.specs.Posted.{named_of}
+use Rattle.script_text.specs.Script.{PlainRun, Beginning, Bodies, Goes, Ends, step_by, said}
+
+-- a body that a line posts on a connection
+pub record Posting : Type 0 where
+  pub conn : ℕ
+  pub body : List ℕ
+
+abbrev pub postings_of : ScriptLine → List Posting
+postings_of (Open rid) = []
+postings_of (Short rid stanza) = []
+postings_of (Host name greeting) = []
+postings_of (At moment) = []
+postings_of (Post conn body) = record { conn = conn; body = body } ∷ []
+postings_of (Close conn) = []
+postings_of (Back sid stanza) = []
+postings_of (Shut sid closing) = []
+postings_of LastLine = []
+
+abbrev pub postings_in : LineRead → List Posting
+postings_in (Line said) = postings_of said
+postings_in (BadLine kind) = []
+
+-- a line of a script where it stands: what it says, what the script is run over before it, what was posted up to it, the latest
+-- first, and what the report tells of it
+pub record Stage : Type 0 where
+  pub said : LineRead
+  pub before : PlainRun
+  pub posted : List Posting
+  pub lines : List ReportLine
+
+abbrev pub stage_of : List Posting → PlainRun → ℕ → LineRead → Stage
+stage_of posted run n read = record { said = read; before = run; posted = postings_in read ++ posted; lines = (step_by run n read).lines }
+
+-- the lines of a script, to the one with which it ends
+abbrev pub stages_on : List Posting → PlainRun → ℕ → List (List ℕ) → List Stage
+stages_on posted run n [] = stage_of posted run n (BadLine (if nat_lt most_lines n then Count else End)) ∷ []
+stages_on posted run n (line ∷ others) =
+    stage_of posted run n (said n line)
+    ∷ elim (step_by run n (said n line)).next [
+      | Goes after ↦ stages_on (postings_in (said n line) ++ posted) after (n + 1) others
+      | Ends outcome ↦ []
+    ]
+
+abbrev pub stages_by : List ℕ → List Stage
+stages_by script = stages_on [] Beginning 1 (lines_of script)
+
+-- all that the report tells of them
+abbrev pub lines_told : List Stage → List ReportLine
+lines_told [] = []
+lines_told (stage ∷ stages) = stage.lines ++ lines_told stages
+
+-- Answers.
 
 -- a body that refuses a request with a condition, and gives no id anything
 abbrev pub IsRefusal : List ℕ → Type 0
 IsRefusal body = (condition : Condition) × (body ≡ answer_text (terminal (Some condition)))
 
--- the session with this number gave these bytes to this id
-abbrev pub IsGivenBy : List PlainLive → ℕ → ℕ → List ℕ → Type 0
-IsGivenBy sessions number rid bytes = All (λ s. s.number ≡ number → bytes_for (state s) rid ≡ Some bytes) sessions
+-- the latest body on this connection
+abbrev pub latest_on : ℕ → List Posting → Option (List ℕ)
+latest_on conn [] = None
+latest_on conn (posting ∷ earlier) = if posting.conn == conn then Some posting.body else latest_on conn earlier
 
--- of these sessions, with numbers up to this one, one gave this answer to an id, or it is a refusal
-abbrev pub IsAccounted : ℕ → List PlainLive → ReportLine → Type 0
-IsAccounted opened sessions (In session item) = ⊤
-IsAccounted opened sessions (Out conn body) =
-    IsRefusal body ⊎ ((number : ℕ) × (rid : ℕ) × (is_opened opened number ≡ true) × IsGivenBy sessions number rid body)
-IsAccounted opened sessions (Lost conn) = ⊤
-IsAccounted opened sessions (Gone conn) = ⊤
-IsAccounted opened sessions (Refused session refusal) = ⊤
-IsAccounted opened sessions (Over session ending) = ⊤
-IsAccounted opened sessions (Done line) = ⊤
-IsAccounted opened sessions (Bad line kind) = ⊤
+-- the latest body on this connection is this request
+abbrev pub Asks : List Posting → ℕ → Request → Type 0
+Asks posted conn request = (body : List ℕ) × (latest_on conn posted ≡ Some body) × (request_in body ≡ Some request)
+
+-- a request is for the session that it names, or that it created
+abbrev pub IsFor : Request → ℕ → Journal → Type 0
+IsFor request number journal = (named_of request.kind ≡ Some number) ⊎ (journal.opening.request ≡ request)
+
+-- the request is for the session with this number, which gave its id these bytes
+abbrev pub IsGivenBy : List PlainLive → ℕ → Request → List ℕ → Type 0
+IsGivenBy sessions number request bytes =
+    All (λ s. s.number ≡ number → IsFor request number s.journal × (bytes_for (state s) request.rid ≡ Some bytes)) sessions
+
+-- of these sessions, with numbers up to this one, one gave this answer to the id of the latest request on its connection; or
+-- the answer is a refusal
+abbrev pub IsAccounted : ℕ → List PlainLive → List Posting → ReportLine → Type 0
+IsAccounted opened sessions posted (In session item) = ⊤
+IsAccounted opened sessions posted (Out conn body) =
+    IsRefusal body
+    ⊎ ((number : ℕ) × (request : Request) × Asks posted conn request × (is_opened opened number ≡ true) × IsGivenBy sessions number request body)
+IsAccounted opened sessions posted (Lost conn) = ⊤
+IsAccounted opened sessions posted (Gone conn) = ⊤
+IsAccounted opened sessions posted (Refused session refusal) = ⊤
+IsAccounted opened sessions posted (Over session ending) = ⊤
+IsAccounted opened sessions posted (Done line) = ⊤
+IsAccounted opened sessions posted (Bad line kind) = ⊤
+
+abbrev pub AreAccounted : ℕ → List PlainLive → Stage → Type 0
+AreAccounted opened sessions stage = All (IsAccounted opened sessions stage.posted) stage.lines
+
+-- Repeats.
+
+-- this line is one of these
+abbrev pub IsAmong : ReportLine → List ReportLine → Type 0
+IsAmong line lines = (before after : List ReportLine) × (lines ≡ before ++ line ∷ after)
+
+-- a request for a live session that keeps an answer for its id, as time stands, and whose journal has room
+pub record Repeats (m : PlainManager) (body : List ℕ) (answer : KeptAnswer) : Type 0 where
+  pub request : Request
+  pub reads : request_in body ≡ Some request
+  pub session : PlainLive
+  pub place : ℕ
+  pub there : place_of m session.number ≡ Some place
+  pub here : slice_get m.live place ≡ Some session
+  pub named : named_of request.kind ≡ Some session.number
+  pub goes_on : is_over (time_applied (state session) m.moment) ≡ false
+  pub room : is_full (state session) (body_cost request body) ≡ false
+  pub kept : kept_of (time_applied (state session) m.moment) request.rid ≡ Some answer
+
+-- where a line posts such a repeat, the kept bytes go out on its connection
+abbrev pub GivesKept : Stage → Type 0
+GivesKept stage =
+    (m : PlainManager) (conn : ℕ) (body : List ℕ) (answer : KeptAnswer) → stage.before ≡ Bodies m → stage.said ≡ Line (Post conn body)
+    → is_waiting m conn ≡ false → Repeats m body answer → IsAmong (Out conn answer.bytes) stage.lines

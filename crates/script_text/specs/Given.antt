@@ -1,7 +1,7 @@
 -- What is said of a script whose whole report was given.
-use Rattle.std.specs.Prelude.{ℕ, List, Option, All}
+use Rattle.std.specs.Prelude.{◌≡◌, ℕ, List, Option, All}
 use Rattle.std.specs.Io.KnownBytes.{Appends}
-use Rattle.script_text.specs.Answered.{IsAccounted}
+use Rattle.script_text.specs.Answered.{AreAccounted, GivesKept, lines_told, stages_by}
 use Rattle.script_text.specs.Headline.{KeepsItsWord, opened_by, sessions_of}
 use Rattle.script_text.specs.Posted.{CameFrom, posts_by}
 use Rattle.script_text.specs.Report.{report_text}
@@ -14,5 +14,10 @@ pub record GivesItsReport (script : List ℕ) (old new : Option (List ℕ)) : Ty
   pub told : KeepsItsWord (drive_of script)
   -- and to each session came what the script posted for it
   pub came : All (CameFrom (posts_by script)) (sessions_of (drive_of script))
-  -- and each answer that went out is what a session gave an id for good, or refuses a request
-  pub answers : All (IsAccounted (opened_by (drive_of script)) (sessions_of (drive_of script))) (drive_of script).report
+  -- line by line of the script
+  pub stages : lines_told (stages_by script) ≡ (drive_of script).report
+  -- each answer that went out is what a session gave, for good, the id of the latest request on its connection, or refuses a
+  -- request
+  pub answers : All (AreAccounted (opened_by (drive_of script)) (sessions_of (drive_of script))) (stages_by script)
+  -- and a request whose id has a kept answer was given its bytes
+  pub repeats : All GivesKept (stages_by script)

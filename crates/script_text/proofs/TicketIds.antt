@@ -1,0 +1,123 @@
+-- The ids that tickets are for stay.
+use Rattle.std.proofs.Common.{◌≡◌, ℕ, zero, suc, ◌+◌, ◌==◌, false, List, [], ◌∷◌, ◌++◌, map, length, Option, Some, None, refl, sym, subst, ◌∙◌, ap, arith}
+use Rattle.std.specs.Prelude.{slice_get, slice_set}
+use Rattle.std.specs.Option.{option_map}
+use Rattle.std.proofs.lemmas.List.{append-nil, map-append, length-map}
+use Rattle.std.proofs.lemmas.Option.{slice_get-map}
+use Rattle.session_attrs.specs.declared.request.Request.{Request}
+use Rattle.session_core.specs.declared.replies.Arrived.{Arrived}
+use Rattle.session_core.specs.declared.replies.Arrived.TheVariants as arrivals
+use Rattle.session_core.specs.declared.replies.Collected.{Collected}
+use Rattle.session_core.specs.declared.replies.Collected.TheVariants as collections
+use Rattle.session_core.specs.Journal.{Call, Arrive, Back, BackClosed, Collect, Tick, TakeInward, Journal, IsJournal, IsAllowed, ToArrive, called, state_of, step}
+use Rattle.session_core.specs.Machine.{arrive, collect, replace}
+use Rattle.session_core.specs.State.{PlainSession, Issued, Waits, UsedUp, is_over}
+use Rattle.session_core.specs.TicketsOut.{issued_at}
+use Rattle.session_laws.specs.Tickets.{spent, spent_at, after_arrival, after_collect, tickets_after}
+use Rattle.session_laws.proofs.LawsOf.{every_parked}
+use Rattle.session_laws.proofs.Tests.{split, some_is}
+use Rattle.session_laws.proofs.TicketSteps.{every_ticket}
+use Rattle.script_text.specs.Live.{after_call}
+use Rattle.script_text.proofs.JournalSteps.{after_is}
+
+-- the ids of these tickets, in their order
+abbrev pub ids : List Issued → List ℕ
+ids tickets = map (λ (t : Issued). t.rid) tickets
+
+-- the id that the ticket with this number is for
+abbrev pub id_at : List Issued → ℕ → Option ℕ
+id_at tickets zero = None
+id_at tickets (suc index) = slice_get (ids tickets) index
+
+abbrev pub KeepsIds : List Issued → List Issued → Type 0
+KeepsIds tickets later = (number rid : ℕ) → id_at tickets number ≡ Some rid → id_at later number ≡ Some rid
+
+replaced_id : (rid : ℕ) (t : Issued) → (replace rid t).rid ≡ t.rid
+replaced_id rid t = split (λ (x : Issued). x.rid ≡ t.rid) (t.rid == rid) _ t (λ here. refl) (λ other. refl)
+
+replaced_ids : (rid : ℕ) (tickets : List Issued) → ids (map (replace rid) tickets) ≡ ids tickets
+replaced_ids rid [] = refl
+replaced_ids rid (t ∷ tickets) = ap (λ r. r ∷ ids (map (replace rid) tickets)) (replaced_id rid t) ∙ ap (λ l. t.rid ∷ l) (replaced_ids rid tickets)
+
+get_front : (xs ys : List ℕ) (k x : ℕ) → slice_get xs k ≡ Some x → slice_get (xs ++ ys) k ≡ Some x
+get_front [] ys k x is = absurd (cc)
+get_front (y ∷ xs) ys zero x is = is
+get_front (y ∷ xs) ys (suc k) x is = get_front xs ys k x is
+
+get_last : (xs : List ℕ) (x : ℕ) → slice_get (xs ++ x ∷ []) (length xs) ≡ Some x
+get_last [] x = refl
+get_last (y ∷ xs) x = get_last xs x
+
+keeps_more : (tickets later : List Issued) (more : List ℕ) → ids later ≡ ids tickets ++ more → KeepsIds tickets later
+keeps_more tickets later more are zero rid is = absurd (cc)
+keeps_more tickets later more are (suc k) rid is = ap (λ l. slice_get l k) are ∙ get_front (ids tickets) more k rid is
+
+keeps_same : (tickets later : List Issued) → ids later ≡ ids tickets → KeepsIds tickets later
+keeps_same tickets later same = keeps_more tickets later [] (same ∙ sym (append-nil (ids tickets)))
+
+spent_ids : (tickets : List Issued) (index : ℕ) (o : Option Issued) → slice_get tickets index ≡ o → ids (spent tickets index o) ≡ ids tickets
+spent_ids tickets index None is = refl
+spent_ids [] index (Some t) is = absurd (cc)
+spent_ids (first ∷ tickets) zero (Some t) is = ap (λ (x : Issued). x.rid ∷ ids tickets) (sym (some_is first t is))
+spent_ids (first ∷ tickets) (suc index) (Some t) is = ap (λ l. first.rid ∷ l) (spent_ids tickets index (Some t) is)
+
+spent_at_ids : (tickets : List Issued) (number : ℕ) → ids (spent_at tickets number) ≡ ids tickets
+spent_at_ids tickets zero = refl
+spent_at_ids tickets (suc index) = spent_ids tickets index (slice_get tickets index) refl
+
+-- an arrival that waits adds its id
+parked_ids : (tickets : List Issued) (rid number : ℕ) → ids (after_arrival tickets rid (arrivals.Parked number)) ≡ ids tickets ++ rid ∷ []
+parked_ids tickets rid number =
+    map-append (λ (t : Issued). t.rid) (map (replace rid) tickets) (record { rid = rid; state = Waits } ∷ [])
+    ∙ ap (λ l. l ++ rid ∷ []) (replaced_ids rid tickets)
+
+arrival_keeps : (tickets : List Issued) (rid : ℕ) (reply : Arrived) → KeepsIds tickets (after_arrival tickets rid reply)
+arrival_keeps tickets rid (arrivals.Parked number) = keeps_more tickets _ (rid ∷ []) (parked_ids tickets rid number)
+arrival_keeps tickets rid (arrivals.Answer bytes) = keeps_same tickets tickets refl
+arrival_keeps tickets rid arrivals.Over = keeps_same tickets tickets refl
+
+collect_keeps : (tickets : List Issued) (number : ℕ) (reply : Collected) → KeepsIds tickets (after_collect tickets number reply)
+collect_keeps tickets number (collections.Answer bytes) = keeps_same tickets _ (spent_at_ids tickets number)
+collect_keeps tickets number collections.NotYet = keeps_same tickets tickets refl
+collect_keeps tickets number collections.Superseded = keeps_same tickets _ (spent_at_ids tickets number)
+collect_keeps tickets number collections.UnknownTicket = keeps_same tickets tickets refl
+
+call_keeps : (s : PlainSession) (call : Call) → KeepsIds s.tickets (tickets_after s call)
+call_keeps s (Arrive request body now) = arrival_keeps s.tickets request.rid (arrive s request body now).1
+call_keeps s (Collect number) = collect_keeps s.tickets number (collect s number).1
+call_keeps s (Back stream stanza now) = keeps_same s.tickets s.tickets refl
+call_keeps s (BackClosed stream closing now) = keeps_same s.tickets s.tickets refl
+call_keeps s (Tick now) = keeps_same s.tickets s.tickets refl
+call_keeps s TakeInward = keeps_same s.tickets s.tickets refl
+
+module _ (journal : Journal) (made : IsJournal journal) (call : Call) where
+  tickets_are : (state_of (after_call journal call)).tickets ≡ tickets_after (state_of journal) call
+  tickets_are = ap (λ (s : PlainSession). s.tickets) (after_is journal call) ∙ every_ticket journal made call
+
+  -- whatever the call
+  pub after_keeps_ids : KeepsIds (state_of journal).tickets (state_of (after_call journal call)).tickets
+  after_keeps_ids = subst (KeepsIds (state_of journal).tickets) (sym tickets_are) (call_keeps (state_of journal) call)
+
+-- a ticket that is told of
+pub issued_id : (tickets : List Issued) (number : ℕ) (t : Issued) → issued_at tickets number ≡ Some t → id_at tickets number ≡ Some t.rid
+issued_id tickets zero t is = absurd (cc)
+issued_id tickets (suc index) t is = slice_get-map (λ (x : Issued). x.rid) tickets index ∙ ap (option_map (λ (x : Issued). x.rid)) is
+
+next_id : (tickets : List Issued) (rid ticket : ℕ) → ticket ≡ length tickets + 1 → id_at (after_arrival tickets rid (arrivals.Parked ticket)) ticket ≡ Some rid
+next_id tickets rid ticket is =
+    let place : ticket ≡ suc (length (ids tickets)) = is ∙ omega arith ∙ ap suc (sym (length-map tickets (λ (t : Issued). t.rid))) in
+    subst (λ n. id_at (after_arrival tickets rid (arrivals.Parked ticket)) n ≡ Some rid) (sym place)
+    (ap (λ l. slice_get l (length (ids tickets))) (parked_ids tickets rid ticket) ∙ get_last (ids tickets) rid)
+
+pub called_reply : (p : PlainSession × Arrived) → (called ToArrive p).1 ≡ ToArrive p.1
+called_reply (t, r) = refl
+
+module _ (journal : Journal) (made : IsJournal journal) (request : Request) (body : List ℕ) (now : ℕ) (allowed : IsAllowed (Arrive request body now))
+    (on : is_over (state_of journal) ≡ false) where
+  -- the ticket of a request that waits is for its id
+  pub parked_id : (ticket : ℕ) → (arrive (state_of journal) request body now).1 ≡ arrivals.Parked ticket
+      → id_at (state_of (after_call journal (Arrive request body now))).tickets ticket ≡ Some request.rid
+  parked_id ticket is =
+      let told = (every_parked journal made request body now ticket allowed on).0 (called_reply (arrive (state_of journal) request body now) ∙ ap ToArrive is) in
+      ap (λ l. id_at l ticket) (tickets_are journal made (Arrive request body now) ∙ ap (after_arrival (state_of journal).tickets request.rid) is)
+      ∙ next_id (state_of journal).tickets request.rid ticket told.0
