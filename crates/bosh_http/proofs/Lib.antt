@@ -11,4 +11,5 @@ pub mod UniqueLemmas
 pub mod ResponseUniqueLemmas
 pub mod WordLemmas
 pub mod ScanLemmas
+pub mod GatheringLemmas
 pub mod HeadEndLemmas

@@ -1,4 +1,5 @@
 pub mod Fields
+pub mod Gathering
 pub mod Judging
 pub mod Message
 pub mod Reading

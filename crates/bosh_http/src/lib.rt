@@ -3,6 +3,7 @@
 #![tactic(auto)]
 
 mod fields;
+mod gathering;
 mod heading;
 mod judging;
 mod laws;
@@ -22,4 +23,4 @@ pub use laws::{responses_are_cut_in_one_way, streams_are_cut_in_one_way};
 pub use reading::{HttpIn, RequestReader};
 pub use refusal::HttpRefusal;
 pub use responding::{ResponseIn, ResponseReader};
-pub use writing::{write_post, write_response};
+pub use writing::{MessageWriter, write_post, write_response};

@@ -1,5 +1,5 @@
 use super::link_over;
-use crate::{WriteFault, write_post, write_response};
+use crate::{MessageWriter, WriteFault, write_post, write_response};
 use http::StatusCode;
 use std::test::Fail;
 
@@ -48,10 +48,32 @@ fn a_fault_leaves_a_front(rt: HostRuntime) -> Result<(), Fail> {
     let mut link = link_over(rt.alloc(), b"", &[], &[], &[])?;
     assert!(rt; write_post(&mut link, b"<body/>").is_ok());
     assert_eq!(rt; link.as_slice(), text);
-    for call in 1..=8 {
-        let mut link = link_over(rt.alloc(), b"", &[], &[], &[call])?;
-        assert_eq!(rt; write_post(&mut link, b"<body/>"), Err(WriteFault));
-        assert!(rt; text.starts_with(link.as_slice()));
+    let mut link = link_over(rt.alloc(), b"", &[], &[], &[1])?;
+    assert_eq!(rt; write_post(&mut link, b"<body/>"), Err(WriteFault));
+    assert_eq!(rt; link.as_slice(), b"".as_slice());
+    Ok(())
+}
+
+// Head and content go in one piece where they have at most 16,384 bytes together. The head has 81 bytes here.
+#[test]
+fn messages_go_in_few_pieces(rt: HostRuntime) -> Result<(), Fail> {
+    let rows: [(usize, u64); 5] = [(10000, 1), (16303, 1), (16304, 2), (16384, 2), (16385, 2)];
+    let mut writer = MessageWriter::new();
+    for (length, pieces) in rows {
+        let content = vec![in rt.alloc(); b'x'; length]?;
+        let mut link = link_over(rt.alloc(), b"", &[], &[], &[pieces.saturating_add(1)])?;
+        assert!(rt;
+            writer
+                .write_response(&mut link, StatusCode::OK, &content, false)
+                .is_ok()
+        );
+        assert_eq!(rt; link.as_slice().len(), length.saturating_add(81));
+        let mut link = link_over(rt.alloc(), b"", &[], &[], &[pieces])?;
+        assert_eq!(rt;
+            writer.write_response(&mut link, StatusCode::OK, &content, false),
+            Err(WriteFault)
+        );
+        assert!(rt; link.as_slice().len() < 82);
     }
     Ok(())
 }

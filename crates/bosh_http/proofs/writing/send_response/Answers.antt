@@ -12,12 +12,12 @@ returns-clause-given g c =
     let crlf = codes "\r\n" in
     let kind = codes "Content-Type: text/xml; charset=utf-8\r\n" in
     let name = codes "Content-Length: " in
-    let code = c.args.code.now in
-    let phrase = c.args.phrase.now in
-    let allow = c.args.allow.now in
-    let connection = c.args.connection.now in
+    let code = c.args.head.now.code.now in
+    let phrase = c.args.head.now.phrase.now in
+    let allow = c.args.head.now.allow.now in
+    let connection = c.args.head.now.connection.now in
     let body = c.args.body.now in
-    subst (GivesAll c.send_parts.result (g.L.Link.given c.args.link.now) (g.L.Link.given c.send_parts.new.link))
+    subst (GivesAll c.send_gathered.result (g.L.Link.given c.args.link.now) (g.L.Link.given c.send_gathered.new.link))
     (response_parts version code space phrase crlf kind name c.as_bytes.result.now allow connection body
     ∙ ap (λ digits. version ++ code ++ space ++ phrase ++ crlf ++ (kind ++ name ++ digits ++ crlf) ++ (allow ++ connection) ++ crlf ++ body) (c.as_bytes.ensures.value ∙ c.format.ensures.text))
-    c.send_parts.ensures.given
+    c.send_gathered.ensures.given

@@ -2,7 +2,7 @@ use Rattle.std.proofs.Common.{◌++◌, ◌∙◌, ap, codes, subst}
 use Rattle.bosh_ports.specs.Sink.{GivesAll}
 use Rattle.bosh_http.specs.Texts.{post_text}
 use Rattle.bosh_http.proofs.TextLemmas.{post_parts}
-use Rattle.bosh_http.proofs.writing.write_post.Goals as goal
+use Rattle.bosh_http.proofs.writing.MessageWriter.write_post.Goals as goal
 
 pub returns-clause-given : goal.returns-clause-given
 unfolding post_text
@@ -13,7 +13,7 @@ returns-clause-given g c =
     let name = codes "Content-Length: " in
     let crlf = codes "\r\n" in
     let body = c.args.body.now in
-    subst (GivesAll c.send_parts.result (g.L.Link.given c.args.link.now) (g.L.Link.given c.send_parts.new.link))
+    subst (GivesAll c.send_gathered.result (g.L.Link.given c.args.link.now) (g.L.Link.given c.send_gathered.new.link))
     (post_parts line host kind name c.as_bytes.result.now crlf body
     ∙ ap (λ digits. line ++ host ++ (kind ++ name ++ digits ++ crlf) ++ crlf ++ body) (c.as_bytes.ensures.value ∙ c.format.ensures.text))
-    c.send_parts.ensures.given
+    c.send_gathered.ensures.given
