@@ -38,6 +38,9 @@ pub mod Utf8Bytes
 pub mod Utf8Takes
 pub mod Utf8Allowed
 pub mod Utf8Bodies
+pub mod Utf8Pieces
+pub mod EndLemmas
+pub mod FedLemmas
 pub mod CompletionTools
 pub mod CompletionReferences
 pub mod CompletionStates

@@ -9,6 +9,8 @@ pub mod Viable
 pub mod Reading
 pub mod Refusal
 pub mod Cutting
+pub mod Ends
+pub mod Feeding
 pub mod Grammar
 pub mod Parts
 pub mod BodyText

@@ -1,5 +1,5 @@
 -- What a whole text is, by the reader: its parts, or the first refusal of the table that holds.
-use Rattle.std.specs.Prelude.{◌≡◌, ℕ, Bool, true, false, ◌+◌, ◌&&◌, ◌||◌, ◌==◌, nat_lt, nat_eq, List, [], ◌∷◌, length, take, codes, Option, None, Some, is_none, is_some, Result, Ok, Err, if◌then◌else◌}
+use Rattle.std.specs.Prelude.{ℕ, Bool, true, false, ◌+◌, ◌&&◌, ◌||◌, ◌==◌, nat_lt, nat_eq, List, [], ◌∷◌, length, take, codes, Option, None, Some, is_none, is_some, Result, Ok, Err, if◌then◌else◌}
 use Rattle.std.specs.List.{list_any, ends_with}
 use Rattle.body_cutter.specs.declared.place.Place.{Place}
 use Rattle.body_cutter.specs.declared.place.Place.TheVariants.{Start, First, DeclarationWord, Declaration, Prolog, BodyWord, Content, Opened}
@@ -95,11 +95,6 @@ unit_answer (Err refusal) = Err refusal
 abbrev pub unit_result : Result Cut CutError → Result (Unit {0}) CutError
 unit_result (Ok cut) = Ok tt
 unit_result (Err error) = Err error
-
--- what a reading of the text says, with the state where it ends
-abbrev pub ReadsTo : List ℕ → Reading → Option CutRefusal → State → Type 0
-ReadsTo text (Ended s) refusal new = (refusal ≡ ended_refusal (length text) s) × (new ≡ s)
-ReadsTo text (Stopped at b s) refusal new = refusal ≡ Some (stopped_refusal text at b s)
 
 -- whether a reading ends with the whole text
 abbrev pub is_accepted : Reading → Bool

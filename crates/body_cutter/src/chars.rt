@@ -1,5 +1,6 @@
 ghost use Rattle.std.specs.Prelude.{◌≡◌};
 ghost use Rattle.body_cutter.specs.Chars.{is_space, is_plain, is_letter, is_digit, begins_name_plainly, grows_name_plainly, is_char_byte, is_name_start, is_name_byte, wide_begin, wide_next, after_tail, is_allowed};
+ghost use Rattle.body_cutter.specs.Utf8.{utf8_next};
 
 use crate::place::Wide;
 
@@ -137,6 +138,17 @@ pub(crate) fn wide_next(wide: Wide, b: u8) -> Option<Wide>
         Wide::AfterEfBf => after_tail(0x80 <= b && b < 0xbe, Wide::Whole),
         Wide::AfterF0 => after_tail(0x90 <= b && b < 0xc0, Wide::Two),
         Wide::AfterF4 => after_tail(0x80 <= b && b < 0x90, Wide::Two),
+    }
+}
+
+/// What is left of a character, allowed or not, after one byte more.
+#[tactic(auto, unfolding(crate::specs::Utf8::utf8_next, crate::specs::Chars::wide_next))]
+pub(crate) fn utf8_next(wide: Wide, b: u8) -> Option<Wide>
+    ensures { result ≡ utf8_next wide b }
+{
+    match wide {
+        Wide::AfterEfBf => after_tail(0x80 <= b && b < 0xc0, Wide::Whole),
+        _ => wide_next(wide, b),
     }
 }
 

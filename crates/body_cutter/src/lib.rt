@@ -6,6 +6,8 @@
 mod characters;
 mod chars;
 mod content;
+mod cutter;
+mod feeding;
 mod laws;
 mod names;
 mod parts;
@@ -14,11 +16,14 @@ mod prefixes;
 mod prolog;
 mod reader;
 mod references;
+mod refusing;
 mod tags;
+mod tail;
 mod whole_text;
 
 pub use characters::texts_are_allowed_characters;
 pub use chars::is_allowed;
+pub use cutter::{Cutter, cut_pieces};
 pub use laws::{
     a_text_has_one_reading, built_bodies_read_back, parts_are_pieces, reader_takes_the_grammar,
     texts_are_cut_by_the_grammar,

@@ -1,14 +1,43 @@
-use crate::{Cut, CutError, CutRefusal, Span, cut, read_stanza};
+use crate::{Cut, CutError, CutRefusal, Cutter, Span, cut, cut_pieces, read_stanza};
 use std::alloc::{AllocError, Global};
 use std::test::Fail;
 
-/// The refusal of a text, or none.
-fn refusal_of(alloc: Global, text: &[u8]) -> Result<Option<CutRefusal>, AllocError> {
-    match cut(alloc, text) {
+fn told(answer: Result<Cut, CutError>) -> Result<Option<CutRefusal>, AllocError> {
+    match answer {
         Ok(_) => Ok(None),
         Err(CutError::Refused(refusal)) => Ok(Some(refusal)),
         Err(CutError::Memory) => Err(AllocError),
     }
+}
+
+/// The refusal of a text, or none.
+fn refusal_of(alloc: Global, text: &[u8]) -> Result<Option<CutRefusal>, AllocError> {
+    told(cut(alloc, text))
+}
+
+/// The same where it comes in pieces of this size.
+fn refusal_in_pieces(
+    alloc: Global,
+    text: &[u8],
+    size: usize,
+) -> Result<Option<CutRefusal>, AllocError> {
+    let mut cutter = Cutter::new(alloc);
+    for piece in text.chunks(size.max(1)) {
+        cutter.feed(piece)?;
+    }
+    told(cutter.finish())
+}
+
+/// The same if it is the same whole, byte by byte and in pieces of three bytes.
+fn refusal_however(alloc: Global, text: &[u8]) -> Result<Option<Option<CutRefusal>>, AllocError> {
+    let whole = refusal_of(alloc, text)?;
+    if refusal_in_pieces(alloc, text, 1)? != whole {
+        return Ok(None);
+    }
+    if refusal_in_pieces(alloc, text, 3)? != whole {
+        return Ok(None);
+    }
+    Ok(Some(whole))
 }
 
 #[test]
@@ -108,8 +137,39 @@ fn refuses_at_the_first_wrong_place(rt: HostRuntime) -> Result<(), Fail> {
         ("<body><é.ü-1 ö='' /></body>", None),
     ];
     for (text, want) in &rows {
-        let found = refusal_of(rt.alloc(), text.as_bytes())?;
-        assert_eq!(rt; found, *want, "at {text}");
+        let found = refusal_however(rt.alloc(), text.as_bytes())?;
+        assert_eq!(rt; found, Some(*want), "at {text}");
+    }
+    Ok(())
+}
+
+#[test]
+fn tells_whether_a_body_may_come(rt: HostRuntime) -> Result<(), Fail> {
+    let mut cutter = Cutter::new(rt.alloc());
+    cutter.feed(b"<body><a>")?;
+    assert!(rt; cutter.viable());
+    cutter.feed(b"</b")?;
+    assert!(rt; !cutter.viable());
+    cutter.feed(b"></body>\xff")?;
+    assert!(rt; !cutter.viable());
+    assert_eq!(rt; told(cutter.finish())?, Some(CutRefusal::NotUtf8));
+    Ok(())
+}
+
+#[test]
+fn joins_the_pieces(rt: HostRuntime) -> Result<(), Fail> {
+    let alloc = rt.alloc();
+    let mut pieces = Vec::new(alloc);
+    for piece in ["<body sid='\u{e9}&l", "t;'><a", "/></body>"] {
+        pieces.push(Vec::from_slice(alloc, piece.as_bytes())?)?;
+    }
+    let parts = cut_pieces(alloc, &pieces)?;
+    assert_eq!(rt;
+        parts.children.as_slice(),
+        [Span { start: 19, end: 23 }].as_slice()
+    );
+    for attr in parts.attrs.as_slice() {
+        assert_eq!(rt; attr.value.as_slice(), "\u{e9}<".as_bytes());
     }
     Ok(())
 }
@@ -246,7 +306,8 @@ fn refuses_characters_that_are_not_allowed(rt: HostRuntime) -> Result<(), Fail> 
         (b"<?xml \x01?><body/>", Some(CutRefusal::NotBody)),
     ];
     for (text, want) in &rows {
-        assert_eq!(rt; refusal_of(alloc, text)?, *want, "at {text:?}");
+        let found = refusal_however(alloc, text)?;
+        assert_eq!(rt; found, Some(*want), "at {text:?}");
     }
     Ok(())
 }
