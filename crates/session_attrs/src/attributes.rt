@@ -16,9 +16,9 @@ fn is_named(text: &[u8], name: &[u8], attr: &Attr) -> bool
     &text[span.start..span.end] == name
 }
 
-/// The value of the first attribute with this name.
+/// The value of the first attribute with this name, of a body that was cut from this text.
 #[tactic(auto, unfolding(crate::specs::Attributes::value_of))]
-pub(crate) fn value_of<'a>(cut: &'a Cut, text: &[u8], name: &[u8]) -> Option<&'a [u8]>
+pub fn value_of<'a>(cut: &'a Cut, text: &[u8], name: &[u8]) -> Option<&'a [u8]>
     ensures { option_copied result ≡ value_of text.now cut.now.attrs name.now }
 {
     let attr = cut

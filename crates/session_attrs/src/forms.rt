@@ -8,14 +8,14 @@ const MOST_DIGITS: usize = 9;
 
 /// Whether the text is the namespace of the body.
 #[tactic(auto, unfolding(crate::specs::Forms::is_httpbind))]
-pub(crate) fn is_httpbind(text: &[u8]) -> bool
+pub fn is_httpbind(text: &[u8]) -> bool
     ensures { result ≡ is_httpbind text.now }
 {
     text == b"http://jabber.org/protocol/httpbind".as_slice()
 }
 
 /// A number of 1 to 9 digits.
-pub(crate) fn number_of(text: &[u8]) -> Option<u32>
+pub fn number_of(text: &[u8]) -> Option<u32>
     ensures { result ≡ number_of text.now }
 {
     if text.is_empty() {
@@ -89,7 +89,7 @@ pub(crate) fn ack_of(rid: Rid, text: &[u8]) -> Option<Rid>
 
 /// The end of a session, which only `terminate` says.
 #[tactic(auto, unfolding(crate::specs::Forms::terminate_of))]
-pub(crate) fn terminate_of(text: &[u8]) -> Option<bool>
+pub fn terminate_of(text: &[u8]) -> Option<bool>
     ensures { result ≡ terminate_of text.now }
 {
     if text == b"terminate".as_slice() {

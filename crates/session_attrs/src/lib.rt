@@ -13,6 +13,8 @@ mod rows;
 mod terms;
 
 pub use admission::{Admitted, admit};
+pub use attributes::value_of;
+pub use forms::{is_httpbind, number_of, terminate_of};
 pub use laws::{attributes_mean_one_request, reading_gives_the_meaning};
 pub use reading::read_request;
 pub use refusal::{AttrRefusal, Numbered, RequestError};

@@ -1,0 +1,70 @@
+-- How an answer is read.
+use Rattle.std.specs.Prelude.{◌≡◌, ℕ, Bool, true, false, List, [], ◌∷◌, map, Option, None, Some, is_none, ◌&&◌, ◌==◌, Result, Ok, Err, if◌then◌else◌}
+use Rattle.std.specs.Option.{ok_or, option_map}
+use Rattle.bosh_types.specs.Rid.{rid_of}
+use Rattle.body_cutter.specs.Cutting.{body_cut_of}
+use Rattle.body_cutter.specs.Pieces.{bytes_at}
+use Rattle.body_cutter.specs.declared.parts.Cut.{Cut}
+use Rattle.body_cutter.specs.declared.parts.CutRefusal.{CutRefusal}
+use Rattle.body_cutter.specs.declared.parts.Span.{Span}
+use Rattle.session_attrs.specs.Forms.{number_of, says_httpbind, terminate_of}
+use Rattle.bosh_client.specs.declared.replies.ClientEnd.{ClientEnd}
+use Rattle.bosh_client.specs.declared.replies.Why.{Why}
+use Rattle.bosh_client.specs.declared.replies.Why.TheVariants as whys
+use Rattle.bosh_client.specs.declared.told.Told.{Told}
+use Rattle.bosh_client.specs.AnswerMeaning.{condition_of}
+use Rattle.bosh_client.specs.AnswerValues.{AnswerValues, values_of}
+
+-- first this, then the rest, unless a value is out of form
+infixl 10 ◌>>=◌
+abbrev pub ◌>>=◌ : {A B : Type 0} → Option A → (A → Option B) → Option B
+None >>= f = None
+(Some x) >>= f = f x
+
+-- what an optional value says; none where it is out of form
+abbrev pub said : {X : Type 0} → (List ℕ → Option X) → Option (List ℕ) → Option (Option X)
+said read None = Some None
+said read (Some text) = option_map Some (read text)
+
+-- how a terminal answer ends the client
+abbrev pub end_by : Option (List ℕ) → Option Bool → Option ClientEnd
+end_by condition None = None
+end_by condition (Some terminal) = Some (record { condition = option_map condition_of condition })
+
+abbrev pub is_there : Option ℕ → Bool
+is_there None = false
+is_there (Some n) = true
+
+-- what the values say; none where one is out of form
+unfoldable pub told_by : AnswerValues → List (List ℕ) → Option Told
+told_by v payloads = do
+  terminal ← said terminate_of v.type
+  ack ← said rid_of v.ack
+  requests ← said number_of v.requests
+  polling ← said number_of v.polling
+  maxpause ← said number_of v.maxpause
+  Some (record {
+    end = end_by v.condition terminal;
+    sid = v.sid;
+    requests = requests;
+    polling = polling;
+    maxpause = maxpause;
+    acknowledges = is_there ack;
+    payloads = payloads;
+  })
+
+-- what they say in the namespace of the protocol
+unfoldable pub answer_with : AnswerValues → List (List ℕ) → Result Told Why
+answer_with v payloads = if says_httpbind v.xmlns then ok_or (told_by v payloads) whys.Attribute else Err whys.Namespace
+
+-- the children of a body as their exact bytes
+abbrev pub payloads_at : List ℕ → List Span → List (List ℕ)
+payloads_at text spans = map (λ span. bytes_at text span) spans
+
+abbrev pub answer_in : List ℕ → Result Cut CutRefusal → Result Told Why
+answer_in text (Ok cut) = answer_with (values_of text cut.attrs) (payloads_at text cut.children)
+answer_in text (Err refusal) = Err (whys.Cut refusal)
+
+-- what this body tells a client, or the first reason for which it is no answer
+unfoldable pub answer_of : List ℕ → Result Told Why
+answer_of text = answer_in text (body_cut_of text)

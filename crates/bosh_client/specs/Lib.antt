@@ -1,0 +1,10 @@
+pub mod AnswerMeaning
+pub mod AnswerReading
+pub mod AnswerValues
+pub mod Keys
+pub mod Machine
+pub mod Outgoing
+pub mod PlainClient
+pub mod Requests
+pub mod Runs
+pub mod Setup

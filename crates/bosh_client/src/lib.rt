@@ -1,0 +1,18 @@
+// A client of a session: it sends one fixed body for each request id, takes each answer once, and hands the payloads out in
+// the order of ids. It stands apart from every connection, clock and thread, and knows nothing of the manager but what
+// its answers say (XEP-0124, XEP-0206).
+#![tactic(auto)]
+
+mod agreed;
+mod inbox;
+mod outgoing;
+mod replies;
+mod setup;
+mod told;
+
+pub use agreed::Agreed;
+pub use inbox::Inbox;
+pub use outgoing::Outgoing;
+pub use replies::{Answered, ClientEnd, Next, Queued, Why};
+pub use setup::ClientSetup;
+pub use told::Told;
