@@ -1,6 +1,8 @@
 // The program: it hands its words and the real streams to the top call.
 #![tactic(auto)]
 
+#[cfg(test)]
+mod limit_tests;
 mod run;
 #[cfg(test)]
 mod tests;

@@ -4,7 +4,7 @@ use std::alloc::Global;
 use std::test::Fail;
 
 // The status and the report of a script, over a source and a sink that fail at the listed calls.
-fn run(
+pub(crate) fn run(
     alloc: Global,
     script: &[u8],
     source_failing: &[u64],
@@ -75,7 +75,7 @@ fn scripts_give_their_reports(rt: HostRuntime) -> Result<(), Fail> {
 }
 
 // What tables write short: `@` is the namespace of a body, `%` that of the streams of its payload.
-fn spelled(alloc: Global, parts: [&[u8]; 2]) -> Result<Vec<u8>, Fail> {
+pub(crate) fn spelled(alloc: Global, parts: [&[u8]; 2]) -> Result<Vec<u8>, Fail> {
     let mut text = Vec::new(alloc);
     for part in parts {
         for byte in part {
@@ -161,7 +161,7 @@ fn bodies_are_answered(rt: HostRuntime) -> Result<(), Fail> {
 }
 
 // The lines of a script before each row of sessions, and what is reported of them.
-const CREATION: &[u8] =
+pub(crate) const CREATION: &[u8] =
     b"host example.org <stream:features/>\npost 1 <body rid='1000' to='example.org' wait='60' hold='1' ver='1.6' @/>\n";
 
 const CREATED: &[u8] =
@@ -372,19 +372,6 @@ fn creations_are_answered(rt: HostRuntime) -> Result<(), Fail> {
     let (status, given) = run(rt.alloc(), body, &[], &[])?;
     assert_eq!(rt; given.as_slice(), report);
     assert_eq!(rt; status, DONE);
-    Ok(())
-}
-
-#[test]
-fn lines_have_at_most_2_mebibytes(rt: HostRuntime) -> Result<(), Fail> {
-    let rows: [(usize, &[u8]); 2] = [(2097152, b"bad 2 grammar\n"), (2097153, b"bad 2 length\n")];
-    for (length, report) in rows {
-        let mut script = Vec::from_slice(rt.alloc(), b"open 5\n")?;
-        let line = vec![in rt.alloc(); b'x'; length]?;
-        script.extend_from_slice(&line)?;
-        let (_, given) = run(rt.alloc(), &script, &[], &[])?;
-        assert_eq!(rt; given.as_slice(), report);
-    }
     Ok(())
 }
 
