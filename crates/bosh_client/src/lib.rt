@@ -4,13 +4,23 @@
 #![tactic(auto)]
 
 mod agreed;
+mod answering;
+mod client;
+mod exchanges;
 mod inbox;
+mod keys;
 mod outgoing;
+mod queue;
+mod queueing;
+mod reading;
 mod replies;
+mod requesting;
+mod said;
 mod setup;
 mod told;
 
 pub use agreed::Agreed;
+pub use client::Client;
 pub use inbox::Inbox;
 pub use outgoing::Outgoing;
 pub use replies::{Answered, ClientEnd, Next, Queued, Why};
