@@ -170,3 +170,19 @@ stanza_load (Terminate ∷ items) bytes count first within longest = absurd (cc)
 
 pub length-take-within : {X : Type 0} (n : ℕ) (xs : List X) → n ≤ length xs → length (take n xs) ≡ n
 length-take-within n xs within = omega (arith, length-take n xs, within)
+
+-- it is a front
+pub front_take : (queue : List Outgoing) → front_of queue ≡ take (length (front_of queue)) queue
+front_take [] = refl
+front_take (Stanza bytes ∷ items) =
+    let all = Stanza bytes ∷ items in
+    let taken = longest_within (min most_children (length all)) all in
+    taken.1 ∙ take-own taken.0 all ∙ ap (λ n. take n all) (sym (ap length taken.1))
+  where
+    take-own : {X : Type 0} (n : ℕ) (xs : List X) → take n xs ≡ take (length (take n xs)) xs
+    take-own zero xs = refl
+    take-own (suc n) [] = refl
+    take-own (suc n) (x ∷ xs) = ap (λ rest. x ∷ rest) (take-own n xs)
+front_take (Restart ∷ items) = refl
+front_take (Pause seconds ∷ items) = refl
+front_take (Terminate ∷ items) = refl

@@ -6,5 +6,6 @@ pub mod Fronts
 pub mod KeyLemmas
 pub mod PlacesLemmas
 pub mod RequestLemmas
+pub mod RunLemmas
 pub mod SetupLemmas
 pub mod StepLemmas

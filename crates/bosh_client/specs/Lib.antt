@@ -8,6 +8,7 @@ pub mod Machine
 pub mod Outgoing
 pub mod Places
 pub mod PlainClient
+pub mod Promises
 pub mod Requests
 pub mod Runs
 pub mod Setup
