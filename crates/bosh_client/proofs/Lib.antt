@@ -1,1 +1,11 @@
+pub mod AnswerLemmas
 pub mod ClientRows
+pub mod DueLemmas
+pub mod FoundLemmas
+pub mod Fronts
+pub mod KeyLemmas
+pub mod PlacesLemmas
+pub mod RequestLemmas
+pub mod RunLemmas
+pub mod SetupLemmas
+pub mod StepLemmas

@@ -1,5 +1,5 @@
 -- How an answer is read.
-use Rattle.std.specs.Prelude.{◌≡◌, ℕ, Bool, true, false, List, [], ◌∷◌, map, Option, None, Some, is_none, ◌&&◌, ◌==◌, Result, Ok, Err, if◌then◌else◌}
+use Rattle.std.specs.Prelude.{◌≡◌, ℕ, Bool, true, false, List, [], ◌∷◌, map, Option, None, Some, is_some, Result, Ok, Err, if◌then◌else◌}
 use Rattle.std.specs.Option.{ok_or, option_map}
 use Rattle.bosh_types.specs.Rid.{rid_of}
 use Rattle.body_cutter.specs.Cutting.{body_cut_of}
@@ -11,6 +11,9 @@ use Rattle.session_attrs.specs.Forms.{number_of, says_httpbind, terminate_of}
 use Rattle.bosh_client.specs.declared.replies.ClientEnd.{ClientEnd}
 use Rattle.bosh_client.specs.declared.replies.Why.{Why}
 use Rattle.bosh_client.specs.declared.replies.Why.TheVariants as whys
+use Rattle.bosh_client.specs.declared.reading.AnswerError.{AnswerError}
+use Rattle.bosh_client.specs.declared.reading.AnswerError.TheVariants.{Memory, Broken}
+use Rattle.bosh_client.specs.declared.said.Said.{Said}
 use Rattle.bosh_client.specs.declared.told.Told.{Told}
 use Rattle.bosh_client.specs.AnswerMeaning.{condition_of}
 use Rattle.bosh_client.specs.AnswerValues.{AnswerValues, values_of}
@@ -26,36 +29,36 @@ abbrev pub said : {X : Type 0} → (List ℕ → Option X) → Option (List ℕ)
 said read None = Some None
 said read (Some text) = option_map Some (read text)
 
--- how a terminal answer ends the client
-abbrev pub end_by : Option (List ℕ) → Option Bool → Option ClientEnd
-end_by condition None = None
-end_by condition (Some terminal) = Some (record { condition = option_map condition_of condition })
-
-abbrev pub is_there : Option ℕ → Bool
-is_there None = false
-is_there (Some n) = true
-
--- what the values say; none where one is out of form
-unfoldable pub told_by : AnswerValues → List (List ℕ) → Option Told
-told_by v payloads = do
+-- the attributes that have a form; none where one is out of form
+unfoldable pub said_in : AnswerValues → Option Said
+said_in v = do
   terminal ← said terminate_of v.type
   ack ← said rid_of v.ack
   requests ← said number_of v.requests
   polling ← said number_of v.polling
   maxpause ← said number_of v.maxpause
-  Some (record {
-    end = end_by v.condition terminal;
-    sid = v.sid;
-    requests = requests;
-    polling = polling;
-    maxpause = maxpause;
-    acknowledges = is_there ack;
-    payloads = payloads;
-  })
+  Some (record { terminal = terminal; ack = ack; requests = requests; polling = polling; maxpause = maxpause })
+
+-- how a terminal answer ends the client; another one's condition is not looked at
+abbrev pub end_by : Option (List ℕ) → Option Bool → Option ClientEnd
+end_by condition None = None
+end_by condition (Some terminal) = Some (record { condition = option_map condition_of condition })
+
+-- what an answer tells that says this
+abbrev pub told_from : AnswerValues → List (List ℕ) → Said → Told
+told_from v payloads s = record {
+  end = end_by v.condition s.terminal;
+  sid = v.sid;
+  requests = s.requests;
+  polling = s.polling;
+  maxpause = s.maxpause;
+  acknowledges = is_some s.ack;
+  payloads = payloads;
+}
 
 -- what they say in the namespace of the protocol
 unfoldable pub answer_with : AnswerValues → List (List ℕ) → Result Told Why
-answer_with v payloads = if says_httpbind v.xmlns then ok_or (told_by v payloads) whys.Attribute else Err whys.Namespace
+answer_with v payloads = if says_httpbind v.xmlns then ok_or (option_map (told_from v payloads) (said_in v)) whys.Attribute else Err whys.Namespace
 
 -- the children of a body as their exact bytes
 abbrev pub payloads_at : List ℕ → List Span → List (List ℕ)
@@ -68,3 +71,9 @@ answer_in text (Err refusal) = Err (whys.Cut refusal)
 -- what this body tells a client, or the first reason for which it is no answer
 unfoldable pub answer_of : List ℕ → Result Told Why
 answer_of text = answer_in text (body_cut_of text)
+
+-- what was read is this, unless memory ran out
+abbrev pub IsRead : Result Told AnswerError → Result Told Why → Type 0
+IsRead (Ok tells) answer = answer ≡ Ok tells
+IsRead (Err Memory) answer = Unit {0}
+IsRead (Err (Broken why)) answer = answer ≡ Err why

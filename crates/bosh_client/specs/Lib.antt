@@ -1,10 +1,15 @@
 pub mod AnswerMeaning
 pub mod AnswerReading
 pub mod AnswerValues
+pub mod KeyPlace
 pub mod Keys
+pub mod Loads
 pub mod Machine
 pub mod Outgoing
+pub mod Places
 pub mod PlainClient
+pub mod Promises
 pub mod Requests
 pub mod Runs
 pub mod Setup
+pub mod StandsFor

@@ -117,11 +117,15 @@ copy c rid = if is_some (taken c rid) then None else option_map bytes_of (reques
 abbrev pub lacks_sid : PlainClient → ℕ → Told → Bool
 lacks_sid c rid tells = (rid == c.setup.first) && (is_none tells.end && is_none tells.sid)
 
+-- the answer of this id from now on
+abbrev pub with_answer : PlainClient → ℕ → Taken → PlainClient
+with_answer c rid answer = record c { answers = c.answers ++ (rid, answer) ∷ [] }
+
 abbrev pub take_answer : PlainClient → ℕ → List ℕ → ℕ → Result Told Why → PlainClient × Answered
 take_answer c rid body now (Err why) = (c, answerings.Broken why)
 take_answer c rid body now (Ok tells) =
     if lacks_sid c rid tells then (c, answerings.Broken NoSid)
-    else (record c { answers = c.answers ++ (rid, record { body = body; tells = tells; moment = now }) ∷ [] }, answerings.Done)
+    else (with_answer c rid (record { body = body; tells = tells; moment = now }), answerings.Done)
 
 abbrev pub answer : PlainClient → ℕ → List ℕ → ℕ → PlainClient × Answered
 answer c rid body now =

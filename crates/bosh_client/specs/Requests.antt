@@ -24,6 +24,10 @@ agreed_by setup tells = record {
 abbrev pub agreed : PlainClient → Option Agreed
 agreed c = option_map (λ answer. agreed_by c.setup answer.tells) (taken c c.setup.first)
 
+-- what is agreed by the answer to this request
+abbrev pub agreement : ClientSetup → ℕ → Told → Option Agreed
+agreement setup rid tells = if rid == setup.first then Some (agreed_by setup tells) else None
+
 -- a client without keys has none
 abbrev pub with_keys : {X : Type 0} → ClientSetup → Option X → Option X
 with_keys setup key = if setup.keys == 0 then None else key

@@ -4,14 +4,29 @@
 #![tactic(auto)]
 
 mod agreed;
+mod answering;
+mod client;
+mod exchanges;
 mod inbox;
+mod keys;
+mod laws;
 mod outgoing;
+mod queue;
+mod queueing;
+mod reading;
 mod replies;
+mod requesting;
+mod said;
 mod setup;
 mod told;
 
 pub use agreed::Agreed;
+pub use client::Client;
 pub use inbox::Inbox;
+pub use laws::{
+    a_body_is_fixed, acknowledgements_are_of_taken_answers, answers_tell_their_bodies,
+    payloads_are_handed_out_in_order, what_is_put_is_made_once,
+};
 pub use outgoing::Outgoing;
 pub use replies::{Answered, ClientEnd, Next, Queued, Why};
 pub use setup::ClientSetup;

@@ -1,0 +1,20 @@
+use Rattle.std.proofs.Common.{◌≡◌, ◌∙◌, sym, ap, subst}
+use Rattle.std.specs.Option.{option_or}
+use Rattle.bosh_client.specs.declared.exchanges.Slot.TheVariants.{Answered}
+use Rattle.bosh_client.specs.Places.{Places, filled}
+use Rattle.bosh_client.specs.PlainClient.{Taken}
+use Rattle.bosh_client.specs.Machine.{with_answer}
+use Rattle.bosh_client.specs.StandsFor.{HoldsRequests, StandsFor}
+use Rattle.bosh_client.proofs.AnswerLemmas.{answered_holds, filled_holds}
+use Rattle.bosh_client.proofs.client.Client.take.Goals as goal
+
+pub returns : goal.returns
+unfolding StandsFor
+returns c = λ plain body stands made none agrees.
+    let client = c.args.self.now in
+    let answer : Taken = record { body = body; tells = c.args.told; moment = c.args.now } in
+    let places = c.fill.ensures ∙ ap (λ b. filled client.exchanges c.args.rid (Answered c.args.told.payloads b)) c.is_some.ensures in
+    let held = subst (λ (p : Places). HoldsRequests p client.inbox (with_answer plain c.args.rid answer)) (sym places) (filled_holds plain c.args.rid answer none client.exchanges client.inbox stands.requests made) in
+    answered_holds plain c.args.rid answer none client _ _ _ _ stands (c.move_on.ensures.stands (with_answer plain c.args.rid answer) held)
+    (c.or.ensures ∙ ap (λ a. option_or c.args.made a) c.take.ensures.value ∙ ap (λ a. option_or a client.agreed) agrees)
+    c.or-self.ensures

@@ -1,0 +1,157 @@
+// Answers are taken, and their payloads handed out.
+ghost use Rattle.std.specs.Prelude.{◌≡◌, ℕ, ◌≤◌, IfOk, List, [], None, OnErr, false, is_none, is_some, true};
+ghost use Rattle.bosh_client.specs.Machine.{answer, hand_out, lacks_sid, with_answer};
+ghost use Rattle.bosh_client.specs.Places.{comes_next};
+ghost use Rattle.bosh_client.specs.PlainClient.{PlainClient, end_of, request_at, taken};
+ghost use Rattle.bosh_client.specs.Requests.{agreed_by, agreement};
+ghost use Rattle.bosh_client.specs.StandsFor.{Does, HoldsRequests, StandsFor};
+
+use crate::agreed::Agreed;
+use crate::client::Client;
+use crate::exchanges::{Exchanges, is_open};
+use crate::inbox::Inbox;
+use crate::reading::{AnswerError, read_answer};
+use crate::replies::{Answered, ClientEnd, Why};
+use crate::setup::ClientSetup;
+use crate::told::Told;
+use bosh_types::{CopyIn, Moment, Rid, Text};
+use std::alloc::{AllocError, Global};
+
+impl Client {
+    /// An answer to a request came. `Unmade` exactly where there is no such request; else `Stale` exactly where its answer was
+    /// taken before; else `Broken` with the first reason for which the body is no answer; else `Done`. All but `Done` change
+    /// nothing, and the first two take no memory. An `Err` comes from want of memory alone, and the client is as before.
+    pub fn answer(
+        &mut self,
+        alloc: Global,
+        rid: Rid,
+        body: &[u8],
+        now: Moment,
+    ) -> Result<Answered, AllocError>
+        ensures step { (plain : PlainClient) → StandsFor self.old plain
+            → IfOk result (λ reply. Does self.new reply (answer plain rid body.now now)) }
+        ensures err { OnErr result (self.new ≡ self.old) }
+    {
+        if !self.is_made(rid) {
+            return Ok(Answered::Unmade);
+        }
+        if !self.is_open(rid) {
+            return Ok(Answered::Stale);
+        }
+        let told = match read_answer(alloc, body) {
+            Ok(told) => told,
+            Err(AnswerError::Memory) => return Err(AllocError),
+            Err(AnswerError::Broken(why)) => return Ok(Answered::Broken(why)),
+        };
+        if self.lacks_sid(rid, &told) {
+            return Ok(Answered::Broken(Why::NoSid));
+        }
+        let made = self.agreement(alloc, rid, &told)?;
+        self.take(rid, told, made, now);
+        Ok(Answered::Done)
+    }
+
+    /// The next payload: those of the answers in the order of ids, up to the first id whose answer has not come or is terminal.
+    /// It takes no memory.
+    #[tactic(auto, unfolding(crate::specs::StandsFor::StandsFor))]
+    pub fn hand_out(&mut self) -> Option<Text>
+        ensures { (plain : PlainClient) → StandsFor self.old plain → Does self.new result (hand_out plain) }
+    {
+        move_on(&mut self.exchanges, &mut self.inbox);
+        self.inbox.take_first()
+    }
+
+    /// How the first terminal answer ended the client: `None` exactly where none was taken. It takes no memory.
+    #[tactic(auto, unfolding(crate::specs::StandsFor::StandsFor))]
+    pub fn ended(&self) -> Option<ClientEnd>
+        ensures { (plain : PlainClient) → StandsFor self.now plain → result ≡ end_of plain }
+    {
+        self.end
+    }
+
+    // Whether a request with this id was made.
+    #[tactic(auto, unfolding(crate::specs::StandsFor::StandsFor))]
+    fn is_made(&self, rid: Rid) -> bool
+        ensures { (plain : PlainClient) → StandsFor self.now plain → result ≡ is_some (request_at plain rid) }
+    {
+        if rid.value() < self.setup.first.value() {
+            return false;
+        }
+        match self.exchanges.next() {
+            Some(next) => rid.value() < next.value(),
+            None => true,
+        }
+    }
+
+    // Whether it has no answer yet.
+    #[tactic(auto, unfolding(crate::specs::StandsFor::StandsFor))]
+    fn is_open(&self, rid: Rid) -> bool
+        ensures { (plain : PlainClient) → StandsFor self.now plain → is_some (request_at plain rid) ≡ true → result ≡ is_none (taken plain rid) }
+    {
+        match self.exchanges.at(rid) {
+            Some(slot) => is_open(slot),
+            None => false,
+        }
+    }
+
+    fn lacks_sid(&self, rid: Rid, told: &Told) -> bool
+        ensures { (plain : PlainClient) → plain.setup ≡ self.now.setup → result ≡ lacks_sid plain rid told.now }
+    {
+        rid == self.setup.first && told.end.is_none() && told.sid.is_none()
+    }
+
+    // What is agreed by the answer to the creation.
+    fn agreement(&self, alloc: Global, rid: Rid, told: &Told) -> Result<Option<Agreed>, AllocError>
+        ensures { IfOk result (λ made. self.now.setup.hold ≤ 4 → made ≡ agreement self.now.setup rid told.now) }
+    {
+        if rid != self.setup.first {
+            return Ok(None);
+        }
+        Ok(Some(agreed_by(alloc, &self.setup, told)?))
+    }
+
+    // The answer is taken. It takes no memory.
+    #[tactic(auto, unfolding(crate::specs::StandsFor::StandsFor))]
+    fn take(&mut self, rid: Rid, told: Told, made: Option<Agreed>, now: Moment)
+        ensures { (plain : PlainClient) (body : List ℕ) → StandsFor self.old plain → is_some (request_at plain rid) ≡ true → taken plain rid ≡ None
+            → made ≡ agreement plain.setup rid told
+            → StandsFor self.new (with_answer plain rid (record { body = body; tells = told; moment = now })) }
+    {
+        self.agreed = made.or(self.agreed.take());
+        self.end = self.end.or(told.end);
+        self.last_taken = now;
+        self.exchanges.fill(rid, told.payloads, told.end.is_some());
+        move_on(&mut self.exchanges, &mut self.inbox);
+    }
+}
+
+// Goes on to the next answer that has payloads to be handed out. It takes no memory.
+fn move_on(exchanges: &mut Exchanges, inbox: &mut Inbox)
+    ensures stands { (plain : PlainClient) → HoldsRequests exchanges.old inbox.old plain → HoldsRequests exchanges.new inbox.new plain }
+    ensures stops { inbox.new ≡ [] → comes_next exchanges.new.slots ≡ false }
+{
+    while inbox.is_empty() {
+        match exchanges.take_front() {
+            Some(payloads) => *inbox = payloads,
+            None => return,
+        }
+    }
+}
+
+// What the creation's answer says; what it leaves out is read as is usual.
+fn agreed_by(alloc: Global, setup: &ClientSetup, told: &Told) -> Result<Agreed, AllocError>
+    ensures { IfOk result (λ agreed. setup.now.hold ≤ 4 → agreed ≡ agreed_by setup.now told.now) }
+{
+    let sid = match &told.sid {
+        Some(sid) => sid.copy_in(alloc)?,
+        None => Text::from_vec(Vec::new(alloc)),
+    };
+    let usual = setup.hold.saturating_add(1);
+    Ok(Agreed {
+        sid,
+        requests: told.requests.unwrap_or(usual).max(1),
+        polling: told.polling.unwrap_or(5),
+        maxpause: told.maxpause.unwrap_or(0),
+        acks: setup.ack && told.acknowledges,
+    })
+}

@@ -1,0 +1,43 @@
+ghost use Rattle.std.specs.Prelude.{◌≡◌, ℕ, ◌≤◌, ◌++◌, All, List, Ok, Some, length};
+ghost use Rattle.bosh_client.specs.declared.setup.ClientSetup.{ClientSetup};
+ghost use Rattle.bosh_client.specs.AnswerReading.{answer_of};
+ghost use Rattle.bosh_client.specs.Machine.{copy, new_client};
+ghost use Rattle.bosh_client.specs.PlainClient.{Made, PlainClient, bytes_of, deliverable, items_made, queued, request_at, was_handed, was_made, was_put};
+ghost use Rattle.bosh_client.specs.Promises.{Acknowledges, Begins, is_queued, payloads_in};
+ghost use Rattle.bosh_client.specs.Runs.{Call, after, client_after, replies};
+ghost use Rattle.bosh_client.specs.StandsFor.{AreFrom};
+
+/// What the requests of a client took, and then what is queued, is all that was accepted, in order: nothing is lost,
+/// doubled or moved. So it is with its stanzas and restarts. The requests have ids one after the other.
+pub fn what_is_put_is_made_once()
+    ensures all { (setup : ClientSetup) (calls : List Call) → 1 ≤ setup.first →
+        items_made (client_after setup calls) ++ queued (client_after setup calls) ≡ (client_after setup calls).accepted }
+    ensures put { (setup : ClientSetup) (calls : List Call) → 1 ≤ setup.first →
+        was_made (client_after setup calls) ++ is_queued (client_after setup calls) ≡ was_put (client_after setup calls) }
+    ensures ids { (setup : ClientSetup) (calls : List Call) → 1 ≤ setup.first → AreFrom (client_after setup calls).setup.first (client_after setup calls).requests }
+{}
+
+/// A request stays what it is, whatever calls come, and its copy is its bytes whenever it is asked for.
+pub fn a_body_is_fixed()
+    ensures request { (c : PlainClient) (calls : List Call) (rid : ℕ) (request : Made) → request_at c rid ≡ Some request → request_at (after c calls) rid ≡ Some request }
+    ensures copies { (c : PlainClient) (calls : List Call) (rid : ℕ) (request : Made) (body : List ℕ) → request_at c rid ≡ Some request
+        → copy (after c calls) rid ≡ Some body → body ≡ bytes_of request }
+{}
+
+/// What was handed out, by the replies, is the first so many payloads of the answers in the order of ids, and these only
+/// grow by more payloads after them.
+pub fn payloads_are_handed_out_in_order()
+    ensures handed { (setup : ClientSetup) (calls : List Call) → 1 ≤ setup.first → payloads_in (replies (new_client setup) calls) ≡ was_handed (client_after setup calls) }
+    ensures within { (setup : ClientSetup) (calls : List Call) → 1 ≤ setup.first → (client_after setup calls).handed_out ≤ length (deliverable (client_after setup calls)) }
+    ensures grows { (c : PlainClient) (calls : List Call) → Begins (deliverable c) (deliverable (after c calls)) }
+{}
+
+/// A request acknowledges an id below its own up to which all answers were taken.
+pub fn acknowledgements_are_of_taken_answers()
+    ensures { (setup : ClientSetup) (calls : List Call) → 1 ≤ setup.first → All (Acknowledges (client_after setup calls)) (client_after setup calls).requests }
+{}
+
+/// What an answer tells is what its body is read as.
+pub fn answers_tell_their_bodies()
+    ensures { (setup : ClientSetup) (calls : List Call) → 1 ≤ setup.first → All (λ answer. answer_of answer.1.body ≡ Ok answer.1.tells) (client_after setup calls).answers }
+{}
