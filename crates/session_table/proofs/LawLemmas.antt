@@ -1,0 +1,51 @@
+-- Sessions of one name are one.
+use Rattle.std.proofs.Common.{◌≡◌, ◌⊎◌, ◌≤◌, ◌<◌, ◌+◌, ℕ, zero, suc, List, [], ◌∷◌, length, All, refl, sym, ◌∙◌, ap, subst, inl, inr, arith}
+use Rattle.std.specs.Prelude.{Contains}
+use Rattle.std.specs.List.{filter_map, slice_index_or}
+use Rattle.std.proofs.lemmas.List.Elements.{All-contains}
+use Rattle.session_table.specs.declared.entry.Entry.{Entry}
+use Rattle.session_table.specs.History.{IsLegal, opening_in, openings_of}
+use Rattle.session_table.specs.Sessions.{OpenedSession}
+use Rattle.session_table.specs.Sids.{IsSidOf}
+use Rattle.session_table.proofs.KeepingLemmas.{opened_below}
+use Rattle.session_table.proofs.LiveLists.{AllBelow, Ascends, numbers_ascend}
+use Rattle.session_table.proofs.SidLemmas.{one_number}
+
+head_or_later : {X : Type 0} (s x : X) (ss : List X) → Contains (s ∷ ss) x → (s ≡ x) ⊎ Contains ss x
+head_or_later s x ss (zero, in_it, is) = inl is
+head_or_later s x ss (suc k, in_it, is) = inr (k, omega (arith, in_it), is)
+
+above : (m : ℕ) (ss : List OpenedSession) (x : OpenedSession) → Ascends m ss → Contains ss x → m ≤ x.number
+above m [] x up is = absurd (omega (arith, is.1))
+above m (s ∷ ss) x up is = by (head_or_later s x ss is) (above (s.number + 1) ss x up.1)
+  where
+    by : (s ≡ x) ⊎ Contains ss x → (Contains ss x → s.number + 1 ≤ x.number) → m ≤ x.number
+    by (inl here) later = subst (λ (y : OpenedSession). m ≤ y.number) here up.0
+    by (inr there) later = omega (arith, up.0, later there)
+
+below : (top : ℕ) (ss : List OpenedSession) (x : OpenedSession) → AllBelow top ss → Contains ss x → x.number < top
+below top [] x low is = absurd (omega (arith, is.1))
+below top (s ∷ ss) x low is = by (head_or_later s x ss is) (below top ss x low.1)
+  where
+    by : (s ≡ x) ⊎ Contains ss x → (Contains ss x → x.number < top) → x.number < top
+    by (inl here) later = subst (λ (y : OpenedSession). y.number < top) here low.0
+    by (inr there) later = later there
+
+one_of_number : (m : ℕ) (ss : List OpenedSession) (x y : OpenedSession) → Ascends m ss → Contains ss x → Contains ss y → x.number ≡ y.number → x ≡ y
+one_of_number m [] x y up is_x is_y same = absurd (omega (arith, is_x.1))
+one_of_number m (s ∷ ss) x y up is_x is_y same =
+    by (head_or_later s x ss is_x) (head_or_later s y ss is_y) (λ there there'. one_of_number (s.number + 1) ss x y up.1 there there' same)
+  where
+    by : (s ≡ x) ⊎ Contains ss x → (s ≡ y) ⊎ Contains ss y → (Contains ss x → Contains ss y → x ≡ y) → x ≡ y
+    by (inl here) (inl here') later = sym here ∙ here'
+    by (inl here) (inr there') later = absurd (omega (arith, above (s.number + 1) ss y up.1 there', ap (λ (z : OpenedSession). z.number) here, same))
+    by (inr there) (inl here') later = absurd (omega (arith, above (s.number + 1) ss x up.1 there, ap (λ (z : OpenedSession). z.number) here', same))
+    by (inr there) (inr there') later = later there there'
+
+pub one_of_name : (log : List Entry) → IsLegal log → (x y : OpenedSession) → Contains (openings_of log) x → Contains (openings_of log) y → x.sid ≡ y.sid → x ≡ y
+one_of_name log legal x y is_x is_y same =
+    let few : (z : OpenedSession) → Contains (openings_of log) z → z.number < length (openings_of log) + 1 = λ z is. below _ (openings_of log) z (opened_below log) is in
+    let names : (z : OpenedSession) → Contains (openings_of log) z → IsSidOf z.sid z.number = λ z is. All-contains (λ s. IsSidOf s.sid s.number) (openings_of log) z legal.named is in
+    one_of_number 1 (openings_of log) x y (numbers_ascend 1 (filter_map opening_in log)) is_x is_y
+    (one_number y.sid x.number y.number (omega (arith, few x is_x, legal.few_opened)) (omega (arith, few y is_y, legal.few_opened))
+    (subst (λ t. IsSidOf t x.number) same (names x is_x)) (names y is_y))

@@ -1,0 +1,9 @@
+pub mod Sids
+pub mod Sessions
+pub mod History
+pub mod Opens
+pub mod Handles
+pub mod Keeping
+pub mod Entering
+pub mod Replies
+pub mod Serving

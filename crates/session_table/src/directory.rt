@@ -1,0 +1,237 @@
+// The directory of live sessions.
+ghost use Rattle.std.specs.Prelude.{◌≡◌, ◌+◌, ◌<◌, ◌≤◌, [], IfOk, OnErr, OnOk, length};
+ghost use Rattle.std.specs.Option.{option_map};
+ghost use Rattle.bosh_types.specs.Limits.{most_openings, most_sessions};
+ghost use Rattle.session_attrs.specs.declared.request.Creation.{Creation};
+ghost use Rattle.session_attrs.specs.declared.request.Kind.TheVariants as kinds;
+ghost use Rattle.session_attrs.specs.Terms.{terms_of};
+ghost use Rattle.session_table.specs.declared.calls.DirectoryCall.TheVariants as calls;
+ghost use Rattle.session_table.specs.Entering.{EntersOpening, RemovesOrNot};
+ghost use Rattle.session_table.specs.History.{IsLegal, live_at, live_of, openings_of};
+ghost use Rattle.session_table.specs.Replies.{FindsOrNot, MayOpen, Starts, Steps, live_sessions};
+ghost use Rattle.session_table.specs.Sids.{IsSidOf};
+
+use crate::calls::{DirectoryReply, LiveSession, LiveSessions, Opened};
+use crate::entry::{Entry, Event};
+use crate::handle::SessionHandle;
+use crate::opening::Opening;
+use crate::sid::{number_in, sid_text};
+use bosh_types::limits::{MOST_OPENINGS, MOST_SESSIONS};
+use bosh_types::{SharedText, Terms};
+use parked_gate::Gate;
+use session_attrs::{Kind, Request, negotiate};
+use session_journal::Journalled;
+use std::alloc::{AllocError, Global};
+use std::collections::BTreeMap;
+use std::marker::Model;
+use std::snapshot::Snapshot;
+use std::sync::Arc;
+
+/// Which sessions are live. Clauses see its history.
+#[derive(Drop)]
+pub struct Directory {
+    alloc: Global,
+    // The live sessions by their opening numbers.
+    sessions: BTreeMap<u64, SessionHandle>,
+    entries: Vec<Entry>,
+    // How many sessions were opened.
+    openings: u64,
+}
+
+impl Model for Directory {
+    ghost use Rattle.std.specs.Prelude.{List};
+    ghost use Rattle.session_table.specs.declared.entry.Entry.{Entry};
+
+    ghost Value = { List Entry };
+
+    ghost use Rattle.session_table.specs.Keeping.{Keeps};
+
+    ghost view = { λ d. d.entries.items };
+
+    ghost invariant = { λ d. Keeps d.sessions.entries d.entries.items d.openings };
+}
+
+/// A session that was just opened, and the body that answers its creation.
+type Started = (SessionHandle, SharedText);
+
+impl Directory {
+    /// No session is live, and none was opened. It takes no memory.
+    pub fn new(alloc: Global) -> Directory
+        ensures { result ≡ [] }
+    {
+        Directory {
+            alloc,
+            sessions: BTreeMap::new(alloc),
+            entries: Vec::new(alloc),
+            openings: 0,
+        }
+    }
+
+    /// The history.
+    pub fn entries(&self) -> &[Entry]
+        ensures entries { result.now ≡ self.now }
+        ensures legal { IsLegal self.now }
+    {
+        self.entries.as_slice()
+    }
+
+    /// How many sessions are live.
+    fn live_count(&self) -> usize
+        ensures { result ≡ length (live_of self.now) }
+    {
+        self.sessions.len()
+    }
+
+    /// Opens a session for the creation, under the drawn part of its name and the next opening number.
+    pub(crate) fn open(
+        &mut self,
+        caller: u32,
+        opening: &Opening,
+    ) -> Result<DirectoryReply, AllocError>
+        requires { MayOpen opening.now }
+        ensures step { IfOk result (λ reply. Steps self.old caller (calls.Open opening.now) reply self.new) }
+        ensures err { OnErr result (self.new ≡ self.old) }
+    {
+        if self.live_count() >= MOST_SESSIONS as usize {
+            return Ok(DirectoryReply::TableFull);
+        }
+        if self.openings >= u64::from(MOST_OPENINGS) {
+            return Ok(DirectoryReply::OpeningsSpent);
+        }
+        let (mut session, answer) = start(self.alloc, self.openings + 1, opening)?;
+        let handed_out = session.split()?;
+        self.enter(caller, session)?;
+        Ok(DirectoryReply::Opened(Opened {
+            session: handed_out,
+            answer,
+        }))
+    }
+
+    /// The session is one of the live ones.
+    fn enter(&mut self, caller: u32, session: SessionHandle) -> Result<(), AllocError>
+        requires not_full { length (live_of self.old) < most_sessions }
+        requires not_spent { length (openings_of self.old) < most_openings }
+        requires number { session.number ≡ length (openings_of self.old) + 1 }
+        requires sid { IsSidOf session.sid session.number }
+        ensures ok { OnOk result (EntersOpening self.old caller session self.new) }
+        ensures err { OnErr result (self.new ≡ self.old) }
+    {
+        self.entries.reserve(1)?;
+        let sid = session.sid.again()?;
+        let event = Event::Opened(Snapshot::of(&*session.gate));
+        let number = session.number;
+        self.sessions.insert(number, session)?;
+        self.entries.push_reserved(Entry { caller, sid, event });
+        self.openings = number;
+        Ok(())
+    }
+
+    /// The opening number of the live session of this name.
+    fn number_of(&self, sid: &[u8]) -> Option<u64>
+        ensures { result ≡ option_map (λ session. session.number) (live_at self.now sid.now) }
+    {
+        let sessions = &self.sessions;
+        let Some(number) = number_in(sid) else {
+            return None;
+        };
+        let Some(session) = sessions.get(&number) else {
+            return None;
+        };
+        if session.sid.as_slice() == sid {
+            return Some(number);
+        }
+        None
+    }
+
+    /// A handle of the live session of this name, with a pass of its own.
+    pub(crate) fn find(&mut self, sid: &[u8]) -> Result<Option<SessionHandle>, AllocError>
+        ensures same { self.new ≡ self.old }
+        ensures found { IfOk result (FindsOrNot self.old sid.now) }
+    {
+        let Some(number) = self.number_of(sid) else {
+            return Ok(None);
+        };
+        let Some(session) = self.sessions.get_mut(&number) else {
+            unreachable!();
+        };
+        let handle = session.split()?;
+        Ok(Some(handle))
+    }
+
+    /// The live session of this name is live no longer. Whether there was one.
+    pub(crate) fn remove(&mut self, caller: u32, sid: &[u8]) -> Result<bool, AllocError>
+        ensures removed { IfOk result (λ removed. RemovesOrNot self.old caller sid.now removed self.new) }
+        ensures err { OnErr result (self.new ≡ self.old) }
+    {
+        let Some(number) = self.number_of(sid) else {
+            return Ok(false);
+        };
+        let Some(session) = self.sessions.get(&number) else {
+            unreachable!();
+        };
+        let sid = session.sid.again()?;
+        self.entries.reserve(1)?;
+        self.sessions.remove(&number);
+        let event = Event::Removed;
+        self.entries.push_reserved(Entry { caller, sid, event });
+        Ok(true)
+    }
+
+    /// The live sessions, in the order in which they were opened.
+    pub(crate) fn live(&self) -> Result<LiveSessions, AllocError>
+        ensures { IfOk result (λ live. live ≡ live_sessions self.now) }
+    {
+        let mut live = Vec::with_capacity(self.alloc, self.sessions.len())?;
+        for (number, session) in &self.sessions {
+            live.push(LiveSession {
+                sid: session.sid.again()?,
+                number: *number,
+            })?;
+        }
+        Ok(LiveSessions::from_vec(live))
+    }
+}
+
+/// A session for the creation, behind a gate of its own.
+fn start(alloc: Global, number: u64, opening: &Opening) -> Result<Started, AllocError>
+    requires may { MayOpen opening.now }
+    requires few { number ≤ most_openings }
+    ensures { IfOk result (λ started. Starts number opening.now started.0 started.1) }
+{
+    let sid = sid_text(alloc, opening.name.as_slice(), number)?;
+    let (journalled, answer) = Journalled::open(
+        alloc,
+        &opening.request,
+        opening.body.as_slice(),
+        terms_in(&opening.request),
+        sid.as_slice(),
+        opening.host.as_slice(),
+        &opening.greeting,
+        opening.at,
+        0,
+    )?;
+    let Ok((gate, pass)) = Gate::new(alloc, journalled) else {
+        return Err(AllocError);
+    };
+    let Ok(gate) = Arc::new(alloc, gate) else {
+        return Err(AllocError);
+    };
+    let session = SessionHandle {
+        sid,
+        number,
+        gate,
+        pass,
+    };
+    Ok((session, answer))
+}
+
+// The terms of the session that the request creates.
+fn terms_in(request: &Request) -> Terms
+    requires { (creation : Creation) × (request.now.kind ≡ kinds.Creation creation) }
+    ensures { (creation : Creation) → request.now.kind ≡ kinds.Creation creation → result ≡ terms_of creation }
+{
+    match &request.kind {
+        Kind::Creation(creation) => negotiate(creation),
+        Kind::Later { .. } => unreachable!(),
+    }
+}

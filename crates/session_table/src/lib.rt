@@ -1,0 +1,20 @@
+// The directory of live sessions: many threads open, find and remove sessions through a gate of its own, and each is handed
+// the gate of the very session that it asked for, with a pass to call it with.
+#![tactic(auto)]
+
+mod calls;
+mod directory;
+mod entry;
+mod handle;
+mod laws;
+mod object;
+mod opening;
+mod serving;
+mod sid;
+
+pub use calls::{DirectoryCall, DirectoryReply, LiveSession, LiveSessions, Opened, Question};
+pub use directory::Directory;
+pub use entry::{Entry, Event};
+pub use handle::SessionHandle;
+pub use laws::names_differ;
+pub use opening::Opening;
