@@ -5,7 +5,11 @@ pub mod FoundLemmas
 pub mod Fronts
 pub mod KeyLemmas
 pub mod PlacesLemmas
+pub mod ReadingLemmas
 pub mod RequestLemmas
 pub mod RunLemmas
 pub mod SetupLemmas
 pub mod StepLemmas
+pub mod WrittenAnswers
+pub mod NamedValues
+pub mod WrittenNumbers

@@ -9,6 +9,7 @@ pub mod Outgoing
 pub mod Places
 pub mod PlainClient
 pub mod Promises
+pub mod ReadBack
 pub mod Requests
 pub mod Runs
 pub mod Setup

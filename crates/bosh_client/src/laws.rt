@@ -1,6 +1,14 @@
-ghost use Rattle.std.specs.Prelude.{◌≡◌, ℕ, ◌≤◌, ◌++◌, All, List, Ok, Some, length};
+ghost use Rattle.std.specs.Prelude.{◌≡◌, ◌↔◌, Err, ℕ, ◌≤◌, ◌++◌, All, List, Ok, Some, length};
+ghost use Rattle.body_writer.specs.declared.answer.AnswerParts.{AnswerParts};
+ghost use Rattle.body_writer.specs.Answer.{answer_text};
+ghost use Rattle.body_writer.specs.ReadBack.{IsAnswer};
+ghost use Rattle.bosh_client.specs.ReadBack.{IsInForm, told_of};
 ghost use Rattle.bosh_client.specs.declared.setup.ClientSetup.{ClientSetup};
-ghost use Rattle.bosh_client.specs.AnswerReading.{answer_of};
+ghost use Rattle.bosh_client.specs.declared.replies.Why.{Why};
+ghost use Rattle.bosh_client.specs.declared.told.Told.{Told};
+ghost use Rattle.bosh_client.specs.AnswerMeaning.{MeansAnswer, broken_values};
+ghost use Rattle.bosh_client.specs.AnswerReading.{answer_of, answer_with};
+ghost use Rattle.bosh_client.specs.AnswerValues.{AnswerValues};
 ghost use Rattle.bosh_client.specs.Machine.{copy, new_client};
 ghost use Rattle.bosh_client.specs.PlainClient.{Made, PlainClient, bytes_of, deliverable, items_made, queued, request_at, was_handed, was_made, was_put};
 ghost use Rattle.bosh_client.specs.Promises.{Acknowledges, Begins, is_queued, payloads_in};
@@ -40,4 +48,17 @@ pub fn acknowledgements_are_of_taken_answers()
 /// What an answer tells is what its body is read as.
 pub fn answers_tell_their_bodies()
     ensures { (setup : ClientSetup) (calls : List Call) → 1 ≤ setup.first → All (λ answer. answer_of answer.1.body ≡ Ok answer.1.tells) (client_after setup calls).answers }
+{}
+
+/// Reading an answer gives exactly what its attributes and payloads mean, which is one thing at most, and otherwise the
+/// first reason for which they mean nothing.
+pub fn reading_gives_what_an_answer_means()
+    ensures one { (v : AnswerValues) (payloads : List (List ℕ)) (t u : Told) → MeansAnswer v payloads t → MeansAnswer v payloads u → t ≡ u }
+    ensures read { (v : AnswerValues) (payloads : List (List ℕ)) (t : Told) → (answer_with v payloads ≡ Ok t) ↔ MeansAnswer v payloads t }
+    ensures broken { (v : AnswerValues) (payloads : List (List ℕ)) (why : Why) → (answer_with v payloads ≡ Err why) ↔ (broken_values v ≡ Some why) }
+{}
+
+/// The text of an answer tells a client the parts that it was written from.
+pub fn written_answers_read_back()
+    ensures { (parts : AnswerParts) → IsAnswer parts → IsInForm parts → answer_of (answer_text parts) ≡ Ok (told_of parts) }
 {}
