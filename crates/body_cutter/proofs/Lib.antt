@@ -41,6 +41,7 @@ pub mod Utf8Bodies
 pub mod Utf8Pieces
 pub mod EndLemmas
 pub mod FedLemmas
+pub mod RunsRead
 pub mod CompletionTools
 pub mod CompletionReferences
 pub mod CompletionStates

@@ -56,7 +56,7 @@ rest_append (b ∷ text) w more = by (utf8_next w b) (λ next. rest_append text 
     by None ih = refl
     by (Some next) ih = ih next
 
-whole_is : (w : Wide) → is_whole w ≡ true → w ≡ Whole
+pub whole_is : (w : Wide) → is_whole w ≡ true → w ≡ Whole
 whole_is Whole h = refl
 whole_is One h = absurd (cc)
 whole_is Two h = absurd (cc)

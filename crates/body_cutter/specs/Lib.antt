@@ -8,6 +8,7 @@ pub mod Completion
 pub mod Viable
 pub mod Reading
 pub mod Refusal
+pub mod Scanning
 pub mod Cutting
 pub mod Ends
 pub mod Feeding

@@ -98,10 +98,17 @@ fn read_piece(
     requires { start + length piece.now < 2 ^ 63 }
     ensures { IfOk result (λ stop. ReadsPiece (reading start (state_of reader.old) piece.now) start piece.now stop (state_of reader.new)) }
 {
-    for (at, b) in piece.iter().enumerate() {
-        if !reader.step(start + at, *b)? {
-            return Ok(Some((at, *b)));
+    let mut at = 0;
+    while at < piece.len() {
+        at += reader.run(&piece[at..])?;
+        if at == piece.len() {
+            return Ok(None);
         }
+        let b = piece[at];
+        if !reader.step(start + at, b)? {
+            return Ok(Some((at, b)));
+        }
+        at += 1;
     }
     Ok(None)
 }

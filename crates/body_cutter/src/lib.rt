@@ -17,6 +17,7 @@ mod prolog;
 mod reader;
 mod references;
 mod refusing;
+mod run;
 mod tags;
 mod tail;
 mod whole_text;

@@ -119,6 +119,21 @@ pub enum Around {
     Child,
 }
 
+/// Bytes that each lead back to the same place.
+#[derive(Clone, Copy)]
+pub enum Run {
+    /// Character data of a child.
+    Data,
+    /// A CDATA section.
+    Section,
+    /// A value with this quote.
+    Value(u8),
+    /// A name.
+    Name,
+    /// The zeros before a number.
+    Zeros,
+}
+
 /// What a byte does to what the reader keeps.
 #[derive(Clone, Copy)]
 pub enum Act {

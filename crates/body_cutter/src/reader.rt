@@ -32,7 +32,7 @@ pub(crate) struct Reader {
     pub(crate) wide: Wide,
     pub(crate) reference: Option<Reference>,
     pub(crate) elements: OpenNames,
-    name: Vec<u8>,
+    pub(crate) name: Vec<u8>,
     name_start: usize,
     name_end: usize,
     seen: NameSet,
@@ -234,7 +234,7 @@ impl Reader {
 
     #[inline]
     #[tactic(auto, unfolding(crate::specs::Reader::with_value))]
-    fn grow_value(&mut self, bytes: &[u8]) -> Result<(), AllocError>
+    pub(crate) fn grow_value(&mut self, bytes: &[u8]) -> Result<(), AllocError>
         ensures { OnOk result (state_of self.new ≡ with_value (state_of self.old) bytes.now) }
     {
         if is_body_tag(self.elements.around(self.kind)) {

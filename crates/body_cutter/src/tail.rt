@@ -54,9 +54,12 @@ impl Tail {
     pub(crate) fn grow(&mut self, piece: &[u8])
         ensures { self.new ≡ last_bytes (self.old ++ piece.now) }
     {
-        let _ = &self.count;
-        let from = piece.len().saturating_sub(KEPT);
-        for b in &piece[from..] {
+        if piece.len() >= KEPT {
+            self.bytes.copy_from_slice(&piece[piece.len() - KEPT..]);
+            self.count = KEPT;
+            return;
+        }
+        for b in piece {
             self.push(*b);
         }
     }

@@ -2,6 +2,8 @@ use crate::{Cut, CutError, CutRefusal, Cutter, Span, cut, cut_pieces, read_stanz
 use std::alloc::{AllocError, Global};
 use std::test::Fail;
 
+mod stanzas;
+
 fn told(answer: Result<Cut, CutError>) -> Result<Option<CutRefusal>, AllocError> {
     match answer {
         Ok(_) => Ok(None),
@@ -308,54 +310,6 @@ fn refuses_characters_that_are_not_allowed(rt: HostRuntime) -> Result<(), Fail> 
     for (text, want) in &rows {
         let found = refusal_however(alloc, text)?;
         assert_eq!(rt; found, Some(*want), "at {text:?}");
-    }
-    Ok(())
-}
-
-#[test]
-fn reads_a_stanza_by_itself(rt: HostRuntime) -> Result<(), Fail> {
-    let alloc = rt.alloc();
-    let rows: [(&str, Result<(), CutError>); 10] = [
-        ("<a/>", Ok(())),
-        ("<message to='a@b'><body>]] &gt;</body></message>", Ok(())),
-        ("<a>", Err(CutError::Refused(CutRefusal::Malformed(3)))),
-        ("", Err(CutError::Refused(CutRefusal::Malformed(0)))),
-        ("<!--", Err(CutError::Refused(CutRefusal::Forbidden(1)))),
-        ("<?x?>", Err(CutError::Refused(CutRefusal::Forbidden(1)))),
-        ("</a>", Err(CutError::Refused(CutRefusal::Malformed(1)))),
-        (" <a/>", Err(CutError::Refused(CutRefusal::Malformed(0)))),
-        ("<a/> ", Err(CutError::Refused(CutRefusal::Malformed(4)))),
-        (
-            "<a>&#0;</a>",
-            Err(CutError::Refused(CutRefusal::Forbidden(6))),
-        ),
-    ];
-    for (text, want) in &rows {
-        assert_eq!(rt; read_stanza(alloc, text.as_bytes()), *want, "at {text}");
-    }
-    for (count, want) in [
-        (63, Ok(())),
-        (64, Err(CutError::Refused(CutRefusal::TooDeep))),
-    ] {
-        let mut text = repeated(alloc, "", "<a>", count, "<b/>")?;
-        let closed = repeated(alloc, "", "</a>", count, "")?;
-        text.extend_from_slice(closed.as_slice())?;
-        assert_eq!(rt;
-            read_stanza(alloc, text.as_slice()),
-            want,
-            "{count} elements around one"
-        );
-    }
-    for (count, want) in [
-        (999_993, Ok(())),
-        (999_994, Err(CutError::Refused(CutRefusal::TooLong))),
-    ] {
-        let text = repeated(alloc, "<a>", "x", count, "</a>")?;
-        assert_eq!(rt;
-            read_stanza(alloc, text.as_slice()),
-            want,
-            "data of {count} bytes"
-        );
     }
     Ok(())
 }

@@ -11,5 +11,3 @@ pub mod RunLemmas
 pub mod SetupLemmas
 pub mod StepLemmas
 pub mod WrittenAnswers
-pub mod NamedValues
-pub mod WrittenNumbers

@@ -28,8 +28,8 @@ use Rattle.body_writer.specs.ReadBack.{IsAnswer}
 use Rattle.body_writer.proofs.AnswerBlocks.{answer_reads}
 use Rattle.session_attrs.specs.Forms.{is_httpbind, number_of, terminate_of}
 use Rattle.session_attrs.specs.Rows.{Says, told}
-use Rattle.bosh_client.proofs.NamedValues.{value_in, value_of_written, first, Looks, look_for, looks_none, looks_one, looks_nothing, looks_both}
-use Rattle.bosh_client.proofs.WrittenNumbers.{told_number}
+use Rattle.session_attrs.proofs.NamedValues.{value_in, value_of_written, first, Looks, look_for, looks_none, looks_one, looks_nothing, looks_both}
+use Rattle.session_attrs.proofs.WrittenNumbers.{told_number}
 use Rattle.bosh_client.specs.declared.replies.ClientEnd.{ClientEnd}
 use Rattle.bosh_client.specs.declared.replies.Why.{Why}
 use Rattle.bosh_client.specs.declared.told.Told.{Told}

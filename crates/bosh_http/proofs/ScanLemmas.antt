@@ -35,7 +35,7 @@ within_is BeforeReturn b = refl
 within_is MethodStart b = fine_within (is_token_byte b) Method refl
 within_is Method b = either_within (b == 32) _ _ refl (fine_within (is_token_byte b) Method refl)
 within_is Target b = either_within (b == 32) _ _ refl (fine_within (is_uri_byte b) Target refl)
-within_is (Line left) b = either_within (b == 10) _ _ refl (either_within (left == 0) _ _ (value_within b) refl)
+within_is (Line left) b = either_within (b == 10) _ _ refl (either_within (b == 13) _ _ refl (either_within (left == 0) _ _ (value_within b) refl))
 within_is LineStart b = fine_within (is_token_byte b) Name refl
 within_is Name b = either_within (b == 58) _ _ refl (fine_within (is_token_byte b) Name refl)
 within_is Value b = value_within b

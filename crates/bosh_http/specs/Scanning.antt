@@ -15,7 +15,7 @@ value_step b = if b == 13 then (Return, false) else if b == 10 then (LineStart, 
 
 -- in the first line
 unfoldable pub line_step : ℕ → ℕ → Place × Bool
-line_step left b = if b == 10 then (LineStart, true) else if left == 0 then value_step b else (Line (left - 1), true)
+line_step left b = if b == 10 then (LineStart, true) else if b == 13 then (Return, true) else if left == 0 then value_step b else (Line (left - 1), true)
 
 -- from the first line on
 unfoldable pub within_step : Place → ℕ → Place × Bool

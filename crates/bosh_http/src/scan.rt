@@ -136,6 +136,9 @@ fn step_in_line(left: u8, byte: u8) -> (Place, bool)
     if byte == b'\n' {
         return (Place::LineStart, true);
     }
+    if byte == b'\r' {
+        return (Place::Return, true);
+    }
     if left == 0 {
         return step_in_value(byte);
     }

@@ -4,6 +4,7 @@
 #![tactic(auto)]
 
 mod bell;
+mod feed;
 mod giving;
 mod link;
 mod memory;
@@ -21,6 +22,7 @@ mod tcp;
 mod tests;
 
 pub use bell::{Bell, BellKey, ListedBell, SteadyBell, Woken};
+pub use feed::{Fed, Feed, KeptContent};
 pub use giving::{WriteFault, give_all};
 pub use link::Link;
 pub use memory::{MemorySink, MemorySource};

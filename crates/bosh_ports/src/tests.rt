@@ -109,3 +109,14 @@ fn a_link_in_memory_keeps_its_sizes_and_its_list(rt: HostRuntime) -> Result<(), 
     assert!(rt; link.is_closed());
     Ok(())
 }
+
+#[test]
+fn a_feed_that_keeps_begins_anew(rt: HostRuntime) -> Result<(), Fail> {
+    let mut kept = KeptContent::new(rt.alloc());
+    assert_eq!(rt; kept.piece(b"<body"), Fed::Done);
+    kept.begin();
+    assert_eq!(rt; kept.piece(b"<bo"), Fed::Done);
+    assert_eq!(rt; kept.piece(b"dy/>"), Fed::Done);
+    assert!(rt; kept.into_vec().as_slice() == b"<body/>".as_slice());
+    Ok(())
+}

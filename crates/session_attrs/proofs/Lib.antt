@@ -2,3 +2,5 @@ pub mod NumberLemmas
 pub mod RowLemmas
 pub mod RefusalLemmas
 pub mod MeaningLemmas
+pub mod NamedValues
+pub mod WrittenNumbers

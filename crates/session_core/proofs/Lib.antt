@@ -1,7 +1,5 @@
 pub mod RowTools
-pub mod NamedValues
 pub mod ReadBackRows
-pub mod WrittenNumbers
 pub mod WrittenRequests
 pub mod EndingRows
 pub mod FactRows

@@ -26,8 +26,8 @@ use Rattle.session_attrs.specs.Rows.{Says, told}
 use Rattle.session_attrs.specs.Values.{Values, values_of}
 use Rattle.session_attrs.proofs.MeaningLemmas.{means_reads}
 use Rattle.session_core.specs.ReadBack.{IsCreation, IsLater, IsInForm, asked_for, asked_by, greatest_number}
-use Rattle.session_core.proofs.NamedValues.{value_in, value_of_written, values_by, values_same, first, first-none, Looks, look_for, looks_none, looks_one, looks_nothing, looks_both}
-use Rattle.session_core.proofs.WrittenNumbers.{told_number, pause_of-decimal, ack_of-decimal}
+use Rattle.session_attrs.proofs.NamedValues.{value_in, value_of_written, values_by, values_same, first, first-none, Looks, look_for, looks_none, looks_one, looks_nothing, looks_both}
+use Rattle.session_attrs.proofs.WrittenNumbers.{told_number, pause_of-decimal, ack_of-decimal}
 
 -- a value that stands there or not
 abbrev flag : Bool → List ℕ → Option (List ℕ)

@@ -49,7 +49,7 @@ const READ: [Row; 6] = [
 
 // Texts that are bad by their last byte and not before: no length, two, one that is too long, another framing, no status;
 // a field that goes on in the next line, and bytes that begin no response.
-const BAD: [&[u8]; 10] = [
+const BAD: [&[u8]; 13] = [
     b"HTTP/1.1 200 OK\r\n\r\n",
     b"HTTP/1.1 200 OK\r\nContent-Length: 5\r\nContent-Length: 6\r\n\r\n",
     b"HTTP/1.1 200 OK\r\nContent-Length: 1048577\r\n\r\n",
@@ -57,6 +57,9 @@ const BAD: [&[u8]; 10] = [
     b"HTTP/1.1 200 OK\r\nContent-Length: 5\r\nTransfer-Encoding: chunked\r\n\r\n",
     b"HTTP/1.1 099 None\r\nContent-Length: 0\r\n\r\n",
     b"HTTP/1.1 200 OK\r\nX: a\r\n ",
+    b"HTTP/1.1 200\rX",
+    b"HTTP/1.0 200 \rX",
+    b"HTTP/1.1 200 OK\r\r",
     b"HTTP/2",
     b"I",
     b"<",
