@@ -24,7 +24,7 @@ use Rattle.bosh_client.specs.PlainClient.{end_of, queued}
 use Rattle.bosh_client.specs.Runs.{Call, Put, Restart, Pause, Terminate, NextRequest, Answer, HandOut, Reply, ToQueue, ToNext, ToAnswer, ToHandOut, client_after, replies}
 use Rattle.bosh_client.specs.Machine.{new_client}
 
-unfoldable clients_compute : ⊤
+unfoldable pub clients_compute : ⊤
 unfolding digits cuts_compute request_text request_attributes xmpp_rows sid_rows creation_rows number_rows key_rows terminate_rows version_rows restart_rows attribute escaped_byte closed_with hex_digest encode_with first_words schedule rounds compress hash_after digest_bytes sha1 is_named value_of is_httpbind number_of terminate_of condition_of answer_of answer_with said_in
 clients_compute = tt
 

@@ -98,7 +98,7 @@ longest_within (suc most) items = by (fit_one_body (take (suc most) items)) (lon
     by true shorter = (suc most, refl)
     by false shorter = shorter
 
-longest_few : (most : ℕ) (items : List Outgoing) → length (longest_front most items) ≤ most
+pub longest_few : (most : ℕ) (items : List Outgoing) → length (longest_front most items) ≤ most
 longest_few zero items = omega arith
 longest_few (suc most) items = by (fit_one_body (take (suc most) items)) (longest_few most items)
   where
