@@ -18,6 +18,8 @@ mod replies;
 mod requesting;
 mod said;
 mod setup;
+#[cfg(test)]
+mod tests;
 mod told;
 
 pub use agreed::Agreed;
