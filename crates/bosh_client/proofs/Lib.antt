@@ -1,4 +1,5 @@
 pub mod AnswerLemmas
+pub mod CarriedLemmas
 pub mod ClientRows
 pub mod DueLemmas
 pub mod FormLemmas

@@ -1,5 +1,6 @@
 -- What is said of a client after any calls.
-use Rattle.std.specs.Prelude.{◌≡◌, ℕ, ◌+◌, ◌<◌, ◌≤◌, true, ⊤, List, [], ◌∷◌, ◌++◌, filter, length, Option, None, Some, IfSome, IsSome, is_some}
+use Rattle.std.specs.Prelude.{◌≡◌, ℕ, ◌+◌, ◌<◌, ◌≤◌, true, ⊤, List, [], ◌∷◌, ◌++◌, filter, length, Option, None, Some, IfSome, IsSome, is_some, ◌⊎◌}
+use Rattle.std.specs.List.{list_all, list_any}
 use Rattle.body_cutter.specs.Chars.{is_allowed}
 use Rattle.body_cutter.specs.Utf8.{IsUtf8Of}
 use Rattle.body_writer.specs.declared.request.RequestParts.{RequestParts}
@@ -7,7 +8,7 @@ use Rattle.body_writer.specs.ReadBack.{IsRequest}
 use Rattle.bosh_client.specs.declared.agreed.Agreed.{Agreed}
 use Rattle.bosh_client.specs.declared.outgoing.Outgoing.{Outgoing}
 use Rattle.bosh_client.specs.declared.setup.ClientSetup.{ClientSetup}
-use Rattle.bosh_client.specs.Outgoing.{is_of_stream}
+use Rattle.bosh_client.specs.Outgoing.{is_of_stream, is_restart, is_stanza, is_terminate, pause_in, stanzas_in}
 use Rattle.bosh_client.specs.PlainClient.{Made, PlainClient, id_of, lowest, next_id, queued, taken}
 use Rattle.bosh_client.specs.ReadBack.{greatest_number}
 use Rattle.bosh_client.specs.Requests.{agreed, creation_parts}
@@ -73,3 +74,15 @@ IsKnown setup parts (Some creation) = parts ≡ creation_parts setup
 pub record HasForm (setup : ClientSetup) (parts : RequestParts) : Type 0 where
   pub form : IsRequest parts
   pub known : IsKnown setup parts parts.creation
+
+-- stanzas alone, or nothing, or one item that is none
+abbrev pub IsAlone : List Outgoing → Type 0
+IsAlone items = (list_all is_stanza items ≡ true) ⊎ ((item : Outgoing) × (items ≡ item ∷ []))
+
+-- a request carries just what it took of the queue
+pub record Carries (request : Made) : Type 0 where
+  pub payloads : request.parts.payloads ≡ stanzas_in request.items
+  pub restart : request.parts.restart ≡ list_any is_restart request.items
+  pub pause : request.parts.pause ≡ pause_in request.items
+  pub terminate : request.parts.terminate ≡ list_any is_terminate request.items
+  pub alone : IsAlone request.items

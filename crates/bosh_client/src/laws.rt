@@ -11,7 +11,7 @@ ghost use Rattle.bosh_client.specs.AnswerReading.{answer_of, answer_with};
 ghost use Rattle.bosh_client.specs.AnswerValues.{AnswerValues};
 ghost use Rattle.bosh_client.specs.Machine.{copy, new_client};
 ghost use Rattle.bosh_client.specs.PlainClient.{Made, PlainClient, bytes_of, deliverable, items_made, queued, request_at, was_handed, was_made, was_put};
-ghost use Rattle.bosh_client.specs.Promises.{Acknowledges, Begins, HasFewOpen, HasForm, IsNamed, is_queued, payloads_in};
+ghost use Rattle.bosh_client.specs.Promises.{Acknowledges, Begins, Carries, HasFewOpen, HasForm, IsNamed, is_queued, payloads_in};
 ghost use Rattle.bosh_client.specs.Runs.{Call, IsAllowed, after, client_after, replies};
 ghost use Rattle.bosh_client.specs.Setup.{is_setup};
 ghost use Rattle.bosh_client.specs.StandsFor.{AreFrom};
@@ -57,6 +57,11 @@ pub fn few_requests_are_open()
 pub fn requests_have_the_form_that_reads_back()
     ensures { (setup : ClientSetup) (calls : List Call) → is_setup setup ≡ true → 1 ≤ setup.first → All IsAllowed calls → IsNamed (client_after setup calls) →
         All (λ request. HasForm setup request.parts) (client_after setup calls).requests }
+{}
+
+/// A request carries just what it took of the queue: stanzas alone, or one restart, pause or terminate.
+pub fn requests_carry_what_they_took()
+    ensures { (setup : ClientSetup) (calls : List Call) → All Carries (client_after setup calls).requests }
 {}
 
 /// What an answer tells is what its body is read as.
