@@ -1,5 +1,5 @@
 -- What a request carries is what it took of the queue.
-use Rattle.std.proofs.Common.{◌≡◌, ℕ, ◌≤◌, ◌⊎◌, inl, inr, min, true, List, [], ◌∷◌, ◌++◌, length, Some, None, refl}
+use Rattle.std.proofs.Common.{inl, inr, min, List, [], ◌∷◌, length, Some, None, refl}
 use Rattle.std.specs.Prelude.{Option}
 use Rattle.std.specs.List.{All}
 use Rattle.std.proofs.lemmas.List.Elements.{All-append, All-cons, All-nil}
@@ -10,7 +10,7 @@ use Rattle.bosh_client.specs.declared.outgoing.Outgoing.TheVariants as outgoing
 use Rattle.bosh_client.specs.declared.setup.ClientSetup.{ClientSetup}
 use Rattle.bosh_client.specs.Machine.{new_client, next_made}
 use Rattle.bosh_client.specs.Outgoing.{front_of, longest_front}
-use Rattle.bosh_client.specs.PlainClient.{Made, PlainClient, queued}
+use Rattle.bosh_client.specs.PlainClient.{PlainClient, queued}
 use Rattle.bosh_client.specs.Promises.{Carries, IsAlone}
 use Rattle.bosh_client.specs.Requests.{agreed}
 use Rattle.bosh_client.specs.Runs.{Call, after, client_after, step}

@@ -1,5 +1,5 @@
 -- Each request that a client makes has the form for reading back.
-use Rattle.std.proofs.Common.{◌≡◌, ◌≢◌, ℕ, zero, suc, ◌+◌, ◌-◌, ◌*◌, ◌<◌, ◌≤◌, ◌^◌, Bool, true, false, ◌&&◌, ◌||◌, cond, min, List, [], ◌∷◌, ◌++◌, length, take, Some, None, refl, sym, ◌∙◌, ap, subst, arith, lit<, length-append, if◌then◌else◌}
+use Rattle.std.proofs.Common.{◌≡◌, ◌≢◌, ℕ, ◌+◌, ◌-◌, ◌*◌, ◌<◌, ◌≤◌, ◌^◌, Bool, true, false, ◌&&◌, cond, min, List, [], ◌∷◌, ◌++◌, length, Some, None, refl, sym, ◌∙◌, ap, subst, arith, lit<, length-append, if◌then◌else◌}
 use Rattle.std.specs.Prelude.{Option, Result, Ok, Err, IfSome, IsTrue, ⊤, ◌==◌, nat_le, nat_lt, not, is_some}
 use Rattle.std.specs.Char.{is_ascii_digit}
 use Rattle.std.specs.List.{All, find}
@@ -39,7 +39,7 @@ use Rattle.bosh_client.specs.AnswerReading.{answer_in, answer_of, payloads_at}
 use Rattle.bosh_client.specs.AnswerValues.{AnswerValues, values_of}
 use Rattle.bosh_client.specs.Keys.{announcement, key_at, newkey_at, number_at, seed_of, sequence_at}
 use Rattle.bosh_client.specs.Machine.{allows_pause, new_client, next_made, with_answer, with_request}
-use Rattle.bosh_client.specs.Outgoing.{fit_one_body, front_of, longest_front, pause_in, size_of, size_of_all, stanzas_in}
+use Rattle.bosh_client.specs.Outgoing.{front_of, longest_front, pause_in, size_of, size_of_all, stanzas_in}
 use Rattle.bosh_client.specs.PlainClient.{Made, Taken, PlainClient, id_of, is_answered, lowest, next_id, queued, taken}
 use Rattle.bosh_client.specs.Promises.{HasForm, IsName, IsNamed, IsOfSession}
 use Rattle.bosh_client.specs.ReadBack.{greatest_number}
@@ -49,7 +49,7 @@ use Rattle.bosh_client.specs.Setup.{is_setup}
 use Rattle.bosh_client.specs.StandsFor.{AreFrom}
 use Rattle.bosh_client.proofs.Fronts.{fits_parts, front_take, longest_few, longest_fits}
 use Rattle.bosh_client.proofs.KeyForms.{key_form, number_some}
-use Rattle.bosh_client.proofs.RequestSizes.{AreShort, request_fits}
+use Rattle.bosh_client.proofs.RequestSizes.{request_fits}
 use Rattle.bosh_client.proofs.RunLemmas.{IsClient, MayQueue, by_if, client_is, new_is, step_is, step_with}
 use Rattle.bosh_client.proofs.OpenLemmas.{at_least, first_of_these}
 use Rattle.bosh_client.proofs.ReadingLemmas.{told_is}

@@ -1,6 +1,6 @@
 -- How far the next id is from the lowest without an answer.
-use Rattle.std.proofs.Common.{◌≡◌, ◌≢◌, ℕ, ◌+◌, ◌-◌, ◌<◌, ◌≤◌, Bool, true, false, ◌&&◌, cond, List, [], ◌∷◌, ◌++◌, length, Some, None, refl, sym, ◌∙◌, ap, subst, arith, length-append}
-use Rattle.std.specs.Prelude.{Option, ◌==◌, nat_lt, not, is_some}
+use Rattle.std.proofs.Common.{◌≡◌, ◌≢◌, ℕ, ◌+◌, ◌-◌, ◌≤◌, Bool, true, false, cond, List, [], ◌∷◌, ◌++◌, length, Some, None, refl, sym, ◌∙◌, ap, subst, arith, length-append}
+use Rattle.std.specs.Prelude.{Option, ◌==◌, not, is_some}
 use Rattle.std.specs.List.{find}
 use Rattle.std.specs.Option.{option_map, unwrap_or}
 use Rattle.std.proofs.lemmas.Bool.{and_parts}
@@ -10,7 +10,7 @@ use Rattle.bosh_client.specs.declared.agreed.Agreed.{Agreed}
 use Rattle.bosh_client.specs.declared.outgoing.Outgoing.{Outgoing}
 use Rattle.bosh_client.specs.declared.outgoing.Outgoing.TheVariants as outgoing
 use Rattle.bosh_client.specs.declared.setup.ClientSetup.{ClientSetup}
-use Rattle.bosh_client.specs.Machine.{has_rested, is_due, is_due_by, is_due_of, most_open, new_client, next_made, with_answer, with_request}
+use Rattle.bosh_client.specs.Machine.{has_rested, is_due, is_due_by, is_due_of, new_client, next_made, with_answer, with_request}
 use Rattle.bosh_client.specs.PlainClient.{Made, Taken, PlainClient, id_of, is_answered, lowest, next_id, queued, taken}
 use Rattle.bosh_client.specs.Promises.{HasFewOpen, IsNear}
 use Rattle.bosh_client.specs.Requests.{agreed, agreed_by}

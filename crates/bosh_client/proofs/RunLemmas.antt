@@ -1,5 +1,5 @@
 -- What holds of a client after any calls.
-use Rattle.std.proofs.Common.{◌≡◌, ◌≢◌, ℕ, zero, suc, ◌+◌, ◌-◌, ◌<◌, ◌≤◌, ◌⊎◌, inl, inr, Bool, true, false, ◌&&◌, ◌||◌, cond, List, [], ◌∷◌, ◌++◌, map, length, take, drop, Some, None, refl, sym, ◌∙◌, ap, subst, arith, length-append, length-drop, append_assoc, append-nil}
+use Rattle.std.proofs.Common.{◌≡◌, ◌≢◌, ℕ, zero, suc, ◌+◌, ◌-◌, ◌<◌, ◌≤◌, inl, inr, Bool, true, false, ◌&&◌, ◌||◌, cond, List, [], ◌∷◌, ◌++◌, length, take, drop, Some, None, refl, sym, ◌∙◌, ap, subst, arith, length-append, append_assoc, append-nil}
 use Rattle.std.specs.Prelude.{Option, Result, Ok, Err, ◌==◌, nat_lt, not, is_none, is_some, IfSome, ⊤, slice_get, filter, if◌then◌else◌}
 use Rattle.std.specs.List.{All, find, flat_map, take_while}
 use Rattle.std.specs.Option.{option_map, option_or, unwrap_or}
@@ -12,8 +12,7 @@ use Rattle.std.proofs.lemmas.List.Folds.{find-append}
 use Rattle.std.proofs.lemmas.List.Sums.{take_while-cons}
 use Rattle.std.proofs.lemmas.Option.{slice_get_within}
 use Rattle.bosh_types.specs.Rid.{greatest_rid}
-use Rattle.bosh_types.specs.ById.{at_id}
-use Rattle.bosh_types.proofs.ById.{at_id-push_other, at_id-push_same}
+use Rattle.bosh_types.proofs.ById.{at_id-push_other}
 use Rattle.bosh_client.specs.declared.agreed.Agreed.{Agreed}
 use Rattle.bosh_client.specs.declared.outgoing.Outgoing.{Outgoing}
 use Rattle.bosh_client.specs.declared.outgoing.Outgoing.TheVariants as items
@@ -24,11 +23,11 @@ use Rattle.bosh_client.specs.declared.replies.Why.{Why}
 use Rattle.bosh_client.specs.declared.setup.ClientSetup.{ClientSetup}
 use Rattle.bosh_client.specs.declared.told.Told.{Told}
 use Rattle.bosh_client.specs.AnswerReading.{answer_of}
-use Rattle.bosh_client.specs.Machine.{new_client, accept, allows_pause, answer, copy, hand_out, handed, is_due, is_due_by, is_full, is_over, lacks_sid, next_made, next_request, pause, put, restart, take_answer, terminate, with_answer, with_request}
+use Rattle.bosh_client.specs.Machine.{new_client, accept, allows_pause, answer, copy, handed, is_due, is_due_by, is_full, is_over, lacks_sid, next_made, next_request, pause, put, restart, take_answer, terminate, with_answer, with_request}
 use Rattle.bosh_client.specs.Outgoing.{front_of, is_of_stream}
 use Rattle.bosh_client.specs.PlainClient.{Made, Taken, PlainClient, bytes_of, deliverable, goes_on, has_ended, id_of, is_answered, items_made, lowest, next_id, payloads_for, queued, request_at, taken, was_handed, was_made, was_put}
-use Rattle.bosh_client.specs.Promises.{Acknowledges, AcknowledgesIn, AllTaken, Begins, is_queued, payloads_in}
-use Rattle.bosh_client.specs.Requests.{ack_for, agreed}
+use Rattle.bosh_client.specs.Promises.{Acknowledges, AllTaken, Begins, is_queued, payloads_in}
+use Rattle.bosh_client.specs.Requests.{agreed}
 use Rattle.bosh_client.specs.Runs.{Call, Put, Restart, Pause, Terminate, NextRequest, Answer, HandOut, Reply, ToQueue, ToNext, ToAnswer, ToHandOut, after, called, client_after, replies, step}
 use Rattle.bosh_client.specs.StandsFor.{AreFrom}
 use Rattle.bosh_client.proofs.FoundLemmas.{unmade_high}

@@ -3,7 +3,6 @@ use Rattle.bosh_client.specs.Left.{left_of}
 use Rattle.bosh_client.specs.Places.{Places}
 use Rattle.bosh_client.specs.StandsFor.{HoldsRequests}
 use Rattle.bosh_client.proofs.RequestLemmas.{moved, none_left}
-use Rattle.bosh_client.proofs.FoundLemmas.{open_is}
 use Rattle.bosh_client.proofs.answering.move_on.Goals as goal
 
 pub loop-exchanges-preserved : goal.loop-exchanges-preserved
