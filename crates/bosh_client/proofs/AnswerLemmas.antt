@@ -1,21 +1,20 @@
 -- A client that took an answer stands for the plain one that took it.
-use Rattle.std.proofs.Common.{◌≡◌, ◌≢◌, ℕ, zero, suc, ◌+◌, ◌-◌, ◌<◌, ◌≤◌, ◌⊎◌, inl, inr, Bool, true, false, List, [], ◌∷◌, ◌++◌, map, length, drop, set, Some, None, refl, sym, ◌∙◌, ap, subst, arith}
+use Rattle.std.proofs.Common.{◌≡◌, ◌≢◌, ℕ, zero, suc, ◌+◌, ◌-◌, ◌<◌, ◌≤◌, inl, inr, Bool, true, false, List, [], ◌∷◌, ◌++◌, map, length, drop, set, Some, None, refl, sym, ◌∙◌, ap, subst, arith}
 use Rattle.std.specs.Prelude.{Option, ◌==◌, nat_lt, not, is_some, if◌then◌else◌}
 use Rattle.std.specs.List.{All, flat_map}
 use Rattle.std.specs.Option.{option_map, option_or}
 use Rattle.std.proofs.lemmas.Bool.Decides.{nat_tests}
 use Rattle.std.proofs.lemmas.List.Elements.{All-append, All-cons, All-head, All-nil, All-tail}
 use Rattle.std.proofs.lemmas.List.{length-map}
-use Rattle.bosh_types.specs.ById.{at_id}
 use Rattle.bosh_types.proofs.ById.{at_id-push_other, at_id-push_same}
 use Rattle.bosh_client.specs.declared.agreed.Agreed.{Agreed}
 use Rattle.bosh_client.specs.declared.client.Client.{Client}
 use Rattle.bosh_client.specs.declared.exchanges.Slot.{Slot}
-use Rattle.bosh_client.specs.declared.exchanges.Slot.TheVariants.{Answered, Open}
+use Rattle.bosh_client.specs.declared.exchanges.Slot.TheVariants.{Answered}
 use Rattle.bosh_client.specs.declared.replies.ClientEnd.{ClientEnd}
 use Rattle.bosh_client.specs.Machine.{with_answer}
 use Rattle.bosh_client.specs.Places.{Places, filled}
-use Rattle.bosh_client.specs.PlainClient.{Made, Taken, PlainClient, end_of, first_end, goes_on, id_of, last_moment, last_taken, next_id, payloads_for, request_at, taken}
+use Rattle.bosh_client.specs.PlainClient.{Made, Taken, PlainClient, first_end, goes_on, id_of, last_moment, next_id, payloads_for, request_at, taken}
 use Rattle.bosh_client.specs.Requests.{agreed, agreed_by, agreement}
 use Rattle.bosh_client.specs.StandsFor.{AreFrom, Holds, HoldsRequests, slot_by, slot_of}
 use Rattle.bosh_client.proofs.FoundLemmas.{Found, IsKept, found, next_is}

@@ -1,6 +1,6 @@
 -- The definitions of a client compute: calls with their replies.
 use Rattle.std.proofs.Common.{◌≡◌, ℕ, ◌∷◌, [], ◌++◌, List, refl, true, false}
-use Rattle.std.specs.Prelude.{None, Some, codes, ⊤, Option, length}
+use Rattle.std.specs.Prelude.{None, Some, codes, ⊤}
 use Rattle.std.specs.Fmt.{digits}
 use Rattle.body_cutter.proofs.Rows.{cuts_compute}
 use Rattle.body_writer.specs.Attribute.{attribute, escaped_byte, closed_with}
@@ -11,20 +11,19 @@ use Rattle.key_sequence.specs.Chain.{hex_digest}
 use Rattle.sha1.specs.Sha1.{first_words, schedule, rounds, compress, hash_after, digest_bytes, sha1}
 use Rattle.session_attrs.specs.Attributes.{is_named, value_of}
 use Rattle.session_attrs.specs.Forms.{is_httpbind, number_of, terminate_of}
-use Rattle.bosh_types.specs.declared.condition.Condition.TheVariants.{ItemNotFound, UndefinedCondition}
+use Rattle.bosh_types.specs.declared.condition.Condition.TheVariants.{UndefinedCondition}
 use Rattle.bosh_client.specs.declared.replies.Answered.TheVariants as answerings
-use Rattle.bosh_client.specs.declared.replies.ClientEnd.{ClientEnd}
 use Rattle.bosh_client.specs.declared.replies.Next.TheVariants.{Nothing, RidsSpent, Request}
-use Rattle.bosh_client.specs.declared.replies.Queued.TheVariants.{Done, Over, Full, TooLong}
+use Rattle.bosh_client.specs.declared.replies.Queued.TheVariants.{Done, Over, TooLong}
 use Rattle.bosh_client.specs.declared.replies.Why.TheVariants.{Namespace, Attribute, NoSid}
 use Rattle.bosh_client.specs.declared.setup.ClientSetup.{ClientSetup}
 use Rattle.bosh_client.specs.AnswerMeaning.{condition_of}
 use Rattle.bosh_client.specs.AnswerReading.{answer_of, answer_with, said_in}
-use Rattle.bosh_client.specs.PlainClient.{end_of, queued}
+use Rattle.bosh_client.specs.PlainClient.{end_of}
 use Rattle.bosh_client.specs.Runs.{Call, Put, Restart, Pause, Terminate, NextRequest, Answer, HandOut, Reply, ToQueue, ToNext, ToAnswer, ToHandOut, client_after, replies}
 use Rattle.bosh_client.specs.Machine.{new_client}
 
-unfoldable clients_compute : ⊤
+unfoldable pub clients_compute : ⊤
 unfolding digits cuts_compute request_text request_attributes xmpp_rows sid_rows creation_rows number_rows key_rows terminate_rows version_rows restart_rows attribute escaped_byte closed_with hex_digest encode_with first_words schedule rounds compress hash_after digest_bytes sha1 is_named value_of is_httpbind number_of terminate_of condition_of answer_of answer_with said_in
 clients_compute = tt
 

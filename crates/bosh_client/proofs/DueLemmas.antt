@@ -1,6 +1,6 @@
 -- When a request of a client is due, and what its keys are after it.
-use Rattle.std.proofs.Common.{◌≡◌, ℕ, zero, suc, ◌+◌, ◌-◌, ◌*◌, ◌/◌, ◌%◌, ◌<◌, ◌≤◌, ◌^◌, inl, inr, min, Bool, true, false, ◌&&◌, ◌||◌, List, [], ◌∷◌, ◌++◌, length, map, Some, None, refl, sym, ◌∙◌, ap, subst, arith, length-append}
-use Rattle.std.specs.Prelude.{Option, ◌==◌, nat_lt, is_some, not, slice_get, if◌then◌else◌}
+use Rattle.std.proofs.Common.{◌≡◌, ℕ, ◌+◌, ◌-◌, ◌*◌, ◌/◌, ◌%◌, ◌<◌, ◌≤◌, ◌^◌, inl, inr, Bool, true, false, ◌&&◌, ◌||◌, List, [], ◌∷◌, ◌++◌, length, Some, None, refl, sym, ◌∙◌, ap, subst, arith}
+use Rattle.std.specs.Prelude.{Option, ◌==◌, nat_lt, is_some, slice_get, if◌then◌else◌}
 use Rattle.std.specs.List.{All}
 use Rattle.std.specs.Option.{option_map}
 use Rattle.std.proofs.Math.Nat.{div-le_self, mod-lt}
@@ -14,7 +14,6 @@ use Rattle.bosh_client.specs.declared.agreed.Agreed.{Agreed}
 use Rattle.bosh_client.specs.declared.outgoing.Outgoing.{Outgoing}
 use Rattle.bosh_client.specs.declared.setup.ClientSetup.{ClientSetup}
 use Rattle.bosh_client.specs.KeyPlace.{KeyPlace, keys_turned, next_place, sequence_after}
-use Rattle.bosh_client.specs.Keys.{number_at, sequence_at}
 use Rattle.bosh_client.specs.Machine.{has_rested, is_due_of, most_open, open_requests}
 use Rattle.bosh_client.specs.Places.{Places}
 use Rattle.bosh_client.specs.PlainClient.{Made, Taken, PlainClient, goes_on, id_of, next_id, taken}

@@ -1,5 +1,5 @@
 -- What one body takes of what is queued.
-use Rattle.std.proofs.Common.{◌≡◌, ℕ, zero, suc, ◌+◌, ◌-◌, ◌<◌, ◌≤◌, Bool, true, false, ◌&&◌, cond, inl, inr, min, List, [], ◌∷◌, ◌++◌, None, length, take, drop, get_or, refl, sym, ◌∙◌, ap, subst, arith, length-take}
+use Rattle.std.proofs.Common.{◌≡◌, ℕ, zero, suc, ◌+◌, ◌<◌, ◌≤◌, Bool, true, false, ◌&&◌, cond, inl, inr, min, List, [], ◌∷◌, ◌++◌, None, length, take, get_or, refl, sym, ◌∙◌, ap, arith, length-take}
 use Rattle.std.specs.Prelude.{Some, slice_get}
 use Rattle.std.specs.List.{list_all, list_any}
 use Rattle.std.proofs.lemmas.Bool.{cases_lt}
@@ -98,7 +98,7 @@ longest_within (suc most) items = by (fit_one_body (take (suc most) items)) (lon
     by true shorter = (suc most, refl)
     by false shorter = shorter
 
-longest_few : (most : ℕ) (items : List Outgoing) → length (longest_front most items) ≤ most
+pub longest_few : (most : ℕ) (items : List Outgoing) → length (longest_front most items) ≤ most
 longest_few zero items = omega arith
 longest_few (suc most) items = by (fit_one_body (take (suc most) items)) (longest_few most items)
   where

@@ -1,5 +1,5 @@
 -- Keys are sent downwards.
-use Rattle.std.proofs.Common.{◌≡◌, ℕ, zero, suc, ◌-◌, ◌≤◌, List, [], ◌∷◌, length, refl, ap, arith}
+use Rattle.std.proofs.Common.{◌≡◌, ℕ, zero, suc, ◌-◌, ◌≤◌, List, ◌∷◌, length, refl, ap, arith}
 use Rattle.key_sequence.specs.Chain.{key_of, keys_down}
 
 pub length-keys_down : (seed : List ℕ) (n : ℕ) → length (keys_down seed n) ≡ n

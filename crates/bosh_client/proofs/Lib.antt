@@ -1,12 +1,17 @@
 pub mod AnswerLemmas
+pub mod CarriedLemmas
 pub mod ClientRows
 pub mod DueLemmas
+pub mod FormLemmas
 pub mod FoundLemmas
 pub mod Fronts
+pub mod KeyForms
 pub mod KeyLemmas
+pub mod OpenLemmas
 pub mod PlacesLemmas
 pub mod ReadingLemmas
 pub mod RequestLemmas
+pub mod RequestSizes
 pub mod RunLemmas
 pub mod SetupLemmas
 pub mod StepLemmas

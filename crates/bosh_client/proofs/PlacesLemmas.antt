@@ -1,5 +1,5 @@
 -- How many of the first requests have an answer.
-use Rattle.std.proofs.Common.{◌≡◌, ℕ, zero, suc, ◌+◌, ◌-◌, ◌<◌, ◌≤◌, Bool, true, false, List, [], ◌∷◌, ◌++◌, length, get_or, set, refl, ap, arith}
+use Rattle.std.proofs.Common.{◌≡◌, ℕ, zero, suc, ◌+◌, ◌<◌, ◌≤◌, Bool, true, false, List, [], ◌∷◌, ◌++◌, length, get_or, set, refl, ap, arith}
 use Rattle.bosh_client.specs.declared.exchanges.Slot.{Slot}
 use Rattle.bosh_client.specs.declared.exchanges.Slot.TheVariants.{Answered, Open}
 use Rattle.bosh_client.specs.Places.{answered_front, is_open}

@@ -1,8 +1,7 @@
 -- Reading an answer gives exactly its meaning, and the first reason for which it has none.
-use Rattle.std.proofs.Common.{◌≡◌, ℕ, Bool, true, false, ◌&&◌, ◌||◌, List, [], ◌∷◌, Some, None, refl, sym, ◌∙◌, ap, subst}
+use Rattle.std.proofs.Common.{◌≡◌, ℕ, Bool, true, false, ◌||◌, List, Some, None, refl, sym, ◌∙◌, ap, subst}
 use Rattle.std.specs.Str.{bytes_eq}
-use Rattle.std.specs.Prelude.{codes, Option, Result, Ok, Err, IsTrue, is_none, is_some, not, ◌↔◌, cond, if◌then◌else◌}
-use Rattle.std.specs.List.{find}
+use Rattle.std.specs.Prelude.{codes, Option, Ok, Err, IsTrue, is_none, is_some, not, ◌↔◌, cond, if◌then◌else◌}
 use Rattle.std.specs.Option.{ok_or, option_map}
 use Rattle.bosh_types.specs.Rid.{rid_of}
 use Rattle.session_attrs.specs.Forms.{number_of, says_httpbind, terminate_of}
@@ -12,7 +11,7 @@ use Rattle.bosh_client.specs.declared.replies.Why.{Why}
 use Rattle.bosh_client.specs.declared.replies.Why.TheVariants as whys
 use Rattle.bosh_client.specs.declared.said.Said.{Said}
 use Rattle.bosh_client.specs.declared.told.Told.{Told}
-use Rattle.bosh_client.specs.AnswerMeaning.{MeansAck, MeansAnswer, MeansEnd, broken_values, condition_of, fact, has_bad_attribute}
+use Rattle.bosh_client.specs.AnswerMeaning.{MeansAck, MeansAnswer, MeansEnd, broken_values, has_bad_attribute}
 use Rattle.bosh_client.specs.AnswerReading.{◌>>=◌, answer_with, end_by, said, said_in, told_from}
 use Rattle.bosh_client.specs.AnswerValues.{AnswerValues}
 

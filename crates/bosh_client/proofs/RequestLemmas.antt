@@ -1,16 +1,14 @@
 -- The requests of a client: those that are of no more use, and the others.
-use Rattle.std.proofs.Common.{◌≡◌, ℕ, zero, suc, ◌+◌, ◌-◌, ◌<◌, ◌≤◌, ◌⊎◌, inl, inr, Bool, true, false, cond, List, [], ◌∷◌, ◌++◌, map, length, take, drop, Some, None, refl, sym, ◌∙◌, ap, subst, arith, length-append, append_assoc, append-nil}
-use Rattle.std.specs.Prelude.{Option, ◌==◌, nat_lt, not, is_some, slice_get, if◌then◌else◌}
-use Rattle.std.specs.List.{All, find, flat_map, take_while}
-use Rattle.std.specs.Option.{option_map, unwrap_or}
+use Rattle.std.proofs.Common.{◌≡◌, ℕ, zero, suc, ◌+◌, ◌-◌, ◌≤◌, Bool, true, false, List, [], ◌∷◌, ◌++◌, map, length, drop, Some, None, refl, sym, ◌∙◌, ap, subst, arith, length-append, append_assoc, append-nil}
+use Rattle.std.specs.Prelude.{Option, ◌==◌, not, is_some}
+use Rattle.std.specs.List.{All, flat_map}
 use Rattle.std.proofs.lemmas.Bool.Decides.{nat_tests}
 use Rattle.std.proofs.lemmas.Grind.{flat_map-append}
-use Rattle.std.proofs.lemmas.List.Elements.{All-append, All-head, All-tail, All-nil, All-cons}
-use Rattle.std.proofs.lemmas.List.Sums.{take_while-cons}
+use Rattle.std.proofs.lemmas.List.Elements.{All-append, All-nil, All-cons}
 use Rattle.bosh_client.specs.declared.exchanges.Slot.{Slot}
-use Rattle.bosh_client.specs.declared.exchanges.Slot.TheVariants.{Answered, Open}
-use Rattle.bosh_client.specs.Places.{Places, answered_front, comes_next, slot_at}
-use Rattle.bosh_client.specs.PlainClient.{Made, Taken, PlainClient, bytes_of, deliverable, goes_on, id_of, is_answered, lowest, next_id, payloads_for, request_at, taken}
+use Rattle.bosh_client.specs.declared.exchanges.Slot.TheVariants.{Answered}
+use Rattle.bosh_client.specs.Places.{Places, comes_next}
+use Rattle.bosh_client.specs.PlainClient.{Made, Taken, PlainClient, goes_on, id_of, payloads_for, taken}
 use Rattle.bosh_client.specs.StandsFor.{AreFrom, HoldsRequests, slot_by, slot_of}
 
 -- Ids in order.

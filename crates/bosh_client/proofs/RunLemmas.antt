@@ -1,5 +1,5 @@
 -- What holds of a client after any calls.
-use Rattle.std.proofs.Common.{◌≡◌, ◌≢◌, ℕ, zero, suc, ◌+◌, ◌-◌, ◌<◌, ◌≤◌, ◌⊎◌, inl, inr, Bool, true, false, ◌&&◌, ◌||◌, cond, List, [], ◌∷◌, ◌++◌, map, length, take, drop, Some, None, refl, sym, ◌∙◌, ap, subst, arith, length-append, length-drop, append_assoc, append-nil}
+use Rattle.std.proofs.Common.{◌≡◌, ◌≢◌, ℕ, zero, suc, ◌+◌, ◌-◌, ◌<◌, ◌≤◌, inl, inr, Bool, true, false, ◌&&◌, ◌||◌, cond, List, [], ◌∷◌, ◌++◌, length, take, drop, Some, None, refl, sym, ◌∙◌, ap, subst, arith, length-append, append_assoc, append-nil}
 use Rattle.std.specs.Prelude.{Option, Result, Ok, Err, ◌==◌, nat_lt, not, is_none, is_some, IfSome, ⊤, slice_get, filter, if◌then◌else◌}
 use Rattle.std.specs.List.{All, find, flat_map, take_while}
 use Rattle.std.specs.Option.{option_map, option_or, unwrap_or}
@@ -12,8 +12,7 @@ use Rattle.std.proofs.lemmas.List.Folds.{find-append}
 use Rattle.std.proofs.lemmas.List.Sums.{take_while-cons}
 use Rattle.std.proofs.lemmas.Option.{slice_get_within}
 use Rattle.bosh_types.specs.Rid.{greatest_rid}
-use Rattle.bosh_types.specs.ById.{at_id}
-use Rattle.bosh_types.proofs.ById.{at_id-push_other, at_id-push_same}
+use Rattle.bosh_types.proofs.ById.{at_id-push_other}
 use Rattle.bosh_client.specs.declared.agreed.Agreed.{Agreed}
 use Rattle.bosh_client.specs.declared.outgoing.Outgoing.{Outgoing}
 use Rattle.bosh_client.specs.declared.outgoing.Outgoing.TheVariants as items
@@ -24,11 +23,11 @@ use Rattle.bosh_client.specs.declared.replies.Why.{Why}
 use Rattle.bosh_client.specs.declared.setup.ClientSetup.{ClientSetup}
 use Rattle.bosh_client.specs.declared.told.Told.{Told}
 use Rattle.bosh_client.specs.AnswerReading.{answer_of}
-use Rattle.bosh_client.specs.Machine.{new_client, accept, allows_pause, answer, copy, hand_out, handed, is_due, is_due_by, is_full, is_over, lacks_sid, next_made, next_request, pause, put, restart, take_answer, terminate, with_answer, with_request}
+use Rattle.bosh_client.specs.Machine.{new_client, accept, allows_pause, answer, copy, handed, is_due, is_due_by, is_full, is_over, lacks_sid, next_made, next_request, pause, put, restart, take_answer, terminate, with_answer, with_request}
 use Rattle.bosh_client.specs.Outgoing.{front_of, is_of_stream}
 use Rattle.bosh_client.specs.PlainClient.{Made, Taken, PlainClient, bytes_of, deliverable, goes_on, has_ended, id_of, is_answered, items_made, lowest, next_id, payloads_for, queued, request_at, taken, was_handed, was_made, was_put}
-use Rattle.bosh_client.specs.Promises.{Acknowledges, AcknowledgesIn, AllTaken, Begins, is_queued, payloads_in}
-use Rattle.bosh_client.specs.Requests.{ack_for, agreed}
+use Rattle.bosh_client.specs.Promises.{Acknowledges, AllTaken, Begins, is_queued, payloads_in}
+use Rattle.bosh_client.specs.Requests.{agreed}
 use Rattle.bosh_client.specs.Runs.{Call, Put, Restart, Pause, Terminate, NextRequest, Answer, HandOut, Reply, ToQueue, ToNext, ToAnswer, ToHandOut, after, called, client_after, replies, step}
 use Rattle.bosh_client.specs.StandsFor.{AreFrom}
 use Rattle.bosh_client.proofs.FoundLemmas.{unmade_high}
@@ -37,7 +36,7 @@ use Rattle.bosh_client.proofs.RequestLemmas.{from-push}
 
 -- Which way a call goes.
 
-by_if : {X : Type 0} (Q : X → Type 0) (b : Bool) (x y : X) → (b ≡ true → Q x) → (b ≡ false → Q y) → Q (if b then x else y)
+pub by_if : {X : Type 0} (Q : X → Type 0) (b : Bool) (x y : X) → (b ≡ true → Q x) → (b ≡ false → Q y) → Q (if b then x else y)
 by_if Q true x y this other = this refl
 by_if Q false x y this other = other refl
 
@@ -49,28 +48,38 @@ not_false : (b : Bool) → not b ≡ false → b ≡ true
 not_false true is = refl
 not_false false is = absurd (cc)
 
+-- what the call may queue is such, a pause where it is allowed
+abbrev pub MayQueue : PlainClient → (Outgoing → Type 0) → Call → Type 0
+MayQueue c Such (Put stanza) = Such (items.Stanza stanza)
+MayQueue c Such Restart = Such items.Restart
+MayQueue c Such (Pause seconds) = allows_pause (agreed c) seconds ≡ true → Such (items.Pause seconds)
+MayQueue c Such Terminate = Such items.Terminate
+MayQueue c Such (NextRequest now) = ⊤
+MayQueue c Such (Answer rid body now) = ⊤
+MayQueue c Such HandOut = ⊤
+
 -- what a call does, where nothing comes of it, and where something does
-module _ (c : PlainClient) (P : PlainClient × Reply → Type 0)
+module _ (c : PlainClient) (Such : Outgoing → Type 0) (P : PlainClient × Reply → Type 0)
     (same : (reply : Reply) → payloads_in (reply ∷ []) ≡ [] → P (c, reply))
-    (accepts : (item : Outgoing) → P (called ToQueue (accept c item)))
+    (accepts : (item : Outgoing) → Such item → P (called ToQueue (accept c item)))
     (requests : (now : ℕ) → is_due c now ≡ true → next_id c ≤ greatest_rid → P (called ToNext (with_request c (next_made c (agreed c)))))
     (answers : (rid : ℕ) (t : Taken) → is_some (request_at c rid) ≡ true → taken c rid ≡ None → answer_of t.body ≡ Ok t.tells → P (with_answer c rid t, ToAnswer answerings.Done))
     (hands : (payload : List ℕ) → slice_get (deliverable c) c.handed_out ≡ Some payload → P (record c { handed_out = c.handed_out + 1 }, ToHandOut (Some payload))) where
-  put_by : (stanza : List ℕ) → P (called ToQueue (put c stanza))
-  put_by stanza =
+  put_by : (stanza : List ℕ) → Such (items.Stanza stanza) → P (called ToQueue (put c stanza))
+  put_by stanza such =
       by_if (λ p. P (called ToQueue p)) (is_over c) _ _ (λ _. same (ToQueue queueings.Over) refl)
-      (λ _. by_if (λ p. P (called ToQueue p)) (is_full c) _ _ (λ _. same (ToQueue queueings.Full) refl) (λ _. accepts (items.Stanza stanza)))
+      (λ _. by_if (λ p. P (called ToQueue p)) (is_full c) _ _ (λ _. same (ToQueue queueings.Full) refl) (λ _. accepts (items.Stanza stanza) such))
 
-  restart_by : P (called ToQueue (restart c))
-  restart_by = by_if (λ p. P (called ToQueue p)) (is_over c) _ _ (λ _. same (ToQueue queueings.Over) refl) (λ _. accepts items.Restart)
+  restart_by : Such items.Restart → P (called ToQueue (restart c))
+  restart_by such = by_if (λ p. P (called ToQueue p)) (is_over c) _ _ (λ _. same (ToQueue queueings.Over) refl) (λ _. accepts items.Restart such)
 
-  terminate_by : P (called ToQueue (terminate c))
-  terminate_by = by_if (λ p. P (called ToQueue p)) (is_over c) _ _ (λ _. same (ToQueue queueings.Over) refl) (λ _. accepts items.Terminate)
+  terminate_by : Such items.Terminate → P (called ToQueue (terminate c))
+  terminate_by such = by_if (λ p. P (called ToQueue p)) (is_over c) _ _ (λ _. same (ToQueue queueings.Over) refl) (λ _. accepts items.Terminate such)
 
-  pause_by : (seconds : ℕ) → P (called ToQueue (pause c seconds))
-  pause_by seconds =
+  pause_by : (seconds : ℕ) → (allows_pause (agreed c) seconds ≡ true → Such (items.Pause seconds)) → P (called ToQueue (pause c seconds))
+  pause_by seconds such =
       by_if (λ p. P (called ToQueue p)) (is_over c) _ _ (λ _. same (ToQueue queueings.Over) refl)
-      (λ _. by_if (λ p. P (called ToQueue p)) (allows_pause (agreed c) seconds) _ _ (λ _. accepts (items.Pause seconds)) (λ _. same (ToQueue queueings.TooLong) refl))
+      (λ _. by_if (λ p. P (called ToQueue p)) (allows_pause (agreed c) seconds) _ _ (λ allows. accepts (items.Pause seconds) (such allows)) (λ _. same (ToQueue queueings.TooLong) refl))
 
   next_by : (now : ℕ) → P (called ToNext (next_request c now))
   next_by now =
@@ -98,14 +107,33 @@ module _ (c : PlainClient) (P : PlainClient × Reply → Type 0)
   handed_by None is = same (ToHandOut None) refl
   handed_by (Some payload) is = hands payload is
 
-  step_by : (call : Call) → P (step c call)
-  step_by (Put stanza) = put_by stanza
-  step_by Restart = restart_by
-  step_by (Pause seconds) = pause_by seconds
-  step_by Terminate = terminate_by
-  step_by (NextRequest now) = next_by now
-  step_by (Answer rid body now) = answer_by rid body now
-  step_by HandOut = handed_by (slice_get (deliverable c) c.handed_out) refl
+  pub step_with : (call : Call) → MayQueue c Such call → P (step c call)
+  step_with (Put stanza) such = put_by stanza such
+  step_with Restart such = restart_by such
+  step_with (Pause seconds) such = pause_by seconds such
+  step_with Terminate such = terminate_by such
+  step_with (NextRequest now) such = next_by now
+  step_with (Answer rid body now) such = answer_by rid body now
+  step_with HandOut such = handed_by (slice_get (deliverable c) c.handed_out) refl
+
+anything : (c : PlainClient) (call : Call) → MayQueue c (λ item. ⊤) call
+anything c (Put stanza) = tt
+anything c Restart = tt
+anything c (Pause seconds) = λ allows. tt
+anything c Terminate = tt
+anything c (NextRequest now) = tt
+anything c (Answer rid body now) = tt
+anything c HandOut = tt
+
+-- the same, whatever is queued
+pub step_by : (c : PlainClient) (P : PlainClient × Reply → Type 0)
+    → ((reply : Reply) → payloads_in (reply ∷ []) ≡ [] → P (c, reply))
+    → ((item : Outgoing) → P (called ToQueue (accept c item)))
+    → ((now : ℕ) → is_due c now ≡ true → next_id c ≤ greatest_rid → P (called ToNext (with_request c (next_made c (agreed c)))))
+    → ((rid : ℕ) (t : Taken) → is_some (request_at c rid) ≡ true → taken c rid ≡ None → answer_of t.body ≡ Ok t.tells → P (with_answer c rid t, ToAnswer answerings.Done))
+    → ((payload : List ℕ) → slice_get (deliverable c) c.handed_out ≡ Some payload → P (record c { handed_out = c.handed_out + 1 }, ToHandOut (Some payload)))
+    → (call : Call) → P (step c call)
+step_by c P same accepts requests answers hands call = step_with c (λ item. ⊤) P same (λ item such. accepts item) requests answers hands call (anything c call)
 
 -- What may be handed out only grows.
 
@@ -163,7 +191,7 @@ grows_answers c rid t none =
 
 -- What was taken up to an acknowledged id stays taken.
 
-still_taken : (c : PlainClient) (rid id : ℕ) (t : Taken) → taken c rid ≡ None → is_some (taken c id) ≡ true → is_some (taken (with_answer c rid t) id) ≡ true
+pub still_taken : (c : PlainClient) (rid id : ℕ) (t : Taken) → taken c rid ≡ None → is_some (taken c id) ≡ true → is_some (taken (with_answer c rid t) id) ≡ true
 still_taken c rid id t none has =
     let other : id ≢ rid = λ same.
     let absent : is_some (taken c id) ≡ false = ap (λ n. is_some (taken c n)) same ∙ ap is_some none in

@@ -1,25 +1,24 @@
 -- A client after a step stands for the plain one after it.
-use Rattle.std.proofs.Common.{◌≡◌, ℕ, zero, suc, ◌+◌, ◌-◌, ◌<◌, ◌≤◌, ◌||◌, Bool, true, false, List, [], ◌∷◌, ◌++◌, map, length, drop, Some, None, refl, sym, ◌∙◌, ap, subst, arith, length-append, length-drop, append_assoc, append-nil}
-use Rattle.std.specs.Prelude.{Option, ◌==◌, not, is_some, slice_get, if◌then◌else◌}
+use Rattle.std.proofs.Common.{◌≡◌, ℕ, ◌+◌, ◌-◌, ◌<◌, ◌≤◌, ◌||◌, Bool, true, false, List, [], ◌∷◌, ◌++◌, map, length, drop, Some, None, refl, sym, ◌∙◌, ap, subst, arith, length-append, length-drop, append_assoc, append-nil}
+use Rattle.std.specs.Prelude.{IfSome, Option, ◌==◌, slice_get, if◌then◌else◌}
 use Rattle.std.specs.List.{All, flat_map, list_any}
 use Rattle.std.proofs.lemmas.Bool.Decides.{nat_tests}
 use Rattle.std.proofs.lemmas.Grind.{flat_map-append}
 use Rattle.std.proofs.lemmas.List.{drop-append-le, drop-drop}
-use Rattle.std.proofs.lemmas.List.Elements.{All-append, All-cons, All-head, All-nil, All-tail}
+use Rattle.std.proofs.lemmas.List.Elements.{All-cons, All-head, All-nil, All-tail}
 use Rattle.std.proofs.lemmas.List.Folds.{list_any-append}
 use Rattle.std.proofs.lemmas.Option.{slice_get_within}
 use Rattle.bosh_types.specs.ById.{at_id}
 use Rattle.bosh_client.specs.declared.client.Client.{Client}
 use Rattle.bosh_client.specs.declared.exchanges.Slot.{Slot}
-use Rattle.bosh_client.specs.declared.exchanges.Slot.TheVariants.{Answered, Open}
+use Rattle.bosh_client.specs.declared.exchanges.Slot.TheVariants.{Open}
 use Rattle.bosh_client.specs.declared.outgoing.Outgoing.{Outgoing}
 use Rattle.bosh_client.specs.KeyPlace.{KeyPlace}
 use Rattle.bosh_client.specs.Machine.{hand_out, handed}
 use Rattle.bosh_client.specs.Outgoing.{is_terminate}
 use Rattle.bosh_client.specs.Places.{Places, comes_next}
 use Rattle.bosh_client.specs.PlainClient.{Made, Taken, PlainClient, bytes_of, deliverable, id_of, items_made, next_id, payloads_for, queued, taken}
-use Rattle.bosh_client.specs.Setup.{is_setup}
-use Rattle.bosh_client.specs.StandsFor.{AreFrom, Does, Holds, HoldsKeys, HoldsRequests, StandsFor, slot_by, slot_of}
+use Rattle.bosh_client.specs.StandsFor.{Does, Holds, HoldsKeys, HoldsRequests, StandsFor, slot_by, slot_of}
 use Rattle.bosh_client.proofs.FoundLemmas.{payload_is}
 use Rattle.bosh_client.proofs.RequestLemmas.{from-push}
 
@@ -203,3 +202,9 @@ hands_out c places inbox left payload plain h requests stops is after =
     by (Some payload) here next =
         does_same (ap (λ o. handed plain o) (sym next))
         (record { replies = refl; after = handed_client c places left plain (plain.handed_out + 1) h (handed_holds places inbox left payload plain requests here after) })
+
+-- one payload less is left
+pub fewer_left : (inbox left : List (List ℕ)) (payload : Option (List ℕ)) → payload ≡ slice_get inbox 0 → left ≡ drop 1 inbox → (more all : ℕ) → length inbox + more ≡ all
+    → IfSome payload (λ p. length left + more < all)
+fewer_left inbox left None is after more all same = tt
+fewer_left inbox left (Some p) is after more all same = omega (arith, same, ap length after, length-drop 1 inbox, slice_get_within inbox 0 p (sym is))

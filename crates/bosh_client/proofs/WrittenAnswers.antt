@@ -1,20 +1,19 @@
 -- The text of an answer tells its parts.
-use Rattle.std.proofs.Common.{◌≡◌, ◌∙◌, ℕ, ◌≤◌, Bool, true, false, List, [], ◌∷◌, ◌++◌, refl, sym, ap, subst, append-nil}
-use Rattle.std.specs.Prelude.{Option, None, Some, Result, Ok, is_some, IfSome, IsTrue, codes, map, if◌then◌else◌}
+use Rattle.std.proofs.Common.{◌≡◌, ◌∙◌, ℕ, ◌≤◌, true, false, List, [], ◌∷◌, refl, sym, ap, subst, append-nil}
+use Rattle.std.specs.Prelude.{Option, None, Some, Ok, is_some, IfSome, codes}
 use Rattle.std.specs.List.{All}
 use Rattle.std.specs.Option.{option_map}
 use Rattle.std.specs.Fmt.{decimal}
 use Rattle.bosh_types.specs.Condition.{name_of}
-use Rattle.bosh_types.specs.Rid.{IsRid, rid_of}
+use Rattle.bosh_types.specs.Rid.{IsRid}
 use Rattle.bosh_types.specs.declared.condition.Condition.{Condition}
 use Rattle.bosh_types.specs.declared.condition.Condition.TheVariants.{BadRequest, HostUnknown, ImproperAddressing, ItemNotFound, OtherRequest, PolicyViolation, RemoteConnectionFailed, RemoteStreamError, SystemShutdown, UndefinedCondition}
 use Rattle.bosh_types.proofs.RidLemmas.{rid_of-decimal}
 use Rattle.body_cutter.specs.declared.parts.Cut.{Cut}
-use Rattle.body_cutter.specs.declared.parts.CutRefusal.{CutRefusal}
 use Rattle.body_cutter.specs.BodyText.{IsBody}
 use Rattle.body_cutter.specs.Built.{Written}
 use Rattle.body_cutter.specs.Cutting.{body_cut_of}
-use Rattle.body_cutter.specs.Pieces.{IsNamed, bytes_at}
+use Rattle.body_cutter.specs.Pieces.{IsNamed}
 use Rattle.body_cutter.proofs.Cuts.{body_cut}
 use Rattle.body_cutter.proofs.NamePieces.{attributes_are_named}
 use Rattle.body_writer.specs.declared.answer.AnswerKind.{AnswerKind}
@@ -28,11 +27,8 @@ use Rattle.body_writer.specs.ReadBack.{IsAnswer}
 use Rattle.body_writer.proofs.AnswerBlocks.{answer_reads}
 use Rattle.session_attrs.specs.Forms.{is_httpbind, number_of, terminate_of}
 use Rattle.session_attrs.specs.Rows.{Says, told}
-use Rattle.session_attrs.proofs.NamedValues.{value_in, value_of_written, first, Looks, look_for, looks_none, looks_one, looks_nothing, looks_both}
+use Rattle.session_attrs.proofs.NamedValues.{value_in, value_of_written, first, Looks, look_for, looks_none, looks_one, looks_both}
 use Rattle.session_attrs.proofs.WrittenNumbers.{told_number}
-use Rattle.bosh_client.specs.declared.replies.ClientEnd.{ClientEnd}
-use Rattle.bosh_client.specs.declared.replies.Why.{Why}
-use Rattle.bosh_client.specs.declared.told.Told.{Told}
 use Rattle.bosh_client.specs.AnswerMeaning.{MeansAck, MeansAnswer, MeansEnd, condition_of}
 use Rattle.bosh_client.specs.AnswerReading.{answer_in, answer_of, answer_with, payloads_at}
 use Rattle.bosh_client.specs.AnswerValues.{AnswerValues, values_by, values_of}

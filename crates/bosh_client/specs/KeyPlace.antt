@@ -1,5 +1,5 @@
 -- Where a client is in its keys: a place in one sequence after another.
-use Rattle.std.specs.Prelude.{◌≡◌, ℕ, ◌+◌, ◌-◌, ◌==◌, ◌≤◌, ◌^◌, Bool, true, false, min, List, Option, None, Some, if◌then◌else◌}
+use Rattle.std.specs.Prelude.{◌≡◌, ℕ, ◌+◌, ◌-◌, ◌==◌, ◌≤◌, ◌^◌, true, false, min, List, Option, None, Some, if◌then◌else◌}
 use Rattle.key_sequence.specs.Chain.{key_of, keys_down}
 use Rattle.key_sequence.specs.Unsent.{Unsent}
 use Rattle.bosh_client.specs.Keys.{announcement, seed_of}

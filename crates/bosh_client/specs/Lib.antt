@@ -3,6 +3,7 @@ pub mod AnswerReading
 pub mod AnswerValues
 pub mod KeyPlace
 pub mod Keys
+pub mod Left
 pub mod Loads
 pub mod Machine
 pub mod Outgoing

@@ -1,17 +1,15 @@
 -- The calls of a client: from the state and the call's arguments to the state after it and the reply.
-use Rattle.std.specs.Prelude.{ℕ, ◌+◌, ◌-◌, ◌*◌, ◌==◌, ◌&&◌, ◌||◌, nat_lt, nat_le, Bool, true, false, not, List, [], ◌∷◌, ◌++◌, length, slice_get, Option, None, Some, is_none, is_some, Result, Ok, Err, if◌then◌else◌}
+use Rattle.std.specs.Prelude.{ℕ, ◌+◌, ◌-◌, ◌*◌, ◌==◌, ◌&&◌, ◌||◌, nat_lt, nat_le, Bool, false, not, List, [], ◌∷◌, ◌++◌, length, slice_get, Option, None, Some, is_none, is_some, Result, Ok, Err, if◌then◌else◌}
 use Rattle.std.specs.List.{count_by}
 use Rattle.std.specs.Option.{option_map}
 use Rattle.bosh_types.specs.Limits.{most_waiting}
 use Rattle.bosh_types.specs.Rid.{greatest_rid}
-use Rattle.body_writer.specs.declared.request.RequestParts.{RequestParts}
 use Rattle.body_writer.specs.Request.{request_text}
 use Rattle.bosh_client.specs.declared.agreed.Agreed.{Agreed}
 use Rattle.bosh_client.specs.declared.outgoing.Outgoing.{Outgoing}
 use Rattle.bosh_client.specs.declared.outgoing.Outgoing.TheVariants.{Stanza, Restart, Pause, Terminate}
 use Rattle.bosh_client.specs.declared.replies.Answered.{Answered}
 use Rattle.bosh_client.specs.declared.replies.Answered.TheVariants as answerings
-use Rattle.bosh_client.specs.declared.replies.ClientEnd.{ClientEnd}
 use Rattle.bosh_client.specs.declared.replies.Next.{Next}
 use Rattle.bosh_client.specs.declared.replies.Next.TheVariants as nexts
 use Rattle.bosh_client.specs.declared.replies.Queued.{Queued}
@@ -22,7 +20,7 @@ use Rattle.bosh_client.specs.declared.setup.ClientSetup.{ClientSetup}
 use Rattle.bosh_client.specs.declared.told.Told.{Told}
 use Rattle.bosh_client.specs.AnswerReading.{answer_of}
 use Rattle.bosh_client.specs.Outgoing.{front_of, is_stanza}
-use Rattle.bosh_client.specs.PlainClient.{Made, Taken, PlainClient, bytes_of, deliverable, end_of, has_ended, is_closing, last_taken, lowest, next_id, queued, request_at, taken}
+use Rattle.bosh_client.specs.PlainClient.{Made, Taken, PlainClient, bytes_of, deliverable, has_ended, is_closing, last_taken, lowest, next_id, queued, request_at, taken}
 use Rattle.bosh_client.specs.Requests.{agreed, creation_parts, later_parts}
 use Rattle.bosh_client.specs.Setup.{polls}
 

@@ -1,12 +1,11 @@
 -- The plain state of a client: full lists, from which nothing is ever taken.
-use Rattle.std.specs.Prelude.{ℕ, ◌+◌, ◌-◌, ◌==◌, Bool, false, not, max, List, [], ◌∷◌, ◌++◌, length, take, drop, filter, Option, None, Some, is_none, is_some}
+use Rattle.std.specs.Prelude.{ℕ, ◌+◌, ◌==◌, Bool, false, not, List, [], ◌∷◌, length, take, drop, filter, Option, None, Some, is_none, is_some}
 use Rattle.std.specs.List.{find, flat_map, list_any, take_while}
 use Rattle.std.specs.Option.{option_map, option_or, unwrap_or}
 use Rattle.bosh_types.specs.ById.{at_id}
 use Rattle.body_writer.specs.declared.request.RequestParts.{RequestParts}
 use Rattle.body_writer.specs.Request.{request_text}
 use Rattle.bosh_client.specs.declared.outgoing.Outgoing.{Outgoing}
-use Rattle.bosh_client.specs.declared.outgoing.Outgoing.TheVariants.{Restart}
 use Rattle.bosh_client.specs.declared.replies.ClientEnd.{ClientEnd}
 use Rattle.bosh_client.specs.declared.setup.ClientSetup.{ClientSetup}
 use Rattle.bosh_client.specs.declared.told.Told.{Told}

@@ -1,9 +1,17 @@
 -- What is said of a client after any calls.
-use Rattle.std.specs.Prelude.{◌≡◌, ℕ, ◌<◌, ◌≤◌, true, ⊤, List, [], ◌∷◌, ◌++◌, filter, Option, None, Some, IfSome, is_some}
+use Rattle.std.specs.Prelude.{◌≡◌, ℕ, ◌+◌, ◌<◌, ◌≤◌, true, ⊤, List, [], ◌∷◌, ◌++◌, filter, length, Option, None, Some, IfSome, IsSome, is_some, ◌⊎◌}
+use Rattle.std.specs.List.{list_all, list_any}
+use Rattle.body_cutter.specs.Chars.{is_allowed}
+use Rattle.body_cutter.specs.Utf8.{IsUtf8Of}
+use Rattle.body_writer.specs.declared.request.RequestParts.{RequestParts}
+use Rattle.body_writer.specs.ReadBack.{IsRequest}
+use Rattle.bosh_client.specs.declared.agreed.Agreed.{Agreed}
 use Rattle.bosh_client.specs.declared.outgoing.Outgoing.{Outgoing}
 use Rattle.bosh_client.specs.declared.setup.ClientSetup.{ClientSetup}
-use Rattle.bosh_client.specs.Outgoing.{is_of_stream}
-use Rattle.bosh_client.specs.PlainClient.{Made, PlainClient, id_of, queued, taken}
+use Rattle.bosh_client.specs.Outgoing.{is_of_stream, is_restart, is_stanza, is_terminate, pause_in, stanzas_in}
+use Rattle.bosh_client.specs.PlainClient.{Made, PlainClient, id_of, lowest, next_id, queued, taken}
+use Rattle.bosh_client.specs.ReadBack.{greatest_number}
+use Rattle.bosh_client.specs.Requests.{agreed, creation_parts}
 use Rattle.bosh_client.specs.Runs.{Reply, ToQueue, ToNext, ToAnswer, ToHandOut}
 
 -- one list begins another
@@ -34,3 +42,47 @@ AcknowledgesIn c request None = IfSome request.parts.ack (λ ack. (ack < id_of r
 
 abbrev pub Acknowledges : PlainClient → Made → Type 0
 Acknowledges c request = AcknowledgesIn c request request.parts.creation
+
+-- the next id is not far above the lowest without an answer: before the creation's answer one at most, and then one more at
+-- most than the manager allows, XEP-0124 section 11
+abbrev pub IsNear : PlainClient → Option Agreed → Type 0
+IsNear c None = next_id c ≤ lowest c + 1
+IsNear c (Some a) = next_id c ≤ lowest c + a.requests + 1
+
+abbrev pub HasFewOpen : PlainClient → Type 0
+HasFewOpen c = IsNear c (agreed c)
+
+-- the name of the session is a text that may stand in a body, of at most 1024 bytes
+abbrev pub IsName : List ℕ → Type 0
+IsName sid = IsUtf8Of is_allowed sid × (length sid ≤ 1024)
+
+abbrev pub IsNamed : PlainClient → Type 0
+IsNamed c = IfSome (agreed c) (λ a. IsName a.sid)
+
+-- a request for the session names it, acknowledges a lower id, and pauses for 1 to 999,999,999 seconds
+pub record IsOfSession (parts : RequestParts) : Type 0 where
+  pub sid : IsSome parts.sid
+  pub ack : IfSome parts.ack (λ ack. (1 ≤ ack) × (ack < parts.rid))
+  pub pause : IfSome parts.pause (λ pause. (1 ≤ pause) × (pause ≤ greatest_number))
+
+-- the creation of a client with this setup, or a request for its session
+abbrev pub IsKnown : ClientSetup → RequestParts → Option (List ℕ × ℕ × ℕ) → Type 0
+IsKnown setup parts None = IsOfSession parts
+IsKnown setup parts (Some creation) = parts ≡ creation_parts setup
+
+-- the text of this request reads back as its parts
+pub record HasForm (setup : ClientSetup) (parts : RequestParts) : Type 0 where
+  pub form : IsRequest parts
+  pub known : IsKnown setup parts parts.creation
+
+-- stanzas alone, or nothing, or one item that is none
+abbrev pub IsAlone : List Outgoing → Type 0
+IsAlone items = (list_all is_stanza items ≡ true) ⊎ ((item : Outgoing) × (items ≡ item ∷ []))
+
+-- a request carries just what it took of the queue
+pub record Carries (request : Made) : Type 0 where
+  pub payloads : request.parts.payloads ≡ stanzas_in request.items
+  pub restart : request.parts.restart ≡ list_any is_restart request.items
+  pub pause : request.parts.pause ≡ pause_in request.items
+  pub terminate : request.parts.terminate ≡ list_any is_terminate request.items
+  pub alone : IsAlone request.items

@@ -1,5 +1,5 @@
 -- What a request of a client says, XEP-0124 sections 7.1, 9, 10, 13 and 15.
-use Rattle.std.specs.Prelude.{ℕ, ◌+◌, ◌-◌, ◌==◌, ◌&&◌, false, nat_lt, max, List, [], length, Option, None, Some, codes, if◌then◌else◌}
+use Rattle.std.specs.Prelude.{ℕ, ◌+◌, ◌-◌, ◌==◌, ◌&&◌, false, nat_lt, max, List, [], length, Option, None, Some, if◌then◌else◌}
 use Rattle.std.specs.List.{list_any}
 use Rattle.std.specs.Option.{option_map, unwrap_or}
 use Rattle.body_writer.specs.declared.request.RequestParts.{RequestParts}

@@ -1,5 +1,5 @@
 -- Calls of a client one after the other, and what it is after them.
-use Rattle.std.specs.Prelude.{ℕ, ⊤, IsTrue, List, [], ◌∷◌, Option, None, Some}
+use Rattle.std.specs.Prelude.{ℕ, ⊤, IsTrue, List, [], ◌∷◌, Option}
 use Rattle.body_cutter.specs.Cutting.{is_stanza}
 use Rattle.bosh_client.specs.declared.replies.Answered.{Answered}
 use Rattle.bosh_client.specs.declared.replies.Next.{Next}

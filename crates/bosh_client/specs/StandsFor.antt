@@ -1,12 +1,9 @@
 -- Which plain clients a client stands for.
-use Rattle.std.specs.Prelude.{◌≡◌, ℕ, ◌+◌, ◌-◌, ◌<◌, ◌≤◌, ◌==◌, Bool, true, false, All, List, [], ◌∷◌, ◌++◌, length, map, drop, Option, None, Some, is_some}
+use Rattle.std.specs.Prelude.{◌≡◌, ℕ, ◌+◌, ◌<◌, ◌≤◌, ◌==◌, true, false, All, List, [], ◌∷◌, ◌++◌, length, map, drop, Option, None, Some, is_some}
 use Rattle.std.specs.List.{flat_map}
-use Rattle.bosh_client.specs.declared.agreed.Agreed.{Agreed}
 use Rattle.bosh_client.specs.declared.client.Client.{Client}
 use Rattle.bosh_client.specs.declared.exchanges.Slot.{Slot}
 use Rattle.bosh_client.specs.declared.exchanges.Slot.TheVariants.{Answered, Open}
-use Rattle.bosh_client.specs.declared.outgoing.Outgoing.{Outgoing}
-use Rattle.bosh_client.specs.declared.replies.ClientEnd.{ClientEnd}
 use Rattle.bosh_client.specs.declared.setup.ClientSetup.{ClientSetup}
 use Rattle.bosh_client.specs.KeyPlace.{KeyPlace}
 use Rattle.bosh_client.specs.Keys.{number_at, sequence_at}

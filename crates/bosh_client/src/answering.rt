@@ -1,5 +1,6 @@
 // Answers are taken, and their payloads handed out.
-ghost use Rattle.std.specs.Prelude.{◌≡◌, ℕ, ◌≤◌, IfOk, List, [], None, OnErr, false, is_none, is_some, true};
+ghost use Rattle.std.specs.Prelude.{◌≡◌, ℕ, ◌+◌, ◌<◌, ◌≤◌, IfOk, IfSome, List, [], None, OnErr, false, is_none, is_some, length, true};
+ghost use Rattle.bosh_client.specs.Left.{left_in, left_of};
 ghost use Rattle.bosh_client.specs.Machine.{answer, hand_out, lacks_sid, with_answer};
 ghost use Rattle.bosh_client.specs.Places.{comes_next};
 ghost use Rattle.bosh_client.specs.PlainClient.{PlainClient, end_of, request_at, taken};
@@ -52,10 +53,11 @@ impl Client {
     }
 
     /// The next payload: those of the answers in the order of ids, up to the first id whose answer has not come or is terminal.
-    /// It takes no memory.
+    /// With each fewer are left. It takes no memory.
     #[tactic(auto, unfolding(crate::specs::StandsFor::StandsFor))]
     pub fn hand_out(&mut self) -> Option<Text>
-        ensures { (plain : PlainClient) → StandsFor self.old plain → Does self.new result (hand_out plain) }
+        ensures step { (plain : PlainClient) → StandsFor self.old plain → Does self.new result (hand_out plain) }
+        ensures fewer { IfSome result (λ payload. left_in self.new < left_in self.old) }
     {
         move_on(&mut self.exchanges, &mut self.inbox);
         self.inbox.take_first()
@@ -129,6 +131,7 @@ impl Client {
 fn move_on(exchanges: &mut Exchanges, inbox: &mut Inbox)
     ensures stands { (plain : PlainClient) → HoldsRequests exchanges.old inbox.old plain → HoldsRequests exchanges.new inbox.new plain }
     ensures stops { inbox.new ≡ [] → comes_next exchanges.new.slots ≡ false }
+    ensures left { length inbox.new + left_of exchanges.new.slots ≡ length inbox.old + left_of exchanges.old.slots }
 {
     while inbox.is_empty() {
         match exchanges.take_front() {

@@ -1,4 +1,4 @@
-ghost use Rattle.std.specs.Prelude.{◌≡◌, ◌↔◌, Err, ℕ, ◌≤◌, ◌++◌, All, List, Ok, Some, length};
+ghost use Rattle.std.specs.Prelude.{◌≡◌, ◌↔◌, Err, ℕ, ◌≤◌, ◌++◌, All, List, Ok, Some, length, true};
 ghost use Rattle.body_writer.specs.declared.answer.AnswerParts.{AnswerParts};
 ghost use Rattle.body_writer.specs.Answer.{answer_text};
 ghost use Rattle.body_writer.specs.ReadBack.{IsAnswer};
@@ -11,8 +11,9 @@ ghost use Rattle.bosh_client.specs.AnswerReading.{answer_of, answer_with};
 ghost use Rattle.bosh_client.specs.AnswerValues.{AnswerValues};
 ghost use Rattle.bosh_client.specs.Machine.{copy, new_client};
 ghost use Rattle.bosh_client.specs.PlainClient.{Made, PlainClient, bytes_of, deliverable, items_made, queued, request_at, was_handed, was_made, was_put};
-ghost use Rattle.bosh_client.specs.Promises.{Acknowledges, Begins, is_queued, payloads_in};
-ghost use Rattle.bosh_client.specs.Runs.{Call, after, client_after, replies};
+ghost use Rattle.bosh_client.specs.Promises.{Acknowledges, Begins, Carries, HasFewOpen, HasForm, IsNamed, is_queued, payloads_in};
+ghost use Rattle.bosh_client.specs.Runs.{Call, IsAllowed, after, client_after, replies};
+ghost use Rattle.bosh_client.specs.Setup.{is_setup};
 ghost use Rattle.bosh_client.specs.StandsFor.{AreFrom};
 
 /// What the requests of a client took, and then what is queued, is all that was accepted, in order: nothing is lost,
@@ -43,6 +44,24 @@ pub fn payloads_are_handed_out_in_order()
 /// A request acknowledges an id below its own up to which all answers were taken.
 pub fn acknowledgements_are_of_taken_answers()
     ensures { (setup : ClientSetup) (calls : List Call) → 1 ≤ setup.first → All (Acknowledges (client_after setup calls)) (client_after setup calls).requests }
+{}
+
+/// The id of the next request is at most one above the lowest without an answer before the creation's answer is taken, and
+/// then at most one more above it than the manager allows requests.
+pub fn few_requests_are_open()
+    ensures { (setup : ClientSetup) (calls : List Call) → 1 ≤ setup.first → HasFewOpen (client_after setup calls) }
+{}
+
+/// Each request that was made has the form whose text reads back, where the session's name is a text of at most 1024
+/// bytes.
+pub fn requests_have_the_form_that_reads_back()
+    ensures { (setup : ClientSetup) (calls : List Call) → is_setup setup ≡ true → 1 ≤ setup.first → All IsAllowed calls → IsNamed (client_after setup calls) →
+        All (λ request. HasForm setup request.parts) (client_after setup calls).requests }
+{}
+
+/// A request carries just what it took of the queue: stanzas alone, or one restart, pause or terminate.
+pub fn requests_carry_what_they_took()
+    ensures { (setup : ClientSetup) (calls : List Call) → All Carries (client_after setup calls).requests }
 {}
 
 /// What an answer tells is what its body is read as.

@@ -1,4 +1,4 @@
-use Rattle.std.proofs.Common.{◌≡◌, ◌∙◌, sym, arith}
+use Rattle.std.proofs.Common.{◌∙◌, sym, arith}
 use Rattle.bosh_client.proofs.PlacesLemmas.{answer_goes_on, answered_within, open_ends}
 use Rattle.bosh_client.proofs.exchanges.answered_from.Goals as goal
 

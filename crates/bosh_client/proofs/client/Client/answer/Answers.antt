@@ -1,4 +1,4 @@
-use Rattle.std.proofs.Common.{◌≡◌, ◌∙◌, ◌≤◌, sym, ap, refl, arith}
+use Rattle.std.proofs.Common.{◌∙◌, ◌≤◌, sym, ap, refl, arith}
 use Rattle.std.specs.Prelude.{not}
 use Rattle.bosh_client.specs.declared.setup.ClientSetup.{ClientSetup}
 use Rattle.bosh_client.specs.Machine.{take_answer}

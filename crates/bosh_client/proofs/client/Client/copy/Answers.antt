@@ -1,4 +1,4 @@
-use Rattle.std.proofs.Common.{◌≡◌, ◌∙◌, Some, None, sym, ap, refl}
+use Rattle.std.proofs.Common.{◌∙◌, Some, sym, ap}
 use Rattle.std.specs.Option.{option_copied}
 use Rattle.bosh_client.specs.StandsFor.{StandsFor}
 use Rattle.bosh_client.proofs.FoundLemmas.{copy_in, copy_is}

@@ -1,9 +1,8 @@
-use Rattle.std.proofs.Common.{◌≡◌, ◌∙◌, ◌-◌, ◌++◌, ◌∷◌, [], ℕ, List, length, sym, ap, subst, refl, arith}
+use Rattle.std.proofs.Common.{◌∙◌, ◌++◌, ◌∷◌, [], ℕ, List, ap, subst, refl, arith}
 use Rattle.body_writer.specs.Request.{request_text}
 use Rattle.bosh_client.specs.declared.exchanges.Slot.TheVariants.{Open}
 use Rattle.bosh_client.specs.declared.replies.Next.TheVariants.{Request}
 use Rattle.bosh_client.specs.declared.setup.ClientSetup.{ClientSetup}
-use Rattle.bosh_client.specs.Places.{Places}
 use Rattle.bosh_client.specs.PlainClient.{Made}
 use Rattle.bosh_client.specs.Requests.{creation_parts}
 use Rattle.bosh_client.specs.StandsFor.{HoldsKeys, StandsFor}

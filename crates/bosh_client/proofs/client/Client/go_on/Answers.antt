@@ -1,4 +1,4 @@
-use Rattle.std.proofs.Common.{◌≡◌, ◌∙◌, ◌+◌, ◌-◌, ◌++◌, ◌∷◌, ◌≤◌, ◌<◌, ◌^◌, [], ℕ, List, length, take, drop, sym, ap, subst, refl, arith, length-take}
+use Rattle.std.proofs.Common.{◌≡◌, ◌∙◌, ◌+◌, ◌-◌, ◌++◌, ◌∷◌, ◌≤◌, ◌<◌, ◌^◌, [], ℕ, List, length, take, drop, sym, ap, subst, refl, arith}
 use Rattle.body_writer.specs.Request.{request_text}
 use Rattle.bosh_client.specs.declared.exchanges.Slot.TheVariants.{Open}
 use Rattle.bosh_client.specs.declared.outgoing.Outgoing.{Outgoing}

@@ -1,4 +1,4 @@
-use Rattle.std.proofs.Common.{◌≡◌, ◌∙◌, sym, ap}
+use Rattle.std.proofs.Common.{◌∙◌, sym, ap}
 use Rattle.std.specs.Prelude.{◌==◌}
 use Rattle.bosh_client.specs.Machine.{is_due_by}
 use Rattle.bosh_client.specs.StandsFor.{StandsFor}

@@ -1,10 +1,8 @@
-use Rattle.std.proofs.Common.{◌≡◌, ◌∙◌, inl, inr, Some, None, sym, ap, refl, arith, nat_lt, true, false}
-use Rattle.std.proofs.lemmas.Bool.{cases_lt}
-use Rattle.std.proofs.lemmas.Bool.Decides.{nat_tests}
+use Rattle.std.proofs.Common.{◌≡◌, ◌∙◌, sym, ap, arith, nat_lt}
 use Rattle.bosh_client.specs.declared.setup.ClientSetup.{ClientSetup}
 use Rattle.bosh_client.specs.PlainClient.{next_id}
 use Rattle.bosh_client.specs.StandsFor.{StandsFor}
-use Rattle.bosh_client.proofs.FoundLemmas.{made_is, made_test, next_is, unmade_high, unmade_low}
+use Rattle.bosh_client.proofs.FoundLemmas.{made_is, made_test, next_is, unmade_low}
 use Rattle.bosh_client.proofs.client.Client.is_made.Goals as goal
 
 pub returns-then-value : goal.returns-then-value

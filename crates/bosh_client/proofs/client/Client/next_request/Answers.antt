@@ -1,8 +1,7 @@
-use Rattle.std.proofs.Common.{◌≡◌, ◌∙◌, ◌<◌, false, true, Some, sym, ap, subst, arith}
+use Rattle.std.proofs.Common.{◌≡◌, ◌∙◌, false, sym, ap, subst, arith}
 use Rattle.std.specs.Prelude.{IfOk, nat_lt, not, is_some}
 use Rattle.std.proofs.lemmas.Bool.Decides.{nat_tests}
 use Rattle.bosh_types.specs.Rid.{greatest_rid}
-use Rattle.bosh_client.specs.declared.agreed.Agreed.{Agreed}
 use Rattle.bosh_client.specs.declared.replies.Next.{Next}
 use Rattle.bosh_client.specs.Machine.{next_made, with_request}
 use Rattle.bosh_client.specs.PlainClient.{PlainClient, next_id}

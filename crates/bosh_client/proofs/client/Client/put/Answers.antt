@@ -1,11 +1,9 @@
 use Rattle.std.proofs.Common.{◌≡◌, ◌∙◌, ◌++◌, ◌∷◌, [], false, sym, ap, refl, arith}
 use Rattle.std.specs.List.{count_by}
 use Rattle.std.proofs.lemmas.Bool.Decides.{nat_tests}
-use Rattle.bosh_client.specs.declared.outgoing.Outgoing.{Outgoing}
 use Rattle.bosh_client.specs.declared.outgoing.Outgoing.TheVariants.{Stanza}
 use Rattle.bosh_client.specs.Machine.{is_full}
 use Rattle.bosh_client.specs.Outgoing.{is_stanza}
-use Rattle.bosh_client.specs.PlainClient.{queued}
 use Rattle.bosh_client.specs.StandsFor.{StandsFor}
 use Rattle.bosh_client.proofs.StepLemmas.{accepted_holds, choose_no, does_same, or_false}
 use Rattle.bosh_client.proofs.client.Client.put.Goals as goal

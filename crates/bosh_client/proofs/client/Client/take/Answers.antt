@@ -1,4 +1,4 @@
-use Rattle.std.proofs.Common.{◌≡◌, ◌∙◌, sym, ap, subst}
+use Rattle.std.proofs.Common.{◌∙◌, sym, ap, subst}
 use Rattle.std.specs.Option.{option_or}
 use Rattle.bosh_client.specs.declared.exchanges.Slot.TheVariants.{Answered}
 use Rattle.bosh_client.specs.Places.{Places, filled}

@@ -1,4 +1,4 @@
-use Rattle.std.proofs.Common.{◌≡◌, ◌≤◌, length, set, sym, arith, length-set}
+use Rattle.std.proofs.Common.{arith, length-set}
 use Rattle.bosh_client.specs.declared.exchanges.Slot.TheVariants.{Answered}
 use Rattle.bosh_client.proofs.PlacesLemmas.{answered-set}
 use Rattle.bosh_client.proofs.exchanges.Exchanges.fill.Goals as goal

@@ -1,5 +1,4 @@
-use Rattle.std.proofs.Common.{◌≡◌, ◌+◌, arith, ◌∙◌, sym, ap, length, length-append}
-use Rattle.bosh_client.specs.declared.exchanges.Slot.TheVariants.{Open}
+use Rattle.std.proofs.Common.{◌+◌, arith, ◌∙◌, sym, ap, length, length-append}
 use Rattle.bosh_client.specs.Places.{Places}
 use Rattle.bosh_client.proofs.PlacesLemmas.{answered-push}
 use Rattle.bosh_client.proofs.exchanges.Exchanges.push.Goals as goal

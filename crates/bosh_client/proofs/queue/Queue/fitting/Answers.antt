@@ -1,4 +1,4 @@
-use Rattle.std.proofs.Common.{◌≡◌, ◌+◌, ◌∙◌, ap, sym, length, min, take, true, arith}
+use Rattle.std.proofs.Common.{◌≡◌, ◌+◌, length, min, take, true, arith}
 use Rattle.bosh_types.specs.Limits.{most_children}
 use Rattle.bosh_client.specs.Outgoing.{fit_one_body}
 use Rattle.bosh_client.proofs.Fronts.{fits_is, longest_is, no_longer, stops}
