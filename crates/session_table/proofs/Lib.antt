@@ -6,3 +6,5 @@ mod OpensLemmas
 mod LawLemmas
 mod OpeningLemmas
 mod ReplyLemmas
+mod PurseLemmas
+mod PassLemmas

@@ -67,7 +67,7 @@ with_name sid (Some s) = cond (bytes_eq s.sid sid) (Some s) None
 at_itself : (n : ℕ) → is_at (nat_cmp n) n ≡ true
 at_itself n = unsigned_tied n n ∙ eq-eqb n n refl
 
-at_other : (n k : ℕ) → n ≢ k → is_at (nat_cmp n) k ≡ false
+pub at_other : (n k : ℕ) → n ≢ k → is_at (nat_cmp n) k ≡ false
 at_other n k apart = unsigned_tied n k ∙ ne_eqb n k apart
 
 pub at_same : (n k : ℕ) → is_at (nat_cmp n) k ≡ true → n ≡ k

@@ -7,3 +7,4 @@ pub mod Keeping
 pub mod Entering
 pub mod Replies
 pub mod Serving
+pub mod Purses

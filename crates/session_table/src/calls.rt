@@ -35,6 +35,15 @@ pub enum DirectoryReply {
     Unknown,
 }
 
+/// What came of a creation, for a worker that keeps the handle of what it opened.
+#[derive(Drop)]
+pub enum NewSession {
+    /// The session has this opening number, and this body answers its creation.
+    Opened { number: u64, answer: SharedText },
+    TableFull,
+    OpeningsSpent,
+}
+
 /// What a directory is asked.
 #[derive(Clone, Copy, Debug, PartialEq, Eq)]
 pub enum Question {

@@ -9,12 +9,16 @@ mod handle;
 mod laws;
 mod object;
 mod opening;
+mod purse;
 mod serving;
 mod sid;
 
-pub use calls::{DirectoryCall, DirectoryReply, LiveSession, LiveSessions, Opened, Question};
+pub use calls::{
+    DirectoryCall, DirectoryReply, LiveSession, LiveSessions, NewSession, Opened, Question,
+};
 pub use directory::Directory;
 pub use entry::{Entry, Event};
 pub use handle::SessionHandle;
 pub use laws::names_differ;
 pub use opening::Opening;
+pub use purse::Purse;
