@@ -1,0 +1,6 @@
+pub mod Answering
+pub mod Asked
+pub mod Connections
+pub mod Sites
+pub mod Tracing
+pub mod Trail

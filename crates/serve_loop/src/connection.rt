@@ -1,0 +1,290 @@
+// One connection of a client, as a value that makes one move after the other.
+ghost use Rattle.std.specs.Prelude.{◌≡◌, ◌≤◌, ℕ, [], Bool, IsSome, List, Option};
+ghost use Rattle.bosh_types.specs.declared.hosts.HostName.{HostName};
+ghost use Rattle.parked_gate.specs.Passes.{IsPassOf};
+ghost use Rattle.serve_loop.specs.declared.trail.Traced.{Traced};
+ghost use Rattle.session_table.specs.Purses.{Sessions, held};
+ghost use Rattle.serve_loop.specs.Connections.{IsAskedOr, IsRefusedOr, IsServedBy, Moves, outside, stage_after, stage_behind, wanted_by};
+
+use crate::answering::{Answering, Waiting};
+use crate::owed::Owed;
+use crate::trail::{Evidence, Trail, TrailLine};
+use crate::worker::{Site, Worker};
+use bosh_http::{HttpIn, HttpRefusal, MessageWriter, RequestReader};
+use bosh_ports::{Bell, Link, WriteFault};
+use bosh_types::{SharedText, Text};
+use server_ports::{Clock, Names};
+use std::alloc::{AllocError, Global};
+use std::mem::replace;
+use std::sync::Wait;
+
+/// How a connection ended.
+#[derive(Clone, Copy, Debug, PartialEq, Eq)]
+pub enum ConnectionEnd {
+    /// The peer closed between requests, asked closing, spoke HTTP/1.0 or was refused.
+    Ended,
+    /// The link failed while it was read.
+    ReadFault,
+    /// The link failed while it was written. A front of what was to be written was.
+    WriteFault,
+    /// A later copy of the last request came elsewhere, or its answer was collected there. It gets no answer here.
+    Superseded,
+    /// The bell was silent, and there is nothing for the last request yet.
+    Silent,
+    /// There was no memory for the last request, which was answered so.
+    Memory,
+}
+
+/// What a connection wants next.
+#[derive(Clone, Copy, Debug, PartialEq, Eq)]
+pub enum Wants {
+    /// Bytes of the client.
+    Bytes,
+    /// To go on at once.
+    Nothing,
+    /// To give an answer to the link.
+    Room,
+    /// The answer of a request that waits.
+    Answer,
+    /// The connection has ended so.
+    End(ConnectionEnd),
+}
+
+/// Where a connection stands.
+#[derive(Drop)]
+pub(crate) enum Stage {
+    Reading,
+    Asked {
+        body: SharedText,
+        closing: bool,
+    },
+    /// Whether its session was looked at since the request waits.
+    Waiting {
+        waiting: Waiting,
+        closing: bool,
+        looked: bool,
+    },
+    Owing(Owed),
+    Over(ConnectionEnd),
+}
+
+/// A connection: its bytes that make no request yet, and where its last request stands.
+#[derive(Drop)]
+pub struct Connection {
+    alloc: Global,
+    reader: RequestReader,
+    writer: MessageWriter,
+    pub(crate) stage: Stage,
+}
+
+impl Connection {
+    /// A connection on which nothing came yet. It takes no memory.
+    pub fn new(alloc: Global) -> Connection
+        ensures reader { result.reader ≡ [] }
+        ensures stage { result.stage ≡ Stage.Reading }
+    {
+        Connection {
+            alloc,
+            reader: RequestReader::new(alloc),
+            writer: MessageWriter::new(),
+            stage: Stage::Reading,
+        }
+    }
+
+    /// What it wants next.
+    pub fn wants(&self) -> Wants
+        ensures { result ≡ wanted_by self.now.stage }
+    {
+        match &self.stage {
+            Stage::Reading => Wants::Bytes,
+            Stage::Asked { .. } => Wants::Nothing,
+            Stage::Waiting { looked: true, .. } => Wants::Answer,
+            Stage::Waiting { looked: false, .. } => Wants::Nothing,
+            Stage::Owing(_) => Wants::Room,
+            Stage::Over(end) => Wants::End(*end),
+        }
+    }
+
+    /// Makes one move: reads a request, makes its call, looks for its answer, or writes that.
+    pub fn step<R: Wait, L: Link, C: Clock, B: Bell, M: Names>(
+        &mut self,
+        rt: &R,
+        site: &Site<'_, C>,
+        worker: &mut Worker<B, M>,
+        link: &mut L,
+    )
+        requires pass { IsPassOf site.now.directory.now worker.old.purse.directory }
+        requires held { IsServedBy worker.old.purse.sessions self.old.stage }
+        ensures pass { IsPassOf site.now.directory.now worker.new.purse.directory }
+        ensures held { IsServedBy worker.new.purse.sessions self.new.stage }
+        ensures moves { Moves site.now.hosts.now
+            (outside self.old.reader (L.left link.old) (L.given link.old) worker.old.trail.lines.items (L.faults link.old))
+            (outside self.new.reader (L.left link.new) (L.given link.new) worker.new.trail.lines.items (L.faults link.new))
+            worker.old.purse.sessions worker.new.purse.sessions self.old.stage self.new.stage }
+        ensures faults { L.faults link.old ≤ L.faults link.new }
+        ensures silences { B.silences worker.new.bell ≡ B.silences worker.old.bell }
+    {
+        let stage = replace(&mut self.stage, Stage::Reading);
+        self.stage = self.move_on(rt, site, worker, link, stage);
+    }
+
+    // Where it stands after one move from here.
+    fn move_on<R: Wait, L: Link, C: Clock, B: Bell, M: Names>(
+        &mut self,
+        rt: &R,
+        site: &Site<'_, C>,
+        worker: &mut Worker<B, M>,
+        link: &mut L,
+        stage: Stage,
+    ) -> Stage
+        requires pass { IsPassOf site.now.directory.now worker.old.purse.directory }
+        requires held { IsServedBy worker.old.purse.sessions stage }
+        ensures pass { IsPassOf site.now.directory.now worker.new.purse.directory }
+        ensures held { IsServedBy worker.new.purse.sessions result }
+        ensures moves { Moves site.now.hosts.now
+            (outside self.old.reader (L.left link.old) (L.given link.old) worker.old.trail.lines.items (L.faults link.old))
+            (outside self.new.reader (L.left link.new) (L.given link.new) worker.new.trail.lines.items (L.faults link.new))
+            worker.old.purse.sessions worker.new.purse.sessions stage result }
+        ensures faults { L.faults link.old ≤ L.faults link.new }
+        ensures silences { B.silences worker.new.bell ≡ B.silences worker.old.bell }
+    {
+        match stage {
+            Stage::Reading => self.read(&mut worker.trail, link),
+            Stage::Asked { body, closing } => ask(rt, site, worker, body, closing),
+            Stage::Waiting {
+                waiting,
+                closing,
+                ..
+            } => collected(rt, worker, waiting, closing),
+            Stage::Owing(owed) => self.write(link, &owed),
+            Stage::Over(end) => Stage::Over(end),
+        }
+    }
+
+    // Reads the next request.
+    fn read<L: Link>(&mut self, trail: &mut Trail, link: &mut L) -> Stage
+        ensures held { (sessions : Sessions) → IsServedBy sessions result }
+        ensures moves { (hosts : List HostName) → (sessions : Sessions) → Moves hosts
+            (outside self.old.reader (L.left link.old) (L.given link.old) trail.old.lines.items (L.faults link.old))
+            (outside self.new.reader (L.left link.new) (L.given link.new) trail.new.lines.items (L.faults link.new))
+            sessions sessions Stage.Reading result }
+        ensures faults { L.faults link.old ≤ L.faults link.new }
+    {
+        match self.reader.next(self.alloc, link) {
+            Ok(HttpIn::Request { body, closing }) => asked_stage(self.alloc, body, closing),
+            Ok(HttpIn::Refused(refusal)) => refused(trail, refusal),
+            Ok(HttpIn::End) => Stage::Over(ConnectionEnd::Ended),
+            Ok(HttpIn::ReadFault) => Stage::Over(ConnectionEnd::ReadFault),
+            Err(_) => Stage::Owing(Owed::NoMemory),
+        }
+    }
+
+    // Writes what is owed.
+    fn write<L: Link>(&mut self, link: &mut L, owed: &Owed) -> Stage
+        ensures held { (sessions : Sessions) → IsServedBy sessions result }
+        ensures moves { (hosts : List HostName) → (sessions : Sessions) → (trail : List Traced) → Moves hosts
+            (outside self.old.reader (L.left link.old) (L.given link.old) trail (L.faults link.old))
+            (outside self.new.reader (L.left link.new) (L.given link.new) trail (L.faults link.new))
+            sessions sessions (Stage.Owing owed.now) result }
+        ensures faults { L.faults link.old ≤ L.faults link.new }
+    {
+        let closing = owed.closes();
+        match self
+            .writer
+            .write_response(link, owed.status(), owed.text(), closing)
+        {
+            Ok(()) => stage_behind(owed),
+            Err(WriteFault) => Stage::Over(ConnectionEnd::WriteFault),
+        }
+    }
+}
+
+// Where the connection stands when what it owed was given.
+fn stage_behind(owed: &Owed) -> Stage
+    ensures { result ≡ stage_behind owed.now }
+{
+    if owed.closes() {
+        return Stage::Over(owed.end());
+    }
+    Stage::Reading
+}
+
+// A request was read.
+fn asked_stage(alloc: Global, body: Text, closing: bool) -> Stage
+    ensures { IsAskedOr body closing result }
+{
+    match SharedText::new(alloc, body) {
+        Ok(body) => Stage::Asked { body, closing },
+        Err(_) => Stage::Owing(Owed::NoMemory),
+    }
+}
+
+// What came is no request that is served: the connection ends after that is said.
+fn refused(trail: &mut Trail, refusal: HttpRefusal) -> Stage
+    ensures { IsRefusedOr trail.old.lines.items trail.new.lines.items refusal result }
+{
+    if trail.reserve().is_err() {
+        return Stage::Owing(Owed::NoMemory);
+    }
+    trail.push(TrailLine::Http(refusal), Evidence::Request);
+    Stage::Owing(Owed::Refusal(refusal))
+}
+
+// Makes the call that a body asks for.
+fn ask<R: Wait, C: Clock, B: Bell, M: Names>(
+    rt: &R,
+    site: &Site<'_, C>,
+    worker: &mut Worker<B, M>,
+    body: SharedText,
+    closing: bool,
+) -> Stage
+    requires pass { IsPassOf site.now.directory.now worker.old.purse.directory }
+    ensures pass { IsPassOf site.now.directory.now worker.new.purse.directory }
+    ensures held { IsServedBy worker.new.purse.sessions result }
+    ensures moves { (stream given : Option (List ℕ)) → (faults : ℕ) → Moves site.now.hosts.now
+        (record { stream = stream; given = given; trail = worker.old.trail.lines.items; faults = faults })
+        (record { stream = stream; given = given; trail = worker.new.trail.lines.items; faults = faults })
+        worker.old.purse.sessions worker.new.purse.sessions (Stage.Asked body closing) result }
+    ensures silences { B.silences worker.new.bell ≡ B.silences worker.old.bell }
+{
+    match worker.answer(rt, site, body) {
+        Ok(answering) => stage_of(answering, closing, false),
+        Err(AllocError) => Stage::Owing(Owed::NoMemory),
+    }
+}
+
+// Looks for the answer of a request that waits.
+fn collected<R: Wait, B: Bell, M: Names>(
+    rt: &R,
+    worker: &mut Worker<B, M>,
+    waiting: Waiting,
+    closing: bool,
+) -> Stage
+    requires held { IsSome (held worker.old.purse.sessions waiting.session.number) }
+    ensures directory { worker.new.purse.directory ≡ worker.old.purse.directory }
+    ensures held { IsServedBy worker.new.purse.sessions result }
+    ensures moves { (hosts : List HostName) → (looked : Bool) → (stream given : Option (List ℕ)) → (faults : ℕ) → Moves hosts
+        (record { stream = stream; given = given; trail = worker.old.trail.lines.items; faults = faults })
+        (record { stream = stream; given = given; trail = worker.new.trail.lines.items; faults = faults })
+        worker.old.purse.sessions worker.new.purse.sessions (Stage.Waiting waiting closing looked) result }
+    ensures silences { B.silences worker.new.bell ≡ B.silences worker.old.bell }
+{
+    match worker.collect(rt, waiting) {
+        Ok(answering) => stage_of(answering, closing, true),
+        Err(AllocError) => Stage::Owing(Owed::NoMemory),
+    }
+}
+
+fn stage_of(answering: Answering, closing: bool, looked: bool) -> Stage
+    ensures { result ≡ stage_after answering closing looked }
+{
+    match answering {
+        Answering::Now(text) => Stage::Owing(Owed::Answer { text, closing }),
+        Answering::Waits(waiting) => Stage::Waiting {
+            waiting,
+            closing,
+            looked,
+        },
+        Answering::Superseded => Stage::Over(ConnectionEnd::Superseded),
+    }
+}

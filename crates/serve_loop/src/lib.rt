@@ -1,0 +1,21 @@
+// A connection of a client, served from its bytes to the bytes of its answers.
+#![tactic(auto)]
+
+mod answering;
+mod arriving;
+mod asked;
+mod connection;
+mod creating;
+mod hosts;
+mod owed;
+mod refusing;
+mod serve;
+mod telling;
+mod trail;
+mod worker;
+
+pub use connection::{Connection, ConnectionEnd, Wants};
+pub use hosts::can_serve_all;
+pub use serve::serve_connection;
+pub use trail::{Evidence, Traced, Trail, TrailLine};
+pub use worker::{Site, Worker};

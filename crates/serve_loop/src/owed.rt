@@ -1,0 +1,60 @@
+// What is to be written to a link.
+ghost use Rattle.std.specs.Prelude.{◌≡◌};
+ghost use Rattle.serve_loop.specs.Connections.{closes, end_after, status_owed, text_owed};
+
+use crate::connection::ConnectionEnd;
+use bosh_http::HttpRefusal;
+use bosh_types::SharedText;
+use http::StatusCode;
+
+/// What a connection has to write.
+#[derive(Drop)]
+pub(crate) enum Owed {
+    /// The answer of a request, with its line in the trail.
+    Answer { text: SharedText, closing: bool },
+    /// What came is no request that is served.
+    Refusal(HttpRefusal),
+    /// There was no memory for the last request.
+    NoMemory,
+}
+
+impl Owed {
+    pub(crate) fn status(&self) -> StatusCode
+        ensures { result ≡ status_owed self.now }
+    {
+        match self {
+            Owed::Answer { .. } => StatusCode::OK,
+            Owed::Refusal(refusal) => refusal.status(),
+            Owed::NoMemory => StatusCode::SERVICE_UNAVAILABLE,
+        }
+    }
+
+    pub(crate) fn text(&self) -> &[u8]
+        ensures { result.now ≡ text_owed self.now }
+    {
+        match self {
+            Owed::Answer { text, .. } => text.as_slice(),
+            Owed::Refusal(_) | Owed::NoMemory => b"",
+        }
+    }
+
+    /// Whether the connection ends behind it.
+    pub(crate) fn closes(&self) -> bool
+        ensures { result ≡ closes self.now }
+    {
+        match self {
+            Owed::Answer { closing, .. } => *closing,
+            Owed::Refusal(_) | Owed::NoMemory => true,
+        }
+    }
+
+    /// How the connection ends if it does.
+    pub(crate) fn end(&self) -> ConnectionEnd
+        ensures { result ≡ end_after self.now }
+    {
+        match self {
+            Owed::Answer { .. } | Owed::Refusal(_) => ConnectionEnd::Ended,
+            Owed::NoMemory => ConnectionEnd::Memory,
+        }
+    }
+}

@@ -1,0 +1,72 @@
+// What a trail says of requests that have their answer.
+ghost use Rattle.std.specs.Prelude.{◌≡◌, IfOk, OnErr};
+ghost use Rattle.serve_loop.specs.Answering.{Adds, ShowsSession, last_entry};
+ghost use Rattle.serve_loop.specs.Tracing.{HasRoom};
+ghost use Rattle.serve_loop.specs.Trail.{refusal_text};
+
+use crate::answering::Answering;
+use crate::refusing::refusal;
+use crate::trail::{Evidence, Trail, TrailLine};
+use bosh_types::{Condition, SharedText};
+use session_table::SessionHandle;
+use std::alloc::{AllocError, Global};
+use std::snapshot::Snapshot;
+
+impl Trail {
+    /// The request is refused with this condition, which this evidence tells. The only error is want of memory.
+    pub(crate) fn refuse(
+        &mut self,
+        alloc: Global,
+        condition: Condition,
+        evidence: Evidence,
+    ) -> Result<Answering, AllocError>
+        requires { HasRoom self.old }
+        ensures text { IfOk result (λ answering. answering ≡ Answering.Now (refusal_text condition)) }
+        ensures line { IfOk result (λ _. Adds self.old.lines.items self.new.lines.items (TrailLine.NoSession condition) (λ by. by ≡ evidence)) }
+        ensures err { OnErr result (self.new.lines.items ≡ self.old.lines.items) }
+    {
+        let text = refusal(alloc, condition)?;
+        self.push(TrailLine::NoSession(condition), evidence);
+        Ok(Answering::Now(text))
+    }
+
+    /// No session of this name is live, which this evidence tells. The only error is want of memory.
+    pub(crate) fn unknown(
+        &mut self,
+        alloc: Global,
+        sid: SharedText,
+        evidence: Evidence,
+    ) -> Result<Answering, AllocError>
+        requires { HasRoom self.old }
+        ensures text { IfOk result (λ answering. answering ≡ Answering.Now (refusal_text Condition.ItemNotFound)) }
+        ensures line { IfOk result (λ _. Adds self.old.lines.items self.new.lines.items (TrailLine.Unknown sid) (λ by. by ≡ evidence)) }
+        ensures err { OnErr result (self.new.lines.items ≡ self.old.lines.items) }
+    {
+        let text = refusal(alloc, Condition::ItemNotFound)?;
+        self.push(TrailLine::Unknown { sid }, evidence);
+        Ok(Answering::Now(text))
+    }
+
+    /// The last entry that the session's pass has seen answers the request. It takes no memory.
+    pub(crate) fn enter(&mut self, sid: SharedText, session: &SessionHandle)
+        requires { HasRoom self.old }
+        ensures { Adds self.old.lines.items self.new.lines.items (last_entry sid session.now) (ShowsSession session.now) }
+    {
+        let caller = session.pass.number();
+        let place = session.pass.length().saturating_sub(1);
+        let evidence = Evidence::Session(Snapshot::of(session));
+        self.push(TrailLine::Entry { sid, caller, place }, evidence);
+    }
+
+    /// The request created the session. The only error is want of memory.
+    pub(crate) fn open(&mut self, session: &SessionHandle) -> Result<(), AllocError>
+        requires { HasRoom self.old }
+        ensures line { IfOk result (λ _. Adds self.old.lines.items self.new.lines.items (TrailLine.Opened session.now.sid) (ShowsSession session.now)) }
+        ensures err { OnErr result (self.new.lines.items ≡ self.old.lines.items) }
+    {
+        let sid = session.sid.again()?;
+        let evidence = Evidence::Session(Snapshot::of(session));
+        self.push(TrailLine::Opened { sid }, evidence);
+        Ok(())
+    }
+}

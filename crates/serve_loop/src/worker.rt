@@ -1,0 +1,56 @@
+// A worker, and what all workers of a server share.
+ghost use Rattle.std.specs.Prelude.{◌≡◌, false, IfNone, IfOk, IfSome, IsTrue};
+ghost use Rattle.std.specs.List.{list_all};
+ghost use Rattle.serve_loop.specs.Sites.{can_serve};
+
+use crate::hosts::can_serve_all;
+use crate::trail::Trail;
+use bosh_ports::Bell;
+use bosh_types::HostNames;
+use parked_gate::Gate;
+use server_ports::{Clock, Names};
+use session_table::{Directory, Purse};
+use std::alloc::{AllocError, Global};
+
+/// What all workers share: the directory at its gate, the hosts, and the time.
+#[derive(Drop)]
+pub struct Site<'s, C: Clock> {
+    pub alloc: Global,
+    pub directory: &'s Gate<Directory>,
+    pub hosts: &'s HostNames,
+    pub clock: &'s C,
+    // A session can be opened at each of the hosts.
+    pub ghost serves: { IsTrue (list_all can_serve hosts.now) },
+}
+
+impl<'s, C: Clock> Site<'s, C> {
+    /// None exactly where there is a host at which no session can be opened. The only error is want of memory.
+    pub fn new(
+        alloc: Global,
+        directory: &'s Gate<Directory>,
+        hosts: &'s HostNames,
+        clock: &'s C,
+    ) -> Result<Option<Site<'s, C>>, AllocError>
+        ensures some { IfOk result (λ site. IfSome site (λ site. (site.directory.now ≡ directory.now) × (site.hosts.now ≡ hosts.now) × (site.clock.now ≡ clock.now))) }
+        ensures none { IfOk result (λ site. IfNone site (list_all can_serve hosts.now ≡ false)) }
+    {
+        if !can_serve_all(alloc, hosts)? {
+            return Ok(None);
+        }
+        Ok(Some(Site {
+            alloc,
+            directory,
+            hosts,
+            clock,
+        }))
+    }
+}
+
+/// One worker: what it keeps of the directory, its end of the bell, its maker of names, and the trail of what it served.
+#[derive(Drop)]
+pub struct Worker<B: Bell, M: Names> {
+    pub purse: Purse,
+    pub bell: B,
+    pub names: M,
+    pub trail: Trail,
+}
