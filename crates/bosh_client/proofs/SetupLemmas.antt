@@ -1,15 +1,14 @@
 -- What is known of the numbers of a setup.
 use Rattle.std.proofs.Common.{◌≡◌, ℕ, ◌≤◌, Bool, true, false, ◌&&◌, List, length, refl, arith}
 use Rattle.std.specs.Prelude.{Option, None, Some, chars, is_some, not, ◌==◌, nat_le, if◌then◌else◌}
-use Rattle.std.specs.List.{list_all}
-use Rattle.std.specs.Str.{is_utf8}
 use Rattle.std.proofs.lemmas.Bool.{leb-true}
 use Rattle.std.proofs.lemmas.Bool.Decides.{nat_tests}
-use Rattle.std.proofs.lemmas.Str.{IsUtf8-from_is_utf8, encodes-chars}
 use Rattle.body_cutter.specs.Chars.{is_allowed}
 use Rattle.body_cutter.specs.Utf8.{IsUtf8Of}
 use Rattle.bosh_client.specs.declared.setup.ClientSetup.{ClientSetup}
-use Rattle.bosh_client.specs.Setup.{is_allowed_text, is_key_count, is_setup}
+use Rattle.session_attrs.specs.Serving.{is_allowed_text}
+use Rattle.session_attrs.proofs.ServingLemmas.{allowed_text}
+use Rattle.bosh_client.specs.Setup.{is_key_count, is_setup}
 
 and_true : (a b : Bool) → (a && b) ≡ true → (a ≡ true) × (b ≡ true)
 and_true true b both = (refl, both)
@@ -36,13 +35,6 @@ pub record SetupParts (setup : ClientSetup) : Type 0 where
   pub long : length setup.to ≤ 1023
   pub to : IsUtf8Of is_allowed setup.to
 
-allowed_text : (bytes : List ℕ) → is_allowed_text bytes ≡ true → IsUtf8Of is_allowed bytes
-allowed_text bytes is = by (is_utf8 bytes) refl is
-  where
-    by : (b : Bool) → is_utf8 bytes ≡ b → (if b then list_all is_allowed (chars bytes) else false) ≡ true → IsUtf8Of is_allowed bytes
-    by false utf8 none = absurd (cc)
-    by true utf8 all = record { characters = chars bytes; pass = all; spell = encodes-chars bytes (IsUtf8-from_is_utf8 bytes utf8) }
-
 pub setup_parts : (setup : ClientSetup) → is_setup setup ≡ true → SetupParts setup
 unfolding is_setup
 setup_parts setup is =
@@ -54,7 +46,7 @@ setup_parts setup is =
       wait = leb-true setup.wait 120 held.0;
       hold = leb-true setup.hold 4 held.1;
       long = leb-true (length setup.to) 1023 sized.1;
-      to = allowed_text setup.to all.1;
+      to = (allowed_text setup.to all.1).1;
     }
 
 pub not_some : {X : Type 0} (o : Option X) → not (is_some o) ≡ true → is_some o ≡ false

@@ -1,10 +1,8 @@
-ghost use Rattle.std.specs.Prelude.{◌≡◌, chars};
-ghost use Rattle.std.specs.List.{list_all};
-ghost use Rattle.body_cutter.specs.Chars.{is_allowed};
-ghost use Rattle.bosh_client.specs.Setup.{is_allowed_text, is_setup, polls};
+ghost use Rattle.std.specs.Prelude.{◌≡◌};
+ghost use Rattle.bosh_client.specs.Setup.{is_setup, polls};
 
-use body_cutter::is_allowed;
 use bosh_types::{Rid, Text};
+use session_attrs::is_allowed_text;
 
 /// What a client begins with.
 #[derive(Debug, Drop)]
@@ -50,20 +48,4 @@ impl ClientSetup {
     {
         self.wait == 0 || self.hold == 0
     }
-}
-
-// Whether the bytes are UTF-8 of allowed characters.
-fn is_allowed_text(bytes: &[u8]) -> bool
-    ensures { result ≡ is_allowed_text bytes.now }
-{
-    match std::str::from_utf8(bytes) {
-        Ok(text) => is_all_allowed(text),
-        Err(_) => false,
-    }
-}
-
-fn is_all_allowed(text: &str) -> bool
-    ensures { result ≡ list_all is_allowed (chars text.now) }
-{
-    text.chars().all(|c| is_allowed(u32::from(c)))
 }

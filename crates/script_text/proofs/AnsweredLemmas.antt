@@ -33,7 +33,7 @@ use Rattle.script_text.specs.declared.report.ReportLine.{ReportLine}
 use Rattle.script_text.specs.declared.report.ReportLine.TheVariants.{In, Out, Lost, Gone, Refused, Over, Done as SaysDone, Bad as SaysBad}
 use Rattle.script_text.specs.Answered.{Posting, Stage, Asks, IsAccounted, AreAccounted, latest_on, postings_of, postings_in, stage_of, stages_on, stages_by, lines_told}
 use Rattle.script_text.specs.Headline.{manager_of, opened_by, sessions_of}
-use Rattle.script_text.specs.Hosts.{is_host}
+use Rattle.session_attrs.specs.Serving.{can_serve}
 use Rattle.script_text.specs.Lines.{lines_of}
 use Rattle.script_text.specs.Live.{PlainLive, not_found}
 use Rattle.script_text.specs.Manager.{PlainManager, Change, new_manager, is_waiting, closed, comes, number_of, at_host, admitted_to, request_in, comes_to, posted_by, posted_as, posted, passed, opened_turn, opening_by, opened_live, with_opened}
@@ -60,7 +60,7 @@ module _ (stages : List Stage) (posted_so : List Posting) (report : List ReportL
   refusal_accounts conn condition = only_accounts stages posted_so report over m holds accounts (Out conn (answer_text (terminal (Some condition)))) (inl (condition, refl))
 
   module _ (conn : ℕ) (body : List ℕ) (request : Request) (is : request_in body ≡ Some request) (asks : Asks posted_so conn request) where
-    session_accounts : (creation : Creation) (host : HostName) → request.kind ≡ kinds.Creation creation → IsTrue (is_host host)
+    session_accounts : (creation : Creation) (host : HostName) → request.kind ≡ kinds.Creation creation → IsTrue (can_serve host)
         → nat_lt (length m.live) most_sessions && nat_lt m.opened most_openings ≡ true
         → Accounted (with_opened m (m.opened + 1) (opened_turn (m.opened + 1) conn (opening_by host (m.opened + 1) body request creation m.moment)))
     session_accounts creation host kind good room =
@@ -77,7 +77,7 @@ module _ (stages : List Stage) (posted_so : List Posting) (report : List ReportL
         → Accounted (at_host m conn body request creation o)
     host_accounts creation kind place None at = refusal_accounts conn HostUnknown
     host_accounts creation kind place (Some host) at = split Accounted (nat_lt (length m.live) most_sessions && nat_lt m.opened most_openings) _ _
-        (session_accounts creation host kind (all_at (λ host. IsTrue (is_host host)) m.hosts place host at holds.hosts))
+        (session_accounts creation host kind (all_at (λ host. IsTrue (can_serve host)) m.hosts place host at holds.hosts))
         (λ full. refusal_accounts conn UndefinedCondition)
 
     admitted_accounts : (creation : Creation) → request.kind ≡ kinds.Creation creation → (to : Admitted) → Accounted (admitted_to m conn body request creation to)

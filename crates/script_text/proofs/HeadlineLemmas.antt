@@ -22,7 +22,7 @@ use Rattle.script_text.specs.declared.report.Refusal.TheVariants.{BackOver, Shut
 use Rattle.script_text.specs.declared.report.ReportLine.{ReportLine}
 use Rattle.script_text.specs.declared.report.ReportLine.TheVariants.{Refused, Done as SaysDone, Bad as SaysBad}
 use Rattle.script_text.specs.Headline.{manager_of, live_at_end, is_opened, TellsOf, KeepsItsWord}
-use Rattle.script_text.specs.Hosts.{is_host}
+use Rattle.session_attrs.specs.Serving.{can_serve}
 use Rattle.script_text.specs.Lines.{lines_of}
 use Rattle.script_text.specs.Live.{PlainLive, state}
 use Rattle.script_text.specs.Manager.{PlainManager, Change, new_manager, is_waiting, number_of}
@@ -58,10 +58,10 @@ module _ (report : List ReportLine) (over : List PlainLive) (m : PlainManager) (
   pub begun_holds : Holds report over (begun m)
   begun_holds = record { tells = holds.tells; hosts = holds.hosts }
 
-  host_holds : (name : List ℕ) (greeting : List (List ℕ)) → IsTrue (is_host (record { name = name; greeting = greeting })) → Holds report over (with_host m name greeting)
+  host_holds : (name : List ℕ) (greeting : List (List ℕ)) → IsTrue (can_serve (record { name = name; greeting = greeting })) → Holds report over (with_host m name greeting)
   host_holds name greeting good = record {
     tells = holds.tells;
-    hosts = All-push (λ host. IsTrue (is_host host)) m.hosts (record { name = name; greeting = greeting }) holds.hosts good;
+    hosts = All-push (λ host. IsTrue (can_serve host)) m.hosts (record { name = name; greeting = greeting }) holds.hosts good;
   }
 
   server_holds : (n : ℕ) (event : Event) → IsEvent event → (refusal : Refusal) (number : Option ℕ) → ((k : ℕ) → number ≡ Some k → is_opened m.opened k ≡ true)
@@ -120,7 +120,7 @@ module _ (report : List ReportLine) (over : List PlainLive) (m : PlainManager) (
 
 module _ (report : List ReportLine) (over : List PlainLive) where
   pub alone_holds : Holds report over new_manager → Holds report over host_alone
-  alone_holds holds = record { tells = holds.tells; hosts = All-cons (λ host. IsTrue (is_host host)) _ [] alone_is_host (All-nil (λ host. IsTrue (is_host host))) }
+  alone_holds holds = record { tells = holds.tells; hosts = All-cons (λ host. IsTrue (can_serve host)) _ [] alone_is_host (All-nil (λ host. IsTrue (can_serve host))) }
 
   first_holds : Holds report over new_manager → (n : ℕ) (line : ScriptLine) → IsSaid line → StepHolds report over new_manager (first_step n line)
   first_holds holds n (Open rid) well = told_holds report over host_alone (alone_holds holds) new_manager _ (posted_holds report over host_alone (alone_holds holds) 0 _)
@@ -186,7 +186,7 @@ new_holds = record {
     ended = λ k d within. absurd (omega (arith, within));
     going = λ k d within. absurd (omega (arith, within));
   };
-  hosts = All-nil (λ host. IsTrue (is_host host));
+  hosts = All-nil (λ host. IsTrue (can_serve host));
 }
 
 pub keeps_its_word : ((journal : Journal) → IsJournal journal → KeptLaws journal) → (script : List ℕ) → KeepsItsWord (drive_of script)

@@ -30,7 +30,7 @@ use Rattle.script_text.specs.declared.event.Event.TheVariants.{Arrives}
 use Rattle.script_text.specs.declared.report.ReportLine.{ReportLine}
 use Rattle.script_text.specs.declared.report.ReportLine.TheVariants.{Out}
 use Rattle.script_text.specs.Headline.{is_numbered, NamesOpened, tells_of}
-use Rattle.script_text.specs.Hosts.{is_host}
+use Rattle.session_attrs.specs.Serving.{can_serve}
 use Rattle.script_text.specs.Live.{PlainLive, Turn, turn_at, if_live, if_over, not_found}
 use Rattle.script_text.specs.Manager.{PlainManager, Change, only, closed, with_closed, number_of, place_of, turned_at, comes_at, comes, passed, opening_by, opened_live, opened_turn, with_opened, at_host, admitted_to, unrefused, request_from, request_in, comes_to, posted_by, posted_as, posted}
 use Rattle.script_text.specs.Stands.{IsEvent}
@@ -42,7 +42,7 @@ use Rattle.script_text.proofs.TurnLemmas.{comes_turn}
 -- the report so far tells of the sessions of a manager and of those that ended, and its hosts may have sessions
 pub record Holds (report : List ReportLine) (over : List PlainLive) (m : PlainManager) : Type 0 where
   pub tells : TellsAll report over m.live m.opened
-  pub hosts : All (λ host. IsTrue (is_host host)) m.hosts
+  pub hosts : All (λ host. IsTrue (can_serve host)) m.hosts
 
 abbrev pub HoldsAfter : List ReportLine → List PlainLive → Change → Type 0
 HoldsAfter report over change = Holds (report ++ change.lines) (over ++ change.over) change.after
@@ -140,7 +140,7 @@ module _ (report : List ReportLine) (over : List PlainLive) (m : PlainManager) (
   out_holds conn body = only_holds (Out conn body) (λ k. refl) tt
 
   module _ (conn : ℕ) (body : List ℕ) (request : Request) (read : IsReadFrom body request) where
-    opened_holds : (creation : Creation) (host : HostName) → request.kind ≡ kinds.Creation creation → IsTrue (is_host host) → nat_lt (length m.live) most_sessions && nat_lt m.opened most_openings ≡ true
+    opened_holds : (creation : Creation) (host : HostName) → request.kind ≡ kinds.Creation creation → IsTrue (can_serve host) → nat_lt (length m.live) most_sessions && nat_lt m.opened most_openings ≡ true
         → HoldsAfter report over (with_opened m (m.opened + 1) (opened_turn (m.opened + 1) conn (opening_by host (m.opened + 1) body request creation m.moment)))
     opened_holds creation host kind good room =
         let o : Opening = opening_by host (m.opened + 1) body request creation m.moment in
@@ -156,7 +156,7 @@ module _ (report : List ReportLine) (over : List PlainLive) (m : PlainManager) (
         → HoldsAfter report over (at_host m conn body request creation o)
     at_host_holds creation kind place None is = out_holds conn _
     at_host_holds creation kind place (Some host) is = split (HoldsAfter report over) (nat_lt (length m.live) most_sessions && nat_lt m.opened most_openings) _ _
-        (opened_holds creation host kind (all_at (λ host. IsTrue (is_host host)) m.hosts place host is holds.hosts))
+        (opened_holds creation host kind (all_at (λ host. IsTrue (can_serve host)) m.hosts place host is holds.hosts))
         (λ full. out_holds conn _)
 
     admitted_holds : (creation : Creation) → request.kind ≡ kinds.Creation creation → (to : Admitted) → HoldsAfter report over (admitted_to m conn body request creation to)

@@ -6,10 +6,9 @@ use Rattle.session_attrs.specs.Attributes.{is_named, value_of}
 use Rattle.session_attrs.specs.Forms.{is_httpbind, number_of, pause_of, version_of, wish_of, ack_of, terminate_of, flag_of}
 use Rattle.session_attrs.specs.Reading.{rid_in, creation_in, asked_in, request_with, request_of}
 use Rattle.session_core.proofs.RowTools.{bodies_compute, keys_compute}
-use Rattle.script_text.specs.Hosts.{may_greet}
+use Rattle.session_attrs.specs.Serving.{is_host_name, may_greet}
 use Rattle.script_text.specs.Line.{moment_of, closing_of, later_line, line_of}
 use Rattle.script_text.specs.Manager.{sid_of}
-use Rattle.script_text.specs.Names.{is_host_name}
 use Rattle.script_text.specs.Report.{line_text, ending_text, report_text}
 use Rattle.script_text.specs.Script.{creation_text, request_head, drive_of}
 use Rattle.script_text.specs.Stanza.{row_of}

@@ -11,7 +11,8 @@ use Rattle.script_text.specs.declared.line.BadKind.TheVariants.{Grammar}
 use Rattle.script_text.specs.declared.line.ScriptLine.TheVariants.{Open, Short, Host, At, Post, Close, Back, Shut, End}
 use Rattle.script_text.specs.declared.line.LineRead.{LineRead}
 use Rattle.script_text.specs.declared.line.LineRead.TheVariants.{Line, BadLine}
-use Rattle.script_text.specs.Names.{is_host_name, is_sid}
+use Rattle.session_attrs.specs.Serving.{is_host_name}
+use Rattle.script_text.specs.Names.{is_sid}
 use Rattle.script_text.specs.Stanza.{row_of}
 
 -- the first word: what stands before the first space

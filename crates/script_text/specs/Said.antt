@@ -5,13 +5,13 @@ use Rattle.script_text.specs.declared.line.LineRead.{LineRead}
 use Rattle.script_text.specs.declared.line.LineRead.TheVariants.{Line, BadLine}
 use Rattle.script_text.specs.declared.line.ScriptLine.{ScriptLine}
 use Rattle.script_text.specs.declared.line.ScriptLine.TheVariants.{Open, Short, Host, At, Post, Close, Back, Shut, End}
-use Rattle.script_text.specs.Hosts.{is_host}
+use Rattle.session_attrs.specs.Serving.{can_serve}
 
 -- sessions may be opened for its host, and what the server gives is a stanza
 abbrev pub IsSaid : ScriptLine → Type 0
 IsSaid (Open rid) = ⊤
 IsSaid (Short rid stanza) = ⊤
-IsSaid (Host name greeting) = IsTrue (is_host (record { name = name; greeting = greeting }))
+IsSaid (Host name greeting) = IsTrue (can_serve (record { name = name; greeting = greeting }))
 IsSaid (At moment) = ⊤
 IsSaid (Post conn body) = ⊤
 IsSaid (Close conn) = ⊤

@@ -5,7 +5,7 @@ use Rattle.body_cutter.specs.declared.parts.Cut.{Cut}
 use Rattle.body_cutter.specs.declared.parts.Span.{Span}
 use Rattle.body_cutter.specs.Cutting.{body_cut_of}
 use Rattle.body_cutter.specs.Pieces.{bytes_at}
-use Rattle.script_text.specs.Hosts.{may_greet}
+use Rattle.session_attrs.specs.Serving.{may_greet}
 
 -- the parts of a body, where the text is one
 abbrev pub parts_of : List ℕ → Option Cut

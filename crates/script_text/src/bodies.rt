@@ -1,6 +1,6 @@
 // The lines of a script that tells of bodies, and of all else that comes to a manager.
 ghost use Rattle.std.specs.Prelude.{IfOk, IsTrue};
-ghost use Rattle.script_text.specs.Hosts.{is_host};
+ghost use Rattle.session_attrs.specs.Serving.{can_serve};
 ghost use Rattle.script_text.specs.Manager.{Change, PlainManager};
 ghost use Rattle.script_text.specs.Said.{IsSaid};
 ghost use Rattle.script_text.specs.Script.{at_step, body_step, change_step, close_step, host_step, post_step, server_step};
@@ -54,7 +54,7 @@ fn add_host(
     name: Text,
     greeting: Stanzas,
 ) -> Result<Effect, AllocError>
-    requires { IsTrue (is_host (record { name = name; greeting = greeting })) }
+    requires { IsTrue (can_serve (record { name = name; greeting = greeting })) }
     ensures { IfOk result (λ effect. (m : PlainManager) → IsManager manager m → Does effect (host_step m n name greeting)) }
 {
     if manager.begun || !manager.hosts.takes(name.as_slice()) {

@@ -2,7 +2,8 @@
 ghost use Rattle.std.specs.Prelude.{◌≡◌, ◌<◌, ◌++◌, ◌∷◌, [], length, slice_get, IfOk, IsTrue, Some, nat_lt, not, ◌&&◌};
 ghost use Rattle.std.specs.List.{list_any};
 ghost use Rattle.std.specs.Str.{bytes_eq};
-ghost use Rattle.script_text.specs.Hosts.{is_host, takes_name};
+ghost use Rattle.session_attrs.specs.Serving.{can_serve};
+ghost use Rattle.script_text.specs.Hosts.{takes_name};
 
 use bosh_types::{HostName, HostNames, Stanzas, Text};
 use std::alloc::{AllocError, Global};
@@ -24,11 +25,11 @@ impl Model for Hosts {
 
     ghost use Rattle.std.specs.Prelude.{IsTrue};
     ghost use Rattle.std.specs.List.{list_all};
-    ghost use Rattle.script_text.specs.Hosts.{is_host};
+    ghost use Rattle.session_attrs.specs.Serving.{can_serve};
 
     ghost view = { λ h. h.names };
 
-    ghost invariant = { λ h. IsTrue (list_all is_host h.names) };
+    ghost invariant = { λ h. IsTrue (list_all can_serve h.names) };
 }
 
 impl Hosts {
@@ -56,7 +57,7 @@ impl Hosts {
     pub(crate) fn at(&self, place: usize) -> &HostName
         requires { place < length self.now }
         ensures host { slice_get self.now place ≡ Some result.now }
-        ensures good { IsTrue (is_host result.now) }
+        ensures good { IsTrue (can_serve result.now) }
     {
         &self.names.as_slice()[place]
     }
@@ -82,7 +83,7 @@ impl Hosts {
 
     // These hosts and one more.
     pub(crate) fn with(self, name: Text, greeting: Stanzas) -> Result<Hosts, AllocError>
-        requires { IsTrue (is_host (record { name = name; greeting = greeting })) }
+        requires { IsTrue (can_serve (record { name = name; greeting = greeting })) }
         ensures { IfOk result (λ hosts. hosts ≡ self ++ record { name = name; greeting = greeting } ∷ []) }
     {
         let mut names = self.names.into_vec();

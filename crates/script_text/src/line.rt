@@ -1,18 +1,14 @@
 // What one line of a script says.
-ghost use Rattle.std.specs.Prelude.{◌≡◌, ◌==◌, IfOk, position, chars};
-ghost use Rattle.std.specs.List.{list_all};
+ghost use Rattle.std.specs.Prelude.{◌≡◌, ◌==◌, IfOk, position};
 ghost use Rattle.std.specs.Option.{option_copied};
-ghost use Rattle.body_cutter.specs.Chars.{is_allowed};
 ghost use Rattle.bosh_types.specs.Rid.{rid_of};
-ghost use Rattle.script_text.specs.Names.{is_allowed_text, is_host_name, is_sid};
+ghost use Rattle.script_text.specs.Names.{is_sid};
 ghost use Rattle.script_text.specs.Line.{line_of, open_of, short_of, host_of, greeting_of, post_of, connection_of, word_of, rest_of, later_line, moment_of, at_of, close_of, back_of, closing_of, shut_of};
 
-use crate::stanza::{is_stanza, row_of};
-use body_cutter::is_allowed;
+use crate::stanza::row_of;
 use bosh_types::{Closing, Condition, Moment, Rid, Stanzas, Text};
+use session_attrs::{is_host_name, is_stanza};
 use std::alloc::{AllocError, Global};
-
-const LONGEST_NAME: usize = 1023;
 
 const LONGEST_SID: usize = 64;
 
@@ -167,33 +163,6 @@ fn read_greeting(alloc: Global, text: Option<&[u8]>) -> Result<Option<Stanzas>, 
         Some(text) => row_of(alloc, text),
         None => Ok(Some(Stanzas::from_vec(Vec::new(alloc)))),
     }
-}
-
-// Whether a host may have this name.
-#[tactic(auto, unfolding(crate::specs::Names::is_host_name))]
-fn is_host_name(name: &[u8]) -> bool
-    ensures { result ≡ is_host_name name.now }
-{
-    if name.is_empty() || name.len() > LONGEST_NAME {
-        return false;
-    }
-    is_allowed_text(name)
-}
-
-// Whether the bytes are UTF-8 of the characters that XML 1.0, section 2.2, allows.
-fn is_allowed_text(bytes: &[u8]) -> bool
-    ensures { result ≡ is_allowed_text bytes.now }
-{
-    match std::str::from_utf8(bytes) {
-        Ok(text) => is_all_allowed(text),
-        Err(_) => false,
-    }
-}
-
-fn is_all_allowed(text: &str) -> bool
-    ensures { result ≡ list_all is_allowed (chars text.now) }
-{
-    text.chars().all(|c| is_allowed(u32::from(c)))
 }
 
 // The rest of a line `post CONNECTION BODY`.

@@ -10,7 +10,7 @@ ghost use Rattle.script_text.specs.declared.report.ReportLine.{ReportLine};
 ghost use Rattle.script_text.specs.declared.event.Event.TheVariants.{Arrives};
 ghost use Rattle.script_text.specs.Live.{PlainLive, if_live, not_found};
 ghost use Rattle.script_text.specs.Manager.{PlainManager, admitted_to, at_host, closed, comes, comes_at, comes_to, has_room, is_waiting, new_manager, number_of, only, opened_turn, opening_by, passed, place_of, posted, posted_by, refused, request_in, waits_on};
-ghost use Rattle.script_text.specs.Hosts.{is_host};
+ghost use Rattle.session_attrs.specs.Serving.{can_serve};
 ghost use Rattle.script_text.specs.Script.{begun, was_given, with_host};
 ghost use Rattle.script_text.specs.Stands.{AreLive, IsChange, IsEvent, IsLive, IsManager, IsTurn};
 
@@ -71,7 +71,7 @@ impl Manager {
 
     // The manager serves one more host.
     pub(crate) fn with_host(self, name: Text, greeting: Stanzas) -> Result<Manager, AllocError>
-        requires { IsTrue (is_host (record { name = name; greeting = greeting })) }
+        requires { IsTrue (can_serve (record { name = name; greeting = greeting })) }
         ensures { IfOk result (λ manager. (m : PlainManager) → IsManager self m → IsManager manager (with_host m name greeting)) }
     {
         Ok(Manager {

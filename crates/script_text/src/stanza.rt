@@ -1,27 +1,11 @@
 // Stanzas and rows of stanzas, as scripts have them.
-ghost use Rattle.std.specs.Prelude.{◌≡◌, slice_range, IfOk, length, nat_le, sum_by};
-ghost use Rattle.std.specs.List.{list_all};
-ghost use Rattle.bosh_types.specs.Limits.{longest_stanza};
-ghost use Rattle.body_cutter.specs.Cutting.{is_stanza};
-ghost use Rattle.script_text.specs.Hosts.{may_greet};
+ghost use Rattle.std.specs.Prelude.{◌≡◌, slice_range, IfOk, length};
 ghost use Rattle.script_text.specs.Stanza.{parts_of, is_row, row_of, slices_of, within_body};
 
-use body_cutter::{Cut, CutError, Span, cut, read_stanza};
-use bosh_types::limits::{LONGEST_STANZA, MOST_WAITING};
+use body_cutter::{Cut, CutError, Span, cut};
 use bosh_types::{Stanzas, Text};
+use session_attrs::may_greet;
 use std::alloc::{AllocError, Global};
-
-// Whether the text is a stanza by itself.
-#[tactic(auto, unfolding(body_cutter::specs::Cutting::is_stanza))]
-pub(crate) fn is_stanza(alloc: Global, text: &[u8]) -> Result<bool, AllocError>
-    ensures { IfOk result (λ yes. yes ≡ is_stanza text.now) }
-{
-    match read_stanza(alloc, text) {
-        Ok(()) => Ok(true),
-        Err(CutError::Refused(_)) => Ok(false),
-        Err(CutError::Memory) => Err(AllocError),
-    }
-}
 
 // The parts of a body, where the text is one.
 pub(crate) fn parts_of(alloc: Global, text: &[u8]) -> Result<Option<Cut>, AllocError>
@@ -51,43 +35,6 @@ pub(crate) fn row_of(alloc: Global, text: &[u8]) -> Result<Option<Stanzas>, Allo
         return Ok(None);
     }
     Ok(Some(stanzas))
-}
-
-// Whether one answer may take these: at most 1024 stanzas of at most 1,000,000 bytes in all.
-#[tactic(auto, unfolding(crate::specs::Hosts::may_greet))]
-fn may_greet(alloc: Global, stanzas: &[Text]) -> Result<bool, AllocError>
-    ensures { IfOk result (λ may. may ≡ may_greet stanzas.now) }
-{
-    if stanzas.len() > MOST_WAITING || !fits(stanzas) {
-        return Ok(false);
-    }
-    all_stanzas(alloc, stanzas)
-}
-
-// Whether the texts have at most 1,000,000 bytes in all.
-fn fits(texts: &[Text]) -> bool
-    ensures { result ≡ nat_le (sum_by (λ text. length text) texts.now) longest_stanza }
-{
-    let mut room = LONGEST_STANZA;
-    for text in texts {
-        if text.len() > room {
-            return false;
-        }
-        room -= text.len();
-    }
-    true
-}
-
-// Whether each text is a stanza by itself.
-fn all_stanzas(alloc: Global, texts: &[Text]) -> Result<bool, AllocError>
-    ensures { IfOk result (λ all. all ≡ list_all is_stanza texts.now) }
-{
-    for text in texts {
-        if !is_stanza(alloc, text.as_slice())? {
-            return Ok(false);
-        }
-    }
-    Ok(true)
 }
 
 // The text as the content of a body.

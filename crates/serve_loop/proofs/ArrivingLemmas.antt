@@ -47,12 +47,27 @@ turned_as number old new P Q by turned = record {
   says = by (known turned.before.pass) (known turned.after.pass) turned.says;
 }
 
+-- and what the call of that name is replied is what the plain machine replies
+said_as : (request : Request) (body : List ℕ) (now : ℕ) (reply : Reply) (a b : Known journal.Entry)
+    → Calls (λ e. e.caller) (λ before made. RepliesTo before (calls.Arrive request body now) (Ok reply) made) a b
+    → Calls (λ e. e.caller) (λ log made. Replies log (plain.Arrive request body now) (reply_in reply) made) a b
+said_as request body now reply a b call = record {
+  before = call.before;
+  made = call.made;
+  begins = call.begins;
+  says = call.says.0;
+  seen = call.seen;
+  mine = call.mine;
+  earlier = call.earlier;
+  learnt = call.learnt;
+}
+
 pub replied_so : (number : ℕ) (old new : Sessions) (request : Request) (body : List ℕ) (now : ℕ) (reply : Reply) (arrived told : Arrived) → reply ≡ replies.Arrive arrived → arrived ≡ told
     → Turned number old new (Calls (λ e. e.caller) (λ before made. RepliesTo before (calls.Arrive request body now) (Ok reply) made))
     → Turned number old new (RepliesSo request body now told)
 replied_so number old new request body now reply arrived told is so turned =
     subst (λ (a : Arrived). Turned number old new (RepliesSo request body now a)) so
-    (subst (λ (r : Reply). Turned number old new (Calls (λ e. e.caller) (λ log made. Replies log (plain.Arrive request body now) (reply_in r) made))) is turned)
+    (subst (λ (r : Reply). Turned number old new (Calls (λ e. e.caller) (λ log made. Replies log (plain.Arrive request body now) (reply_in r) made))) is (turned_as number old new (Calls (λ e. e.caller) (λ before made. RepliesTo before (calls.Arrive request body now) (Ok reply) made)) (Calls (λ e. e.caller) (λ log made. Replies log (plain.Arrive request body now) (reply_in reply) made)) (said_as request body now reply) turned))
 
 arriving_by : (number : ℕ) (old new : Sessions) (body sid : List ℕ) (request : Request) (now : ℕ) (arrived : Arrived) → Names body sid request → Holds old number sid
     → (turned : Turned number old new (RepliesSo request body now arrived)) → Arriving body sid request now turned.before turned.after

@@ -1,6 +1,5 @@
 pub mod Answering
 pub mod Asked
 pub mod Connections
-pub mod Sites
 pub mod Tracing
 pub mod Trail

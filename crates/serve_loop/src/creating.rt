@@ -4,7 +4,7 @@ ghost use Rattle.std.specs.List.{list_all};
 ghost use Rattle.parked_gate.specs.Passes.{IsPassOf, known};
 ghost use Rattle.serve_loop.specs.Answering.{Adds, Answers, IsAsked, ShowsDirectory};
 ghost use Rattle.serve_loop.specs.Asked.{asked_of};
-ghost use Rattle.serve_loop.specs.Sites.{can_serve};
+ghost use Rattle.session_attrs.specs.Serving.{can_serve};
 ghost use Rattle.serve_loop.specs.Tracing.{HasRoom};
 ghost use Rattle.serve_loop.specs.Trail.{IsOpeningAt, refusal_text};
 ghost use Rattle.session_attrs.specs.declared.request.Creation.{Creation};

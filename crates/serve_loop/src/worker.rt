@@ -1,7 +1,7 @@
 // A worker, and what all workers of a server share.
 ghost use Rattle.std.specs.Prelude.{◌≡◌, false, IfNone, IfOk, IfSome, IsTrue};
 ghost use Rattle.std.specs.List.{list_all};
-ghost use Rattle.serve_loop.specs.Sites.{can_serve};
+ghost use Rattle.session_attrs.specs.Serving.{can_serve};
 
 use crate::hosts::can_serve_all;
 use crate::trail::Trail;

@@ -4,3 +4,4 @@ pub mod RefusalLemmas
 pub mod MeaningLemmas
 pub mod NamedValues
 pub mod WrittenNumbers
+pub mod ServingLemmas

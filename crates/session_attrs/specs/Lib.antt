@@ -8,3 +8,4 @@ pub mod Rows
 pub mod Terms
 pub mod Values
 pub mod Said
+pub mod Serving

@@ -10,6 +10,7 @@ mod reading;
 mod refusal;
 mod request;
 mod rows;
+mod serving;
 mod terms;
 
 pub use admission::{Admitted, admit};
@@ -19,6 +20,7 @@ pub use laws::{attributes_mean_one_request, reading_gives_the_meaning};
 pub use reading::read_request;
 pub use refusal::{AttrRefusal, Numbered, RequestError};
 pub use request::{Creation, Kind, Request};
+pub use serving::{can_serve, is_allowed_text, is_host_name, is_stanza, may_greet};
 pub use terms::negotiate;
 
 #[cfg(test)]

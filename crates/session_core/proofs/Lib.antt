@@ -27,4 +27,5 @@ pub mod LowestLemmas
 pub mod ServedLemmas
 pub mod CountedLemmas
 pub mod OpenedLemmas
+pub mod GreetingLemmas
 pub mod ConditionRows

@@ -6,13 +6,13 @@ use Rattle.parked_gate.specs.Histories.{Appends}
 use Rattle.session_journal.specs.declared.call.Call.{Call}
 use Rattle.session_journal.specs.declared.call.Reply.{Reply}
 use Rattle.session_journal.specs.declared.entry.Entry.{Entry}
-use Rattle.session_journal.specs.Calls.{call_in, reply_in}
+use Rattle.session_journal.specs.Calls.{IsReplyTo, call_in, reply_in}
 use Rattle.session_journal.specs.Seen.{RepliesTo}
 use Rattle.session_journal.specs.Stored.{Steps}
 
 -- a call was replied, or there was no memory
 pub step_replies : (log later : List Entry) (caller : ℕ) (call : Call) (result : Result Reply AllocError)
-    → IfOk result (λ reply. Steps log caller (call_in call) (reply_in reply) later) → OnErr result (later ≡ log)
+    → IfOk result (λ reply. Steps log caller (call_in call) (reply_in reply) later) → IfOk result (λ reply. IsReplyTo call reply) → OnErr result (later ≡ log)
     → (made : Option Entry) × Appends (λ e. e.caller) caller log made later × RepliesTo log call result made
-step_replies log later caller call (Ok reply) steps same = (steps.made, steps.appends, steps.replies)
-step_replies log later caller call (Err error) steps same = (None, same, refl)
+step_replies log later caller call (Ok reply) steps kind same = (steps.made, steps.appends, (steps.replies, kind))
+step_replies log later caller call (Err error) steps kind same = (None, same, refl)

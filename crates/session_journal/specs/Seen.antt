@@ -15,13 +15,14 @@ use Rattle.session_journal.specs.declared.asking.Found.{Found}
 use Rattle.session_journal.specs.declared.asking.Found.TheVariants as found
 use Rattle.session_journal.specs.declared.asking.Question.{Question}
 use Rattle.session_journal.specs.declared.asking.Question.TheVariants as questions
-use Rattle.session_journal.specs.Calls.{call_in, reply_in}
+use Rattle.session_journal.specs.Calls.{IsReplyTo, call_in, reply_in}
 use Rattle.session_journal.specs.Entries.{host_of}
 use Rattle.session_journal.specs.Stored.{After, Replies}
 
--- the call is replied as by the plain machine, with the entry that it makes there; or there was no memory, and none is made
+-- the call is replied as by the plain machine, by a reply of its name, with the entry that it makes there; or there was no
+-- memory, and none is made
 abbrev pub RepliesTo : List Entry → Call → Result Reply AllocError → Option Entry → Type 0
-RepliesTo log call (Ok reply) made = Replies log (call_in call) (reply_in reply) made
+RepliesTo log call (Ok reply) made = Replies log (call_in call) (reply_in reply) made × IsReplyTo call reply
 RepliesTo log call (Err error) made = made ≡ None
 
 -- the request of the ticket waits on

@@ -5,7 +5,7 @@ ghost use Rattle.session_core.specs.Journal.{Arrive, Back, BackClosed, Collect, 
 ghost use Rattle.session_core.specs.Machine.{created_parts};
 ghost use Rattle.session_core.specs.Opened.{opening_of};
 ghost use Rattle.session_core.specs.State.{waiting_counts};
-ghost use Rattle.session_journal.specs.Calls.{call_in, reply_in};
+ghost use Rattle.session_journal.specs.Calls.{IsReplyTo, call_in, reply_in};
 ghost use Rattle.session_journal.specs.declared.entry.Entered.TheVariants.{Open};
 ghost use Rattle.session_journal.specs.Entries.{host_in, host_of};
 ghost use Rattle.session_journal.specs.Stored.{After, IsJournalOf, IsLegal, Steps, tickets_out};
@@ -89,6 +89,7 @@ impl Journalled {
     pub fn step(&mut self, caller: u32, call: Call) -> Result<Reply, AllocError>
         requires { IsAllowed (call_in call) }
         ensures step { IfOk result (λ reply. Steps self.old caller (call_in call) (reply_in reply) self.new) }
+        ensures kind { IfOk result (λ reply. IsReplyTo call reply) }
         ensures err { OnErr result (self.new ≡ self.old) }
     {
         match call {

@@ -1,6 +1,6 @@
 use Rattle.std.proofs.Common.{◌≡◌, drop}
 use Rattle.std.specs.List.{list_all}
-use Rattle.serve_loop.specs.Sites.{can_serve}
+use Rattle.session_attrs.specs.Serving.{can_serve}
 use Rattle.serve_loop.proofs.hosts.all_serve.Given as goal
 
 -- at all a session can be opened exactly where one can at those that are left

@@ -4,7 +4,7 @@ use Rattle.std.specs.Prelude.{chars}
 use Rattle.std.specs.Str.{is_utf8}
 use Rattle.std.proofs.lemmas.Str.{IsUtf8-from_is_utf8, is_utf8-from_IsUtf8}
 use Rattle.body_cutter.specs.Chars.{is_allowed}
-use Rattle.script_text.proofs.line.is_allowed_text.Goals as goal
+use Rattle.session_attrs.proofs.serving.is_allowed_text.Goals as goal
 
 never : (b : Bool) → (b ≡ true → ⊥) → b ≡ false
 never true impossible = absurd (impossible refl)

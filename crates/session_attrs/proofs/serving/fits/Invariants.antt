@@ -1,6 +1,6 @@
 use Rattle.std.proofs.Common.{◌≡◌, drop, length, nat_le, sum_by}
 use Rattle.bosh_types.specs.Limits.{longest_stanza}
-use Rattle.script_text.proofs.stanza.fits.Given as goal
+use Rattle.session_attrs.proofs.serving.fits.Given as goal
 
 -- all fit exactly where those that are left fit into the room that is left
 abbrev pub invariant-loop-text : goal.invariant-loop-text
