@@ -131,7 +131,7 @@ found_was_opened p n (s ∷ os) x is = by (p s) is (λ rest. contains_later s.si
         at_head (inr other) is later =
             later (sym (ap (λ b. cond b (Some s) (lookup (is_at (nat_cmp n)) (by_number (filter p os)))) other) ∙ is)
 
-all_below : (n : ℕ) (ss : List OpenedSession) → AllBelow n ss → All (λ s. s.number < n) ss
+pub all_below : (n : ℕ) (ss : List OpenedSession) → AllBelow n ss → All (λ s. s.number < n) ss
 all_below n [] low = all_none (λ (s : OpenedSession). s.number < n)
 all_below n (s ∷ ss) low = all_cons (λ (s : OpenedSession). s.number < n) s ss low.0 (all_below n ss low.1)
 

@@ -8,3 +8,4 @@ mod OpeningLemmas
 mod ReplyLemmas
 mod PurseLemmas
 mod PassLemmas
+mod HoldingLemmas

@@ -1,20 +1,23 @@
 -- What a worker keeps of the directory.
-use Rattle.std.specs.Prelude.{◌≡◌, ◌≢◌, ◌==◌, ℕ, Bool, List, Option, Some, None, if◌then◌else◌}
+use Rattle.std.specs.Prelude.{◌≡◌, ◌≢◌, ◌==◌, ◌≤◌, ◌⊎◌, ℕ, Bool, List, [], Option, Some, None, bytes_eq, if◌then◌else◌}
 use Rattle.std.specs.BTreeMap.{BTreeMap, IsUnchanged, get}
 use Rattle.std.specs.List.{list_any}
 use Rattle.std.specs.Ordering.{nat_cmp}
+use Rattle.bosh_types.specs.Limits.{most_openings}
 use Rattle.parked_gate.specs.Passes.{Known, known}
 use Rattle.session_journal.specs.declared.entry.Entry as journal
 use Rattle.session_table.specs.declared.calls.DirectoryReply.{DirectoryReply}
 use Rattle.session_table.specs.declared.calls.DirectoryReply.TheVariants as replies
 use Rattle.session_table.specs.declared.calls.NewSession.{NewSession}
 use Rattle.session_table.specs.declared.calls.NewSession.TheVariants as news
+use Rattle.session_table.specs.declared.calls.Opened.{Opened}
 use Rattle.session_table.specs.declared.entry.Entry.{Entry}
 use Rattle.session_table.specs.declared.handle.SessionHandle.{SessionHandle}
 use Rattle.session_table.specs.declared.opening.Opening.{Opening}
 use Rattle.session_table.specs.Handles.{IsOfSame}
 use Rattle.session_table.specs.History.{live_of}
 use Rattle.session_table.specs.Replies.{IsFull, IsSpent, Opens}
+use Rattle.session_table.specs.Sids.{IsSidOf}
 
 abbrev pub Sessions : Type 0
 Sessions = BTreeMap ℕ SessionHandle
@@ -33,6 +36,21 @@ pub record Holds (sessions : Sessions) (number : ℕ) (sid : List ℕ) : Type 0 
 abbrev pub OthersStay : ℕ → Sessions → Sessions → Type 0
 OthersStay number old new = (other : ℕ) → other ≢ number → held new other ≡ held old other
 
+-- the entries that the pass of a handle made, where it is one of the session of this name
+abbrev pub own_entries : List ℕ → Option SessionHandle → List journal.Entry
+own_entries sid None = []
+own_entries sid (Some handle) = if bytes_eq handle.sid sid then (known handle.pass).mine else []
+
+-- no handle of the session of this name is held that made an entry
+abbrev pub IsNotHeld : Sessions → List ℕ → Type 0
+IsNotHeld sessions sid = (number : ℕ) → number ≤ most_openings → IsSidOf sid number → own_entries sid (held sessions number) ≡ []
+
+-- the session of this name is held under this number: by the handle that was held, or by one that made no entry yet
+pub record IsFound (old new : Sessions) (number : ℕ) (sid : List ℕ) : Type 0 where
+  pub holds : Holds new number sid
+  pub others : OthersStay number old new
+  pub own : own_entries sid (held new number) ≡ own_entries sid (held old number)
+
 -- whether a live session has this number
 abbrev pub is_live : List Entry → ℕ → Bool
 is_live log number = list_any (λ session. session.number == number) (live_of log)
@@ -47,6 +65,10 @@ OpensInto log o (news.Opened number answer) sessions made =
     (handle : SessionHandle) × (held sessions number ≡ Some handle) × Opens log o (record { session = handle; answer = answer }) made
 OpensInto log o news.TableFull sessions made = (made ≡ None) × IsFull log
 OpensInto log o news.OpeningsSpent sessions made = (made ≡ None) × IsSpent log
+
+-- a session was opened, or none
+abbrev pub OpensOrNot : List Entry → Opening → Option Entry → Type 0
+OpensOrNot log o made = (made ≡ None) ⊎ ((x : Opened) × Opens log o x made)
 
 -- what is held beside a session that was opened stays, and where none was opened all of it
 abbrev pub StaysBeside : NewSession → Sessions → Sessions → Type 0

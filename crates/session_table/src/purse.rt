@@ -9,7 +9,7 @@ ghost use Rattle.session_core.specs.Journal.{IsAllowed};
 ghost use Rattle.session_journal.specs.Calls.{call_in};
 ghost use Rattle.session_journal.specs.Seen.{Answers, RepliesTo};
 ghost use Rattle.session_table.specs.History.{live_at};
-ghost use Rattle.session_table.specs.Purses.{Holds, KeepsLive, OpensInto, OthersStay, StaysBeside, Turned, found_of, held};
+ghost use Rattle.session_table.specs.Purses.{Holds, IsFound, IsNotHeld, KeepsLive, OpensInto, OpensOrNot, OthersStay, StaysBeside, Turned, found_of, held};
 ghost use Rattle.session_table.specs.Replies.{MayOpen};
 ghost use Rattle.session_table.specs.Serving.{PollsAs, WaitsAs};
 
@@ -49,10 +49,16 @@ impl Purse {
 
     /// The opening number under which the session of this name is held.
     fn held_as(&self, sid: &[u8]) -> Option<u64>
-        ensures { IfSome result (λ number. Holds self.now.sessions number sid.now) }
+        ensures held { IfSome result (λ number. Holds self.now.sessions number sid.now) }
+        ensures not_held { IfNone result (IsNotHeld self.now.sessions sid.now) }
     {
-        let number = number_in(sid)?;
-        let session = self.sessions.get(&number)?;
+        let sessions = &self.sessions;
+        let Some(number) = number_in(sid) else {
+            return None;
+        };
+        let Some(session) = sessions.get(&number) else {
+            return None;
+        };
         if session.sid.as_slice() == sid {
             return Some(number);
         }
@@ -85,8 +91,7 @@ impl Purse {
         requires { IsPassOf directory.now self.old.directory }
         ensures pass { IsPassOf directory.now self.new.directory }
         ensures grows { Grows (known self.old.directory) (known self.new.directory) }
-        ensures found { IfOk result (λ found. IfSome found (λ number.
-            Holds self.new.sessions number sid.now × OthersStay number self.old.sessions self.new.sessions)) }
+        ensures found { IfOk result (λ found. IfSome found (λ number. IsFound self.old.sessions self.new.sessions number sid.now)) }
         ensures unknown { IfOk result (λ found. IfNone found (IsUnchanged self.old.sessions self.new.sessions
             × Calls (λ e. e.caller) (λ before made. (made ≡ None) × (live_at before sid.now ≡ None)) (known self.old.directory) (known self.new.directory))) }
         ensures err { OnErr result (IsUnchanged self.old.sessions self.new.sessions) }
@@ -105,11 +110,11 @@ impl Purse {
         directory: &Gate<Directory>,
         sid: &[u8],
     ) -> Result<Option<u64>, AllocError>
-        requires { IsPassOf directory.now self.old.directory }
+        requires pass { IsPassOf directory.now self.old.directory }
+        requires not_held { IsNotHeld self.old.sessions sid.now }
         ensures pass { IsPassOf directory.now self.new.directory }
         ensures grows { Grows (known self.old.directory) (known self.new.directory) }
-        ensures found { IfOk result (λ found. IfSome found (λ number.
-            Holds self.new.sessions number sid.now × OthersStay number self.old.sessions self.new.sessions)) }
+        ensures found { IfOk result (λ found. IfSome found (λ number. IsFound self.old.sessions self.new.sessions number sid.now)) }
         ensures unknown { IfOk result (λ found. IfNone found (IsUnchanged self.old.sessions self.new.sessions
             × Calls (λ e. e.caller) (λ before made. (made ≡ None) × (live_at before sid.now ≡ None)) (known self.old.directory) (known self.new.directory))) }
         ensures err { OnErr result (IsUnchanged self.old.sessions self.new.sessions) }
@@ -141,7 +146,7 @@ impl Purse {
             Calls (λ e. e.caller) (λ before made. OpensInto before opening new self.new.sessions made) (known self.old.directory) (known self.new.directory)) }
         ensures others { IfOk result (λ new. StaysBeside new self.old.sessions self.new.sessions) }
         ensures err { OnErr result (IsUnchanged self.old.sessions self.new.sessions
-            × Calls (λ e. e.caller) (λ _ _. Unit {0}) (known self.old.directory) (known self.new.directory)) }
+            × Calls (λ e. e.caller) (λ before made. OpensOrNot before opening made) (known self.old.directory) (known self.new.directory)) }
     {
         let reply = directory.call(rt, &mut self.directory, DirectoryCall::Open(opening))?;
         match reply {

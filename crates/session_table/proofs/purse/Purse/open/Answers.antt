@@ -1,7 +1,8 @@
 use Rattle.std.proofs.Common.{subst, sym}
 use Rattle.parked_gate.specs.Passes.{Calls, known}
 use Rattle.session_table.specs.declared.calls.NewSession.TheVariants as news
-use Rattle.session_table.specs.Purses.{OpensInto}
+use Rattle.session_table.specs.Purses.{OpensInto, OpensOrNot}
+use Rattle.session_table.proofs.HoldingLemmas.{on_err_by, opened_unheld}
 use Rattle.session_table.proofs.PassLemmas.{says_so}
 use Rattle.session_table.proofs.PurseLemmas.{opens_by, opens_into, others_beside}
 use Rattle.session_table.proofs.purse.Purse.open.Goals as goal
@@ -22,3 +23,15 @@ pub returns-in_ok-number-in-Opened-clause-others : goal.returns-in_ok-number-in-
 returns-in_ok-number-in-Opened-clause-others g c =
     let told = c.in_ok-number-in-Opened in
     others_beside c.args.self.now.sessions c.hold.new.self.sessions told.number c.in-Opened.field-0.session.number told.ensures.number told.ensures.others
+
+pub returns-in_err-number-in-Opened-clause-err : goal.returns-in_err-number-in-Opened-clause-err
+returns-in_err-number-in-Opened-clause-err g c =
+    let told = c.in_err-number-in-Opened in
+    on_err_by c.from_residual-in_err-number-in-Opened.result _ (
+      told.ensures.err,
+      subst (λ pass. Calls (λ e. e.caller) (λ before made. OpensOrNot before c.args.opening made) (known c.args.self.now.directory) (known pass))
+          (sym told.ensures.directory)
+          (says_so _ _ _ _
+          (λ before made said. opened_unheld before c.args.opening c.in-Opened.field-0 made (opens_by before c.args.opening c.in_ok-reply.reply _ made c.in-Opened.is said))
+          c.in_ok-reply.ensures.called),
+    )

@@ -1,0 +1,92 @@
+-- Whether a session of a name is held, and what its pass made.
+use Rattle.std.proofs.Common.{◌≡◌, ◌≤◌, ◌<◌, ◌+◌, ℕ, Bool, true, false, cond, List, [], Option, Some, None, length, refl, sym, ◌∙◌, ap, subst, inl, inr, arith}
+use Rattle.std.specs.Prelude.{OnErr, Result, Ok, Err, bytes_eq}
+use Rattle.std.specs.declared.alloc.AllocError.{AllocError}
+use Rattle.std.proofs.lemmas.List.Elements.{All-filter}
+use Rattle.bosh_types.specs.Limits.{most_openings}
+use Rattle.parked_gate.specs.Histories.{Appends}
+use Rattle.parked_gate.specs.Passes.{Calls, Known, known}
+use Rattle.session_table.specs.declared.calls.DirectoryCall.TheVariants as calls
+use Rattle.session_table.specs.declared.calls.DirectoryReply.{DirectoryReply}
+use Rattle.session_table.specs.declared.calls.Opened.{Opened}
+use Rattle.session_table.specs.declared.entry.Entry.{Entry}
+use Rattle.session_table.specs.declared.handle.SessionHandle.{SessionHandle}
+use Rattle.session_table.specs.declared.opening.Opening.{Opening}
+use Rattle.session_table.specs.History.{IsLegal, live_of, openings_of}
+use Rattle.session_table.specs.Keeping.{session_of}
+use Rattle.session_table.specs.Purses.{IsFound, IsNotHeld, OpensOrNot, OthersStay, Sessions, found_of, held, own_entries}
+use Rattle.session_table.specs.Replies.{Finds, Opens, RepliesTo}
+use Rattle.session_table.specs.Sessions.{OpenedSession}
+use Rattle.session_table.specs.Sids.{IsSidOf}
+use Rattle.session_table.proofs.KeepingLemmas.{Numbers, all_below, opened_below}
+use Rattle.session_table.proofs.LiveLists.{filter_below, named_all}
+use Rattle.session_table.proofs.PassLemmas.{enters_nothing, finds, found_by_name, holds_found}
+use Rattle.session_table.proofs.PurseLemmas.{others_beside}
+
+some_same : {X : Type 0} (x y : X) → Some x ≡ Some y → x ≡ y
+some_same x y is = cc
+
+none_some : {X : Type 0} (x : X) → None ≡ Some x → ⊥
+none_some x is = cc
+
+pub on_err_by : {T E : Type 0} (r : Result T E) (P : Type 0) → P → OnErr r P
+on_err_by (Ok x) P so = tt
+on_err_by (Err error) P so = so
+
+-- a name that has no number is no session's
+pub unnumbered : (sessions : Sessions) (sid : List ℕ) (found : Option ℕ) → found ≡ None → Numbers sid found → IsNotHeld sessions sid
+unnumbered sessions sid found is numbers number few named = absurd (none_some number (sym is ∙ numbers number few named))
+
+module _ (sessions : Sessions) (sid : List ℕ) (found : Option ℕ) (n : ℕ) (is : found ≡ Some n) (numbers : Numbers sid found) where
+  same_number : (number : ℕ) → number ≤ most_openings → IsSidOf sid number → held sessions number ≡ held sessions n
+  same_number number few named = ap (held sessions) (some_same number n (sym (numbers number few named) ∙ is))
+
+  pub nothing_held : held sessions n ≡ None → IsNotHeld sessions sid
+  nothing_held none number few named = ap (own_entries sid) (same_number number few named ∙ none)
+
+  pub held_otherwise : (x : SessionHandle) (text : List ℕ) (r : Bool) → held sessions n ≡ Some x → text ≡ x.sid → r ≡ bytes_eq text sid → r ≡ false → IsNotHeld sessions sid
+  held_otherwise x text r there text_is r_is apart number few named =
+      let other : bytes_eq x.sid sid ≡ false = ap (λ t. bytes_eq t sid) (sym text_is) ∙ (sym r_is ∙ apart) in
+      ap (own_entries sid) (same_number number few named ∙ there) ∙ ap (λ b. cond b (known x.pass).mine []) other
+
+-- a handle that made nothing
+own_none : (sid : List ℕ) (x : SessionHandle) → (known x.pass).mine ≡ [] → own_entries sid (Some x) ≡ []
+own_none sid x none = by (bytes_eq x.sid sid)
+  where
+    by : (b : Bool) → cond b (known x.pass).mine [] ≡ []
+    by true = none
+    by false = refl
+
+-- who is found has its name's number
+found_number : (log : List Entry) (sid : List ℕ) (x : SessionHandle) → IsLegal log → Finds log sid x → (x.number ≤ most_openings) × IsSidOf sid x.number
+found_number log sid x legal found =
+    let below = named_all (λ s. s.number < length (openings_of log) + 1) sid (live_of log) (session_of x)
+    (all_below _ (live_of log) (filter_below _ _ (openings_of log) (opened_below log))) found.live in (
+      omega (arith, below, legal.few_opened),
+      subst (λ t. IsSidOf t x.number) (found_by_name log sid x found)
+          (named_all (λ (s : OpenedSession). IsSidOf s.sid s.number) sid (live_of log) (session_of x) (All-filter _ (λ (s : OpenedSession). IsSidOf s.sid s.number) (openings_of log) legal.named) found.live),
+    )
+
+-- who was found is held, and nothing of it was
+pub held_found : (sid text : List ℕ) (reply : DirectoryReply) (x : SessionHandle) (old_pass new_pass : Known Entry) (old new : Sessions) (number : ℕ)
+    → IsLegal new_pass.seen → Calls (λ e. e.caller) (λ log made. RepliesTo log (calls.Find text) (Ok reply) made) old_pass new_pass
+    → found_of reply ≡ Some x → text ≡ sid → number ≡ x.number → held new x.number ≡ Some x → OthersStay x.number old new → IsNotHeld old sid
+    → IsFound old new number sid
+held_found sid text reply x old_pass new_pass old new number legal called is same numbered there others not_held =
+    let none = enters_nothing called.before text (Ok reply) called.made called.says in
+    let seen : new_pass.seen ≡ called.before = subst (λ m. Appends (λ e. e.caller) old_pass.number called.before m new_pass.seen) none called.seen in
+    let found : Finds called.before sid x = subst (λ t. Finds called.before t x) same (finds called.before text reply called.made x is called.says) in
+    let of = found_number called.before sid x (subst IsLegal seen legal) found in
+    record {
+      holds = holds_found called.before sid text reply called.made x new number is called.says same numbered there;
+      others = others_beside old new number x.number numbered others;
+      own = subst (λ n. own_entries sid (held new n) ≡ own_entries sid (held old n)) (sym numbered)
+          (ap (own_entries sid) there ∙ (own_none sid x found.mine ∙ sym (not_held x.number of.0 of.1)));
+    }
+
+-- a reply that is lost tells that a session was opened, or that none was
+pub opened_or_not : (log : List Entry) (o : Opening) (error : AllocError) (made : Option Entry) → RepliesTo log (calls.Open o) (Err error) made → OpensOrNot log o made
+opened_or_not log o error made none = inl none
+
+pub opened_unheld : (log : List Entry) (o : Opening) (x : Opened) (made : Option Entry) → Opens log o x made → OpensOrNot log o made
+opened_unheld log o x made opens = inr (x, opens)
