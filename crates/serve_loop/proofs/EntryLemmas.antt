@@ -19,7 +19,7 @@ use Rattle.session_journal.specs.declared.entry.Limited.{Limited}
 use Rattle.session_journal.specs.declared.entry.Limited.TheVariants as limits
 use Rattle.session_journal.specs.Entries.{entered_in, limited_in, request_in}
 use Rattle.session_journal.specs.Stored.{After, Enters, Replies}
-use Rattle.serve_loop.specs.Trail.{AnswersBy, WaitedFor}
+use Rattle.serve_loop.specs.Trail.{AnswersBy, IsNow, Setting, WaitedFor}
 
 to_arrive : (a b : Arrived) → plain.ToArrive a ≡ plain.ToArrive b → a ≡ b
 to_arrive a b is = cc
@@ -112,33 +112,35 @@ other : (told x : plain.Entered) (request : Request) (body : List ℕ) (now : �
 other told x request body now (inl is) tells not_made not_limit = not_made (some_is x told tells ∙ is)
 other told x request body now (inr is) tells not_made not_limit = not_limit (some_is x told tells ∙ is)
 
-pub answers_by : (before : List Entry) (e : Entry) (call : Entered) (request : Request) (body text : List ℕ) (now : ℕ) → IsEntered call (IsArrival request body now)
-    → Replies before (plain.Arrive request body now) (plain.ToArrive (arrivals.Answer text)) (Some e) → AnswersBy before e call request body text
-answers_by before e (stored.Arrive stored_body at) request body text now entered replies = (
+pub answers_by : (site : Setting) (before : List Entry) (e : Entry) (call : Entered) (request : Request) (body text : List ℕ) (now : ℕ) → IsNow site now
+    → IsEntered call (IsArrival request body now) → Replies before (plain.Arrive request body now) (plain.ToArrive (arrivals.Answer text)) (Some e)
+    → AnswersBy site before e call request body text (e ∷ [])
+answers_by site before e (stored.Arrive stored_body at) request body text now at_now entered replies = (
   elim entered.is [
     | inl is ↦ arrival_body (request_in stored_body) stored_body at request body now (entered.tells ∙ ap Some is)
     | inr is ↦ absurd (arrival_no_limit (request_in stored_body) stored_body at plain.Arrival (body_cost request body) now (entered.tells ∙ ap Some is))
   ],
-  (now, replies),
+  (now, at_now, replies),
+  refl,
 )
-answers_by before e (stored.Limit kind cost at) request body text now entered replies = elim entered.is [
+answers_by site before e (stored.Limit kind cost at) request body text now at_now entered replies = elim entered.is [
   | inl is ↦ absurd (let no : plain.Limit (limited_in kind) cost at ≡ plain.Made (plain.Arrive request body now) = some_is _ _ entered.tells ∙ is in cc)
   | inr is ↦
       let same : plain.Limit (limited_in kind) cost at ≡ plain.Limit plain.Arrival (body_cost request body) now = some_is _ _ entered.tells ∙ is in
       let of : limited_in kind ≡ plain.Arrival = cc in
       let costs : cost ≡ body_cost request body = cc in
-      (limited_arrival kind of, costs, (now, replies))
+      (limited_arrival kind of, costs, (now, at_now, replies), refl)
 ]
-answers_by before e (stored.Open sid host greeting stored_body at) request body text now entered replies = absurd (let no : None ≡ Some entered.told = entered.tells in cc)
-answers_by before e (stored.Collect ticket) request body text now entered replies =
+answers_by site before e (stored.Open sid host greeting stored_body at) request body text now at_now entered replies = absurd (let no : None ≡ Some entered.told = entered.tells in cc)
+answers_by site before e (stored.Collect ticket) request body text now at_now entered replies =
     absurd (other entered.told (plain.Made (plain.Collect ticket)) request body now entered.is entered.tells (λ no. cc) (λ no. cc))
-answers_by before e (stored.Back stream stanza at) request body text now entered replies =
+answers_by site before e (stored.Back stream stanza at) request body text now at_now entered replies =
     absurd (other entered.told (plain.Made (plain.Back stream stanza at)) request body now entered.is entered.tells (λ no. cc) (λ no. cc))
-answers_by before e (stored.BackClosed stream closing at) request body text now entered replies =
+answers_by site before e (stored.BackClosed stream closing at) request body text now at_now entered replies =
     absurd (other entered.told (plain.Made (plain.BackClosed stream closing at)) request body now entered.is entered.tells (λ no. cc) (λ no. cc))
-answers_by before e (stored.Tick at) request body text now entered replies =
+answers_by site before e (stored.Tick at) request body text now at_now entered replies =
     absurd (other entered.told (plain.Made (plain.Tick at)) request body now entered.is entered.tells (λ no. cc) (λ no. cc))
-answers_by before e stored.TakeInward request body text now entered replies =
+answers_by site before e stored.TakeInward request body text now at_now entered replies =
     absurd (other entered.told (plain.Made plain.TakeInward) request body now entered.is entered.tells (λ no. cc) (λ no. cc))
 
 -- Collecting.
@@ -157,38 +159,37 @@ read_no_collect : (read : Option Request) (stored_body : List ℕ) (at ticket : 
 read_no_collect None stored_body at ticket is = let no : None ≡ Some (plain.Made (plain.Collect ticket)) = is in cc
 read_no_collect (Some r) stored_body at ticket is = let no : Some (plain.Made (plain.Arrive r stored_body at)) ≡ Some (plain.Made (plain.Collect ticket)) = is in cc
 
-pub collected_by : (before : List Entry) (e : Entry) (call : Entered) (request : Request) (body text : List ℕ) (ticket : ℕ)
-    → entered_in call ≡ Some (plain.Made (plain.Collect ticket)) → WaitedFor before e.caller request body ticket
-    → Replies before (plain.Collect ticket) (plain.ToCollect (collections.Answer text)) (Some e) → AnswersBy before e call request body text
-collected_by before e (stored.Collect taken) request body text ticket is waited replies =
-    let same : ticket ≡ taken = (let known_is : Some (plain.Made (plain.Collect taken)) ≡ Some (plain.Made (plain.Collect ticket)) = is in cc) in (
-      subst (λ (t : ℕ). WaitedFor before e.caller request body t) same waited,
-      subst (λ (t : ℕ). Replies before (plain.Collect t) (plain.ToCollect (collections.Answer text)) (Some e)) same replies,
-    )
-collected_by before e (stored.Arrive stored_body at) request body text ticket is waited replies = absurd (read_no_collect (request_in stored_body) stored_body at ticket is)
-collected_by before e (stored.Limit kind cost at) request body text ticket is waited replies =
+pub collected_by : (site : Setting) (before : List Entry) (e : Entry) (call : Entered) (request : Request) (body text : List ℕ) (ticket : ℕ)
+    → entered_in call ≡ Some (plain.Made (plain.Collect ticket)) → (waited : WaitedFor site before e.caller request body ticket)
+    → Replies before (plain.Collect ticket) (plain.ToCollect (collections.Answer text)) (Some e) → AnswersBy site before e call request body text (waited.entry ∷ e ∷ [])
+collected_by site before e (stored.Collect taken) request body text ticket is waited replies =
+    let same : ticket ≡ taken = (let known_is : Some (plain.Made (plain.Collect taken)) ≡ Some (plain.Made (plain.Collect ticket)) = is in cc) in
+    subst (λ (t : ℕ). (came : WaitedFor site before e.caller request body t) × Replies before (plain.Collect t) (plain.ToCollect (collections.Answer text)) (Some e)
+    × ((waited.entry ∷ e ∷ []) ≡ came.entry ∷ e ∷ [])) same (waited, replies, refl)
+collected_by site before e (stored.Arrive stored_body at) request body text ticket is waited replies = absurd (read_no_collect (request_in stored_body) stored_body at ticket is)
+collected_by site before e (stored.Limit kind cost at) request body text ticket is waited replies =
     absurd (let no : Some (plain.Limit (limited_in kind) cost at) ≡ Some (plain.Made (plain.Collect ticket)) = is in cc)
-collected_by before e (stored.Open sid host greeting stored_body at) request body text ticket is waited replies =
+collected_by site before e (stored.Open sid host greeting stored_body at) request body text ticket is waited replies =
     absurd (let no : None ≡ Some (plain.Made (plain.Collect ticket)) = is in cc)
-collected_by before e (stored.Back stream stanza at) request body text ticket is waited replies =
+collected_by site before e (stored.Back stream stanza at) request body text ticket is waited replies =
     absurd (let no : Some (plain.Made (plain.Back stream stanza at)) ≡ Some (plain.Made (plain.Collect ticket)) = is in cc)
-collected_by before e (stored.BackClosed stream closing at) request body text ticket is waited replies =
+collected_by site before e (stored.BackClosed stream closing at) request body text ticket is waited replies =
     absurd (let no : Some (plain.Made (plain.BackClosed stream closing at)) ≡ Some (plain.Made (plain.Collect ticket)) = is in cc)
-collected_by before e (stored.Tick at) request body text ticket is waited replies =
+collected_by site before e (stored.Tick at) request body text ticket is waited replies =
     absurd (let no : Some (plain.Made (plain.Tick at)) ≡ Some (plain.Made (plain.Collect ticket)) = is in cc)
-collected_by before e stored.TakeInward request body text ticket is waited replies =
+collected_by site before e stored.TakeInward request body text ticket is waited replies =
     absurd (let no : Some (plain.Made plain.TakeInward) ≡ Some (plain.Made (plain.Collect ticket)) = is in cc)
 
 -- What waits, in a history that goes on.
 
-pub waits_on : (old new rest : List Entry) (caller : ℕ) (request : Request) (body : List ℕ) (ticket : ℕ) → new ≡ old ++ rest → WaitedFor old caller request body ticket
-    → WaitedFor new caller request body ticket
-waits_on old new rest caller request body ticket is w = record {
+abbrev pub waits_on : (site : Setting) (old new rest : List Entry) (caller same : ℕ) (request : Request) (body : List ℕ) (ticket : ℕ) → new ≡ old ++ rest → same ≡ caller
+    → WaitedFor site old caller request body ticket → WaitedFor site new same request body ticket
+waits_on site old new rest caller same request body ticket is same_is w = record {
   before = w.before;
   entry = w.entry;
   later = w.later ++ rest;
   there = is ∙ ap (λ (l : List Entry). l ++ rest) w.there ∙ append_assoc w.before (w.entry ∷ w.later) rest;
-  own = w.own;
+  own = w.own ∙ sym same_is;
   waits = w.waits;
 }
 

@@ -1,7 +1,11 @@
 pub mod AnswersLemmas
 pub mod ArrivingLemmas
 pub mod AskedLemmas
+pub mod CollectingLemmas
 pub mod ConnectionLemmas
+pub mod EffectLemmas
 pub mod EntryLemmas
+pub mod LookingLemmas
+pub mod OpeningLemmas
 pub mod SiteLemmas
 pub mod TellingLemmas

@@ -8,7 +8,7 @@ use Rattle.bosh_http.specs.Refusal.{status_of}
 use Rattle.bosh_http.specs.Texts.{response_text}
 use Rattle.bosh_ports.specs.Faults.{HasRisen}
 use Rattle.bosh_ports.specs.Sink.{AppendsFront}
-use Rattle.bosh_types.specs.declared.hosts.HostName.{HostName}
+use Rattle.session_table.specs.declared.purse.Purse.{Purse}
 use Rattle.session_table.specs.Purses.{Sessions, held}
 use Rattle.serve_loop.specs.declared.answering.Answering.{Answering}
 use Rattle.serve_loop.specs.declared.answering.Answering.TheVariants as answering
@@ -24,25 +24,32 @@ use Rattle.serve_loop.specs.declared.connection.Wants.TheVariants as wants
 use Rattle.serve_loop.specs.declared.trail.Evidence.TheVariants as evidence
 use Rattle.serve_loop.specs.declared.trail.Traced.{Traced}
 use Rattle.serve_loop.specs.declared.trail.TrailLine.TheVariants as lines
-use Rattle.serve_loop.specs.Answering.{IsTakenOver, IsUnanswered, IsWaiting}
-use Rattle.serve_loop.specs.Trail.{IsTrueOf}
+use Rattle.serve_loop.specs.Answering.{IsLost, IsTakenOver, IsUnanswered, IsWaiting}
+use Rattle.serve_loop.specs.Effects.{DropsRemoved}
+use Rattle.serve_loop.specs.Trail.{IsTrueOf, Setting}
 
--- what others see of a connection: the bytes that are on its stream yet, those that it gave, the trail, and how often its link failed
+-- what others see of a connection: the bytes that are on its stream yet, those that it gave, the trail, what its worker keeps of
+-- the directory, and how often its link failed
 pub record Outside : Type 0 where
   pub stream : Option (List ℕ)
   pub given : Option (List ℕ)
   pub trail : List Traced
+  pub purse : Purse
   pub faults : ℕ
 
-abbrev pub outside : List ℕ → Option (List ℕ) → Option (List ℕ) → List Traced → ℕ → Outside
-outside kept left given trail faults = record { stream = prepend_known kept left; given = given; trail = trail; faults = faults }
+abbrev pub outside : List ℕ → Option (List ℕ) → Option (List ℕ) → List Traced → Purse → ℕ → Outside
+outside kept left given trail purse faults =
+    record { stream = prepend_known kept left; given = given; trail = trail; purse = purse; faults = faults }
 
--- a request that was answered: its body, whether the connection ends behind it, the body of its answer, and its line
+-- a request that was answered: its body, whether the connection ends behind it, the body of its answer, its line, and what the
+-- worker kept of the directory before and after it
 pub record Exchange : Type 0 where
   pub body : List ℕ
   pub closing : Bool
   pub text : List ℕ
   pub traced : Traced
+  pub before : Purse
+  pub after : Purse
 
 abbrev pub message_of : Exchange → List ℕ
 message_of e = response_text 200 e.text e.closing
@@ -58,49 +65,66 @@ abbrev pub ReadsOff : Option (List ℕ) → List Exchange → Option (List ℕ) 
 ReadsOff stream [] rest = Keeps stream rest
 ReadsOff stream (e ∷ es) rest = (between : Option (List ℕ)) × Reads stream between (http.Request e.body e.closing) × ReadsOff between es rest
 
+-- its line is true
+abbrev pub TellsTruth : Setting → Exchange → Type 0
+TellsTruth site e = IsTrueOf site e.body e.text e.before e.after e.traced.line e.traced.evidence
+
+-- each was begun with what the one before it left
+abbrev pub Follows : Purse → List Exchange → Purse → Type 0
+Follows purse [] last = last ≡ purse
+Follows purse (e ∷ es) last = (e.before ≡ purse) × Follows e.after es last
+
 -- these requests were read and answered, in order, each with a line that is true, and nothing else happened
-pub record Answered (hosts : List HostName) (start : Outside) (exchanges : List Exchange) (now : Outside) : Type 0 where
+pub record Answered (site : Setting) (start : Outside) (exchanges : List Exchange) (now : Outside) : Type 0 where
   pub reads : ReadsOff start.stream exchanges now.stream
   pub gave : Appends start.given now.given (messages exchanges)
   pub told : now.trail ≡ start.trail ++ lines_of exchanges
-  pub true_of : All (λ e. IsTrueOf hosts e.body e.text e.traced.line e.traced.evidence) exchanges
+  pub true_of : All (TellsTruth site) exchanges
+  pub follows : Follows start.purse exchanges now.purse
   pub going : All (λ e. e.closing ≡ false) exchanges
   pub faults : now.faults ≡ start.faults
 
 -- and one request more was read, which nothing was given for yet
-pub record HasRead (hosts : List HostName) (start now : Outside) (body : List ℕ) (closing : Bool) : Type 0 where
+pub record HasRead (site : Setting) (start now : Outside) (body : List ℕ) (closing : Bool) : Type 0 where
   pub exchanges : List Exchange
   pub stream : Option (List ℕ)
-  pub answered : Answered hosts start exchanges (record now { stream = stream })
+  pub answered : Answered site start exchanges (record now { stream = stream })
   pub reads : Reads stream now.stream (http.Request body closing)
 
 -- and one request more was read, and its line stands in the trail; this is to be its answer
-pub record HasAnswer (hosts : List HostName) (start now : Outside) (text : List ℕ) (closing : Bool) : Type 0 where
+pub record HasAnswer (site : Setting) (start now : Outside) (text : List ℕ) (closing : Bool) : Type 0 where
   pub exchanges : List Exchange
   pub stream : Option (List ℕ)
   pub trail : List Traced
   pub body : List ℕ
   pub traced : Traced
-  pub answered : Answered hosts start exchanges (record now { stream = stream; trail = trail })
+  pub purse : Purse
+  pub answered : Answered site start exchanges (record now { stream = stream; trail = trail; purse = purse })
   pub reads : Reads stream now.stream (http.Request body closing)
   pub tells : now.trail ≡ trail ++ traced ∷ []
-  pub true_of : IsTrueOf hosts body text traced.line traced.evidence
+  pub true_of : IsTrueOf site body text purse now.purse traced.line traced.evidence
 
 -- and what came then is refused, as the trail tells
-pub record HasRefused (hosts : List HostName) (start now : Outside) (refusal : HttpRefusal) : Type 0 where
+pub record HasRefused (site : Setting) (start now : Outside) (refusal : HttpRefusal) : Type 0 where
   pub exchanges : List Exchange
   pub stream : Option (List ℕ)
   pub trail : List Traced
-  pub answered : Answered hosts start exchanges (record now { stream = stream; trail = trail })
+  pub answered : Answered site start exchanges (record now { stream = stream; trail = trail })
   pub reads : Reads stream now.stream (http.Refused refusal)
   pub tells : now.trail ≡ trail ++ record { line = lines.Http refusal; evidence = evidence.Request } ∷ []
 
+-- what there was no memory for came to nothing, or waits in its session
+abbrev pub IsLeft : Setting → List ℕ → Purse → Purse → Type 0
+IsLeft site body old new = IsLost site body old new ⊎ ((w : Waiting) × IsWaiting site old new body w)
+
 -- and memory was wanting for what came then, which is a request or no whole one
-pub record LacksMemory (hosts : List HostName) (start now : Outside) : Type 0 where
+pub record LacksMemory (site : Setting) (start now : Outside) : Type 0 where
   pub exchanges : List Exchange
   pub stream : Option (List ℕ)
-  pub answered : Answered hosts start exchanges (record now { stream = stream })
-  pub came : Keeps stream now.stream ⊎ ((body : List ℕ) × (closing : Bool) × Reads stream now.stream (http.Request body closing))
+  pub purse : Purse
+  pub answered : Answered site start exchanges (record now { stream = stream; purse = purse })
+  pub came : (Keeps stream now.stream × (now.purse ≡ purse))
+      ⊎ ((body : List ℕ) × (closing : Bool) × Reads stream now.stream (http.Request body closing) × IsLeft site body purse now.purse)
 
 -- the parts of what is to be given
 abbrev pub status_owed : Owed → ℕ
@@ -127,38 +151,38 @@ end_after (owed.Answer text closing) = ends.Ended
 end_after (owed.Refusal refusal) = ends.Ended
 end_after owed.NoMemory = ends.Memory
 
-abbrev pub Owes : List HostName → Outside → Outside → Owed → Type 0
-Owes hosts start now (owed.Answer text closing) = HasAnswer hosts start now text closing
-Owes hosts start now (owed.Refusal refusal) = HasRefused hosts start now refusal
-Owes hosts start now owed.NoMemory = LacksMemory hosts start now
+abbrev pub Owes : Setting → Outside → Outside → Owed → Type 0
+Owes site start now (owed.Answer text closing) = HasAnswer site start now text closing
+Owes site start now (owed.Refusal refusal) = HasRefused site start now refusal
+Owes site start now owed.NoMemory = LacksMemory site start now
 
 -- it was given
-pub record Gave (hosts : List HostName) (start now : Outside) (what : Owed) : Type 0 where
+pub record Gave (site : Setting) (start now : Outside) (what : Owed) : Type 0 where
   pub given : Option (List ℕ)
-  pub owes : Owes hosts start (record now { given = given }) what
+  pub owes : Owes site start (record now { given = given }) what
   pub gave : Appends given now.given (message what)
 
 -- a front of it was given when the link failed
-pub record FailsToGive (hosts : List HostName) (start now : Outside) : Type 0 where
+pub record FailsToGive (site : Setting) (start now : Outside) : Type 0 where
   pub what : Owed
   pub given : Option (List ℕ)
-  pub owes : Owes hosts start (record now { given = given; faults = start.faults }) what
+  pub owes : Owes site start (record now { given = given; faults = start.faults }) what
   pub front : AppendsFront given now.given (message what)
   pub risen : HasRisen start.faults now.faults
 
 -- the link failed before the next request had come
-pub record FailsToTake (hosts : List HostName) (start now : Outside) : Type 0 where
+pub record FailsToTake (site : Setting) (start now : Outside) : Type 0 where
   pub exchanges : List Exchange
   pub stream : Option (List ℕ)
-  pub answered : Answered hosts start exchanges (record now { stream = stream; faults = start.faults })
+  pub answered : Answered site start exchanges (record now { stream = stream; faults = start.faults })
   pub reads : Reads stream now.stream http.ReadFault
   pub risen : HasRisen start.faults now.faults
 
 -- the stream ended between requests
-pub record IsAtEnd (hosts : List HostName) (start now : Outside) : Type 0 where
+pub record IsAtEnd (site : Setting) (start now : Outside) : Type 0 where
   pub exchanges : List Exchange
   pub stream : Option (List ℕ)
-  pub answered : Answered hosts start exchanges (record now { stream = stream })
+  pub answered : Answered site start exchanges (record now { stream = stream })
   pub reads : Reads stream now.stream http.End
 
 -- where its session was looked at since it waits, there was nothing for it
@@ -167,55 +191,55 @@ Looked sessions w true = IsUnanswered sessions w
 Looked sessions w false = Unit {0}
 
 -- a request was read that waits in its session
-pub record Waits (hosts : List HostName) (start now : Outside) (sessions : Sessions) (w : Waiting) (closing looked : Bool) : Type 0 where
+pub record Waits (site : Setting) (start now : Outside) (w : Waiting) (closing looked : Bool) : Type 0 where
   pub body : List ℕ
-  pub read : HasRead hosts start now body closing
-  pub waits : IsWaiting sessions body w
-  pub looks : Looked sessions w looked
+  pub purse : Purse
+  pub read : HasRead site start (record now { purse = purse }) body closing
+  pub waits : IsWaiting site purse now.purse body w
+  pub looks : Looked now.purse.sessions w looked
 
--- a request was read that waited in its session, when these were held, until another copy of it, or its answer, was taken elsewhere
-pub record IsTaken (hosts : List HostName) (start now : Outside) (sessions : Sessions) : Type 0 where
+-- a request was read that waited in its session until another copy of it, or its answer, was taken elsewhere
+pub record IsTaken (site : Setting) (start now : Outside) : Type 0 where
   pub body : List ℕ
   pub closing : Bool
   pub w : Waiting
-  pub read : HasRead hosts start now body closing
-  pub since : Sessions
-  pub waited : IsWaiting since body w
-  pub taken : IsTakenOver sessions w
+  pub purse : Purse
+  pub read : HasRead site start (record now { purse = purse }) body closing
+  pub taken : IsTakenOver site purse now.purse body w
 
 -- the last answer said that the connection ends, or its refusal
-abbrev pub IsClosed : List HostName → Outside → Outside → Type 0
-IsClosed hosts start now = ((text : List ℕ) × Gave hosts start now (owed.Answer text true)) ⊎ ((refusal : HttpRefusal) × Gave hosts start now (owed.Refusal refusal))
+abbrev pub IsClosed : Setting → Outside → Outside → Type 0
+IsClosed site start now = ((text : List ℕ) × Gave site start now (owed.Answer text true)) ⊎ ((refusal : HttpRefusal) × Gave site start now (owed.Refusal refusal))
 
 -- how a connection ended of itself, which is never for want of a ring
-abbrev pub EndsItself : List HostName → Outside → Outside → Sessions → ConnectionEnd → Type 0
-EndsItself hosts start now sessions ends.Ended = IsAtEnd hosts start now ⊎ IsClosed hosts start now
-EndsItself hosts start now sessions ends.ReadFault = FailsToTake hosts start now
-EndsItself hosts start now sessions ends.WriteFault = FailsToGive hosts start now
-EndsItself hosts start now sessions ends.Superseded = IsTaken hosts start now sessions
-EndsItself hosts start now sessions ends.Silent = ⊥
-EndsItself hosts start now sessions ends.Memory = Gave hosts start now owed.NoMemory
+abbrev pub EndsItself : Setting → Outside → Outside → ConnectionEnd → Type 0
+EndsItself site start now ends.Ended = IsAtEnd site start now ⊎ IsClosed site start now
+EndsItself site start now ends.ReadFault = FailsToTake site start now
+EndsItself site start now ends.WriteFault = FailsToGive site start now
+EndsItself site start now ends.Superseded = IsTaken site start now
+EndsItself site start now ends.Silent = ⊥
+EndsItself site start now ends.Memory = Gave site start now owed.NoMemory
 
 -- how a connection ended: where the bell was silent, its last request waits, and there was nothing for it
-abbrev pub Ends : List HostName → Outside → Outside → Sessions → ConnectionEnd → Type 0
-Ends hosts start now sessions ends.Ended = EndsItself hosts start now sessions ends.Ended
-Ends hosts start now sessions ends.ReadFault = EndsItself hosts start now sessions ends.ReadFault
-Ends hosts start now sessions ends.WriteFault = EndsItself hosts start now sessions ends.WriteFault
-Ends hosts start now sessions ends.Superseded = EndsItself hosts start now sessions ends.Superseded
-Ends hosts start now sessions ends.Silent = (w : Waiting) × (closing : Bool) × Waits hosts start now sessions w closing true
-Ends hosts start now sessions ends.Memory = EndsItself hosts start now sessions ends.Memory
+abbrev pub Ends : Setting → Outside → Outside → ConnectionEnd → Type 0
+Ends site start now ends.Ended = EndsItself site start now ends.Ended
+Ends site start now ends.ReadFault = EndsItself site start now ends.ReadFault
+Ends site start now ends.WriteFault = EndsItself site start now ends.WriteFault
+Ends site start now ends.Superseded = EndsItself site start now ends.Superseded
+Ends site start now ends.Silent = (w : Waiting) × (closing : Bool) × Waits site start now w closing true
+Ends site start now ends.Memory = EndsItself site start now ends.Memory
 
 -- where a connection stands
-abbrev pub Stands : List HostName → Outside → Outside → Sessions → Stage → Type 0
-Stands hosts start now sessions stages.Reading = (exchanges : List Exchange) × Answered hosts start exchanges now
-Stands hosts start now sessions (stages.Asked body closing) = HasRead hosts start now body closing
-Stands hosts start now sessions (stages.Waiting w closing looked) = Waits hosts start now sessions w closing looked
-Stands hosts start now sessions (stages.Owing what) = Owes hosts start now what
-Stands hosts start now sessions (stages.Over end) = EndsItself hosts start now sessions end
+abbrev pub Stands : Setting → Outside → Outside → Stage → Type 0
+Stands site start now stages.Reading = (exchanges : List Exchange) × Answered site start exchanges now
+Stands site start now (stages.Asked body closing) = HasRead site start now body closing
+Stands site start now (stages.Waiting w closing looked) = Waits site start now w closing looked
+Stands site start now (stages.Owing what) = Owes site start now what
+Stands site start now (stages.Over end) = EndsItself site start now end
 
 -- a move: wherever the connection stood, it stands there now
-abbrev pub Moves : List HostName → Outside → Outside → Sessions → Sessions → Stage → Stage → Type 0
-Moves hosts old new sessions sessions' stage stage' = (start : Outside) → Stands hosts start old sessions stage → Stands hosts start new sessions' stage'
+abbrev pub Moves : Setting → Outside → Outside → Stage → Stage → Type 0
+Moves site old new stage stage' = (start : Outside) → Stands site start old stage → Stands site start new stage'
 
 -- where it stands when what it owed was given
 abbrev pub stage_behind : Owed → Stage
@@ -252,6 +276,8 @@ IsServedBy sessions (stages.Asked body closing) = Unit {0}
 IsServedBy sessions (stages.Owing what) = Unit {0}
 IsServedBy sessions (stages.Over end) = Unit {0}
 
--- a connection that nothing was read of ended so; the bytes that it had taken and that made no request are at the front of what is left
-abbrev pub Serves : List HostName → Outside → Option (List ℕ) → Option (List ℕ) → List Traced → ℕ → Sessions → ConnectionEnd → Type 0
-Serves hosts start left given trail faults sessions end = (kept : List ℕ) × Ends hosts start (outside kept left given trail faults) sessions end
+-- a connection that nothing was read of ended so, after handles of sessions that are no more were let go; the bytes that it had taken
+-- and that made no request are at the front of what is left
+abbrev pub Serves : Setting → Outside → Option (List ℕ) → Option (List ℕ) → List Traced → Purse → ℕ → ConnectionEnd → Type 0
+Serves site start left given trail purse faults end = (kept : List ℕ) × (first : Purse) × DropsRemoved start.purse first
+    × Ends site (record start { purse = first }) (outside kept left given trail purse faults) end

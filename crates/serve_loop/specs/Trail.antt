@@ -1,5 +1,5 @@
 -- What the lines of a trail say.
-use Rattle.std.specs.Prelude.{◌≡◌, ℕ, true, List, [], ◌∷◌, ◌++◌, length, Option, Some, None, slice_get, ◌⊎◌}
+use Rattle.std.specs.Prelude.{◌≡◌, ℕ, true, List, [], ◌∷◌, ◌++◌, length, IfSome, Option, Some, None, slice_get, ◌⊎◌}
 use Rattle.bosh_http.specs.declared.refusal.HttpRefusal.{HttpRefusal}
 use Rattle.bosh_types.specs.declared.condition.Condition.{Condition}
 use Rattle.bosh_types.specs.declared.condition.Condition.TheVariants.{ItemNotFound, UndefinedCondition}
@@ -22,7 +22,7 @@ use Rattle.session_journal.specs.declared.entry.Limited.TheVariants.{Arrival}
 use Rattle.session_journal.specs.Stored.{After, Replies}
 use Rattle.session_table.specs.declared.handle.SessionHandle.{SessionHandle}
 use Rattle.session_table.specs.declared.opening.Opening.{Opening}
-use Rattle.session_table.specs.declared.entry.Entry as table
+use Rattle.session_table.specs.declared.purse.Purse.{Purse}
 use Rattle.session_table.specs.History.{live_at}
 use Rattle.session_table.specs.Replies.{IsFull, IsSpent, Starts}
 use Rattle.serve_loop.specs.declared.asked.Asked.TheVariants.{Nothing, Creation}
@@ -31,6 +31,19 @@ use Rattle.serve_loop.specs.declared.trail.Evidence.TheVariants as evidence
 use Rattle.serve_loop.specs.declared.trail.TrailLine.{TrailLine}
 use Rattle.serve_loop.specs.declared.trail.TrailLine.TheVariants as lines
 use Rattle.serve_loop.specs.Asked.{asked_of, request_in}
+use Rattle.serve_loop.specs.Effects.{AsksDirectory, CallsOne, OpensOne}
+
+-- what a site tells: its hosts, and the moment of its clock where the clock tells that
+pub record Setting : Type 0 where
+  pub hosts : List HostName
+  pub moment : Option ℕ
+
+abbrev pub setting : List HostName → Option ℕ → Setting
+setting hosts moment = record { hosts = hosts; moment = moment }
+
+-- it is the clock's moment
+abbrev pub IsNow : Setting → ℕ → Type 0
+IsNow site now = IfSome site.moment (λ told. now ≡ told)
 
 -- the body that refuses a request with a condition, and ends nothing
 abbrev pub refusal_text : Condition → List ℕ
@@ -41,100 +54,116 @@ pub record Names (body sid : List ℕ) (request : Request) : Type 0 where
   pub read : request_in body ≡ Some request
   pub named : request.kind ≡ kinds.Later sid
 
--- after this history the arrival of the body was replied so, and made this entry
-abbrev pub Arrives : List journal.Entry → journal.Entry → Request → List ℕ → Arrived → Type 0
-Arrives before e request body reply = (now : ℕ) × Replies before (plain.Arrive request body now) (plain.ToArrive reply) (Some e)
+-- after this history the arrival of the body, at the clock's moment, was replied so, and made this entry
+abbrev pub Arrives : Setting → List journal.Entry → journal.Entry → Request → List ℕ → Arrived → Type 0
+Arrives site before e request body reply = (now : ℕ) × IsNow site now × Replies before (plain.Arrive request body now) (plain.ToArrive reply) (Some e)
 
 -- the request came in this history before, from this caller, and was given this ticket
-pub record WaitedFor (history : List journal.Entry) (caller : ℕ) (request : Request) (body : List ℕ) (ticket : ℕ) : Type 0 where
+pub record WaitedFor (site : Setting) (history : List journal.Entry) (caller : ℕ) (request : Request) (body : List ℕ) (ticket : ℕ) : Type 0 where
   pub before : List journal.Entry
   pub entry : journal.Entry
   pub later : List journal.Entry
   pub there : history ≡ before ++ entry ∷ later
   pub own : entry.caller ≡ caller
-  pub waits : Arrives before entry request body (arrivals.Parked ticket)
+  pub waits : Arrives site before entry request body (arrivals.Parked ticket)
 
--- the entry that follows this history answers the request with this text: it is the arrival of the body, the limit of the
--- journal in its place, or the collection of the ticket that the arrival was given
-abbrev pub AnswersBy : List journal.Entry → journal.Entry → Entered → Request → List ℕ → List ℕ → Type 0
-AnswersBy before e (stored.Arrive stored now) request body text = (stored ≡ body) × Arrives before e request body (arrivals.Answer text)
-AnswersBy before e (stored.Limit kind cost now) request body text =
-    (kind ≡ Arrival) × (cost ≡ body_cost request body) × Arrives before e request body (arrivals.Answer text)
-AnswersBy before e (stored.Collect ticket) request body text =
-    WaitedFor before e.caller request body ticket × Replies before (plain.Collect ticket) (plain.ToCollect (collections.Answer text)) (Some e)
-AnswersBy before e (stored.Open sid host greeting body' now) request body text = ⊥
-AnswersBy before e (stored.Back stream stanza now) request body text = ⊥
-AnswersBy before e (stored.BackClosed stream closing now) request body text = ⊥
-AnswersBy before e (stored.Tick now) request body text = ⊥
-AnswersBy before e stored.TakeInward request body text = ⊥
+-- the entry that follows this history answers the request with this text: it is the arrival of the body, or the limit of the
+-- journal in its place, which alone was added for it; or the collection of the ticket that the arrival was given, and both were added
+abbrev pub AnswersBy : Setting → List journal.Entry → journal.Entry → Entered → Request → List ℕ → List ℕ → List journal.Entry → Type 0
+AnswersBy site before e (stored.Arrive stored now) request body text added =
+    (stored ≡ body) × Arrives site before e request body (arrivals.Answer text) × (added ≡ e ∷ [])
+AnswersBy site before e (stored.Limit kind cost now) request body text added =
+    (kind ≡ Arrival) × (cost ≡ body_cost request body) × Arrives site before e request body (arrivals.Answer text) × (added ≡ e ∷ [])
+AnswersBy site before e (stored.Collect ticket) request body text added =
+    (came : WaitedFor site before e.caller request body ticket)
+    × Replies before (plain.Collect ticket) (plain.ToCollect (collections.Answer text)) (Some e) × (added ≡ came.entry ∷ e ∷ [])
+AnswersBy site before e (stored.Open sid host greeting body' now) request body text added = ⊥
+AnswersBy site before e (stored.Back stream stanza now) request body text added = ⊥
+AnswersBy site before e (stored.BackClosed stream closing now) request body text added = ⊥
+AnswersBy site before e (stored.Tick now) request body text added = ⊥
+AnswersBy site before e stored.TakeInward request body text added = ⊥
 
--- an entry of the session's history, made by this worker, answers the body
-pub record IsEntry (sid : List ℕ) (caller place : ℕ) (body text : List ℕ) (session : SessionHandle) : Type 0 where
+-- an entry of the session's history, made by this worker for this body, answers it; nothing else was done for it
+pub record IsEntry (site : Setting) (sid : List ℕ) (caller place : ℕ) (body text : List ℕ) (old new : Purse) (session : SessionHandle) : Type 0 where
   pub request : Request
   pub names : Names body sid request
   pub of : session.sid ≡ sid
   pub by : (known session.pass).number ≡ caller
   pub before : List journal.Entry
   pub entry : journal.Entry
-  pub seen : (known session.pass).seen ≡ before ++ entry ∷ []
+  pub later : List journal.Entry
+  pub seen : (known session.pass).seen ≡ before ++ entry ∷ later
   pub at : length before ≡ place
   pub own : entry.caller ≡ caller
-  pub answers : AnswersBy before entry entry.call request body text
+  pub added : List journal.Entry
+  pub answers : AnswersBy site before entry entry.call request body text added
+  pub number : ℕ
+  pub alone : CallsOne old new number session added
 
--- what a session is opened with, for this body and at this host
-pub record IsOpeningAt (host : HostName) (request : Request) (body : List ℕ) (opening : Opening) : Type 0 where
+-- what a session is opened with, for this body, at this host and at the clock's moment
+pub record IsOpeningAt (site : Setting) (host : HostName) (request : Request) (body : List ℕ) (opening : Opening) : Type 0 where
   pub request_is : opening.request ≡ request
   pub body_is : opening.body ≡ body
   pub host_is : opening.host ≡ host.name
   pub greeting_is : opening.greeting ≡ host.greeting
+  pub at_now : IsNow site opening.at
 
--- the body created the session, at a host of these
-pub record IsOpened (hosts : List HostName) (sid body text : List ℕ) (session : SessionHandle) : Type 0 where
+-- the body asks for a session at a host of the site, which is opened with this
+pub record IsOpeningFor (site : Setting) (body : List ℕ) (opening : Opening) : Type 0 where
   pub request : Request
   pub place : ℕ
   pub host : HostName
-  pub asks : asked_of hosts body ≡ Creation request place
-  pub there : slice_get hosts place ≡ Some host
+  pub asks : asked_of site.hosts body ≡ Creation request place
+  pub there : slice_get site.hosts place ≡ Some host
+  pub opens : IsOpeningAt site host request body opening
+
+-- the body created the session, at a host of the site; nothing else was done for it
+pub record IsOpened (site : Setting) (sid body text : List ℕ) (old new : Purse) (session : SessionHandle) : Type 0 where
   pub opening : Opening
-  pub opens : IsOpeningAt host request body opening
+  pub created : IsOpeningFor site body opening
   pub of : session.sid ≡ sid
   pub starts : Starts session.number opening session text
+  pub alone : OpensOne old new session
 
--- no live session of the directory has the name, or the session has ended
-abbrev pub IsGone : List ℕ → Evidence → Type 0
-IsGone sid evidence.Request = ⊥
-IsGone sid (evidence.Session session) = (session.value.sid ≡ sid) × After (known session.value.pass).seen (λ s. is_over s ≡ true)
-IsGone sid (evidence.Directory pass) = live_at (known pass.value).seen sid ≡ None
+-- the directory, asked now, has no live session of the name; or the session, called now, has ended. Nothing was added
+abbrev pub IsGone : List ℕ → Purse → Purse → Evidence → Type 0
+IsGone sid old new evidence.Request = ⊥
+IsGone sid old new (evidence.Session session) =
+    (session.value.sid ≡ sid) × After (known session.value.pass).seen (λ s. is_over s ≡ true) × ((number : ℕ) × CallsOne old new number session.value [])
+IsGone sid old new (evidence.Directory pass) = (live_at (known pass.value).seen sid ≡ None) × AsksDirectory old new (known pass.value)
 
-pub record IsUnknown (sid body text : List ℕ) (by : Evidence) : Type 0 where
+pub record IsUnknown (sid body text : List ℕ) (old new : Purse) (by : Evidence) : Type 0 where
   pub request : Request
   pub names : Names body sid request
-  pub gone : IsGone sid by
+  pub gone : IsGone sid old new by
   pub text_is : text ≡ refusal_text ItemNotFound
 
--- the body asks nothing that could be answered otherwise; or no more sessions may be live, or be opened
-abbrev pub HasNoRoom : Evidence → Type 0
-HasNoRoom evidence.Request = ⊥
-HasNoRoom (evidence.Session session) = ⊥
-HasNoRoom (evidence.Directory pass) = IsFull (known pass.value).seen ⊎ IsSpent (known pass.value).seen
+-- the directory, asked now, says that no more sessions may be live, or be opened. Nothing was added
+abbrev pub HasNoRoom : Purse → Purse → Evidence → Type 0
+HasNoRoom old new evidence.Request = ⊥
+HasNoRoom old new (evidence.Session session) = ⊥
+HasNoRoom old new (evidence.Directory pass) = (IsFull (known pass.value).seen ⊎ IsSpent (known pass.value).seen) × AsksDirectory old new (known pass.value)
 
-pub record FindsNoRoom (hosts : List HostName) (body : List ℕ) (by : Evidence) : Type 0 where
+pub record FindsNoRoom (site : Setting) (body : List ℕ) (old new : Purse) (by : Evidence) : Type 0 where
   pub request : Request
   pub place : ℕ
-  pub asks : asked_of hosts body ≡ Creation request place
-  pub room : HasNoRoom by
+  pub asks : asked_of site.hosts body ≡ Creation request place
+  pub room : HasNoRoom old new by
 
-abbrev pub ConcernsNone : List HostName → List ℕ → Condition → Evidence → Type 0
-ConcernsNone hosts body condition by = (asked_of hosts body ≡ Nothing condition) ⊎ ((condition ≡ UndefinedCondition) × FindsNoRoom hosts body by)
+-- the body asks nothing that could be answered otherwise, and nobody was asked; or there is no room
+abbrev pub ConcernsNone : Setting → List ℕ → Condition → Purse → Purse → Evidence → Type 0
+ConcernsNone site body condition old new by =
+    ((asked_of site.hosts body ≡ Nothing condition) × (new ≡ old)) ⊎ ((condition ≡ UndefinedCondition) × FindsNoRoom site body old new by)
 
--- what a line says of the request with this body, which was answered with this text
-abbrev pub IsTrueOf : List HostName → List ℕ → List ℕ → TrailLine → Evidence → Type 0
-IsTrueOf hosts body text (lines.Http refusal) by = ⊥
-IsTrueOf hosts body text (lines.Entry sid caller place) (evidence.Session session) = IsEntry sid caller place body text session.value
-IsTrueOf hosts body text (lines.Entry sid caller place) evidence.Request = ⊥
-IsTrueOf hosts body text (lines.Entry sid caller place) (evidence.Directory pass) = ⊥
-IsTrueOf hosts body text (lines.Opened sid) (evidence.Session session) = IsOpened hosts sid body text session.value
-IsTrueOf hosts body text (lines.Opened sid) evidence.Request = ⊥
-IsTrueOf hosts body text (lines.Opened sid) (evidence.Directory pass) = ⊥
-IsTrueOf hosts body text (lines.Unknown sid) by = IsUnknown sid body text by
-IsTrueOf hosts body text (lines.NoSession condition) by = (text ≡ refusal_text condition) × ConcernsNone hosts body condition by
+-- what a line says of the request with this body, which was answered with this text by a worker that kept these of the directory
+-- before and after it
+abbrev pub IsTrueOf : Setting → List ℕ → List ℕ → Purse → Purse → TrailLine → Evidence → Type 0
+IsTrueOf site body text old new (lines.Http refusal) by = ⊥
+IsTrueOf site body text old new (lines.Entry sid caller place) (evidence.Session session) = IsEntry site sid caller place body text old new session.value
+IsTrueOf site body text old new (lines.Entry sid caller place) evidence.Request = ⊥
+IsTrueOf site body text old new (lines.Entry sid caller place) (evidence.Directory pass) = ⊥
+IsTrueOf site body text old new (lines.Opened sid) (evidence.Session session) = IsOpened site sid body text old new session.value
+IsTrueOf site body text old new (lines.Opened sid) evidence.Request = ⊥
+IsTrueOf site body text old new (lines.Opened sid) (evidence.Directory pass) = ⊥
+IsTrueOf site body text old new (lines.Unknown sid) by = IsUnknown sid body text old new by
+IsTrueOf site body text old new (lines.NoSession condition) by = (text ≡ refusal_text condition) × ConcernsNone site body condition old new by

@@ -1,12 +1,18 @@
 // What a request of a connection is answered, and by which call.
-ghost use Rattle.std.specs.Prelude.{◌≡◌, ℕ, List, IfOk, IsSome, OnErr, Some};
+ghost use Rattle.std.specs.Prelude.{◌≡◌, ℕ, List, None, Option, IfOk, IsSome, OnErr, Some, if◌then◌else◌, true};
 ghost use Rattle.std.specs.BTreeMap.{IsUnchanged};
-ghost use Rattle.bosh_types.specs.declared.hosts.HostName.{HostName};
-ghost use Rattle.parked_gate.specs.Passes.{IsPassOf, known};
-ghost use Rattle.serve_loop.specs.Answering.{Answers, Collects, IsAsked, IsWaiting, ShowsDirectory, StaysHeld};
-ghost use Rattle.session_table.specs.Purses.{OthersStay, held};
+ghost use Rattle.parked_gate.specs.Passes.{IsPassOf, Looks, known};
+ghost use Rattle.serve_loop.specs.Answering.{Answers, Collects, IsLost, IsWaiting, ShowsDirectory, StaysHeld, TellsLast};
+ghost use Rattle.serve_loop.specs.Tracing.{HasRoom};
+ghost use Rattle.serve_loop.specs.Trail.{Setting, setting};
+ghost use Rattle.session_core.specs.State.{is_over};
+ghost use Rattle.session_journal.specs.Stored.{After};
+ghost use Rattle.session_table.specs.declared.handle.SessionHandle.{SessionHandle};
+ghost use Rattle.session_table.specs.declared.purse.Purse.{Purse};
+ghost use Rattle.session_table.specs.Purses.{OthersStay, Turned, held};
 
 use crate::asked::{Asked, what_is_asked};
+use crate::telling::last_of;
 use crate::trail::Evidence;
 use crate::worker::{Site, Worker};
 use bosh_ports::{Bell, BellKey};
@@ -53,9 +59,10 @@ impl<B: Bell, M: Names> Worker<B, M> {
     ) -> Result<Answering, AllocError>
         requires { IsPassOf site.now.directory.now self.old.purse.directory }
         ensures pass { IsPassOf site.now.directory.now self.new.purse.directory }
-        ensures answers { IfOk result (Answers site.now.hosts.now body self.old.trail.lines.items self.new.trail.lines.items self.new.purse.sessions) }
-        ensures asked { IfOk result (IsAsked (known self.old.purse.directory) (known self.new.purse.directory) self.old.trail.lines.items self.new.trail.lines.items) }
+        ensures answers { IfOk result (Answers (setting site.now.hosts.now (C.moment site.now.clock.now)) body self.old.trail.lines.items self.new.trail.lines.items
+            self.old.purse self.new.purse) }
         ensures err { OnErr result (self.new.trail.lines.items ≡ self.old.trail.lines.items) }
+        ensures lost { OnErr result (IsLost (setting site.now.hosts.now (C.moment site.now.clock.now)) body self.old.purse self.new.purse) }
         ensures silences { B.silences self.new.bell ≡ B.silences self.old.bell }
     {
         self.trail.reserve()?;
@@ -78,10 +85,10 @@ impl<B: Bell, M: Names> Worker<B, M> {
         requires { IsSome (held self.old.purse.sessions waiting.session.number) }
         ensures directory { self.new.purse.directory ≡ self.old.purse.directory }
         ensures held { IfOk result (StaysHeld self.new.purse.sessions) }
-        ensures collects { (hosts : List HostName) → (body : List ℕ) → IsWaiting self.old.purse.sessions body waiting
-            → IfOk result (Collects hosts body self.old.trail.lines.items self.new.trail.lines.items self.new.purse.sessions waiting) }
+        ensures collects { (site : Setting) → (body : List ℕ) → (before : Purse) → IsWaiting site before self.old.purse body waiting
+            → IfOk result (Collects site body self.old.trail.lines.items self.new.trail.lines.items before self.new.purse waiting) }
         ensures err { OnErr result (self.new.trail.lines.items ≡ self.old.trail.lines.items) }
-        ensures kept { OnErr result (IsUnchanged self.old.purse.sessions self.new.purse.sessions) }
+        ensures kept { OnErr result (self.new.purse ≡ self.old.purse) }
         ensures silences { B.silences self.new.bell ≡ B.silences self.old.bell }
     {
         self.trail.reserve()?;
@@ -90,14 +97,29 @@ impl<B: Bell, M: Names> Worker<B, M> {
         match self.purse.poll(rt, number, waiting.ticket) {
             None => Ok(Answering::Waits(waiting)),
             Some(Found::Answer(text)) => {
-                self.trail
-                    .enter(waiting.session.sid, session_of(&self.purse, number));
-                let_go_if_over(&mut self.purse, rt, number);
+                self.told_by_last(rt, waiting.session);
                 Ok(Answering::Now(text))
             }
             Some(Found::Superseded) => Ok(Answering::Superseded),
             Some(Found::UnknownTicket) => Ok(Answering::Superseded),
         }
+    }
+
+    /// The last entry that the session's pass has seen answers the request. A session that has ended is let go.
+    pub(crate) fn told_by_last<R: Wait>(&mut self, rt: &R, session: Named)
+        requires room { HasRoom self.old.trail }
+        requires held { IsSome (held self.old.purse.sessions session.number) }
+        ensures told { (x : SessionHandle) → held self.old.purse.sessions session.number ≡ Some x
+            → TellsLast self.old.trail.lines.items self.new.trail.lines.items self.new.purse.sessions session.number session.sid x }
+        ensures others { OthersStay session.number self.old.purse.sessions self.new.purse.sessions }
+        ensures directory { self.new.purse.directory ≡ self.old.purse.directory }
+        ensures silences { B.silences self.new.bell ≡ B.silences self.old.bell }
+    {
+        let Named { sid, number } = session;
+        let last = last_of(session_of(&self.purse, number));
+        let ended = sees_ending(&mut self.purse, rt, number);
+        self.trail.enter(sid, last, session_of(&self.purse, number));
+        let_go_if(&mut self.purse, number, ended);
     }
 }
 
@@ -119,19 +141,33 @@ pub(crate) fn evidence_of(purse: &Purse) -> Evidence
     Evidence::Directory(Snapshot::of(&purse.directory))
 }
 
-/// Where this worker sees that the session has ended, it lets it go.
-pub(crate) fn let_go_if_over<R: Wait>(purse: &mut Purse, rt: &R, number: u64)
+/// Whether this worker sees that the session has ended.
+fn sees_ending<R: Wait>(purse: &mut Purse, rt: &R, number: u64) -> bool
     requires { IsSome (held purse.old.sessions number) }
+    ensures looked { Turned number purse.old.sessions purse.new.sessions (Looks (λ seen. result ≡ true → After seen (λ s. is_over s ≡ true))) }
     ensures others { OthersStay number purse.old.sessions purse.new.sessions }
     ensures directory { purse.new.directory ≡ purse.old.directory }
 {
-    if let Ok(
-        Answer::Load {
-            ending: Some(_),
-            ..
-        },
-    ) = purse.look(rt, number, &Question::Load)
-    {
+    match purse.look(rt, number, &Question::Load) {
+        Ok(
+            Answer::Load {
+                ending: Some(_),
+                ..
+            },
+        ) => true,
+        Ok(Answer::Load { ending: None, .. }) => false,
+        Ok(Answer::Home(_)) => false,
+        Err(AllocError) => false,
+    }
+}
+
+/// Lets the session go if it has ended.
+fn let_go_if(purse: &mut Purse, number: u64, ended: bool)
+    ensures held { held purse.new.sessions number ≡ (if ended then None else held purse.old.sessions number) }
+    ensures others { OthersStay number purse.old.sessions purse.new.sessions }
+    ensures directory { purse.new.directory ≡ purse.old.directory }
+{
+    if ended {
         purse.let_go(number);
     }
 }

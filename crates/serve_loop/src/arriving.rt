@@ -1,19 +1,19 @@
 // A later request, which its session is called with.
-ghost use Rattle.std.specs.Prelude.{◌≡◌, ℕ, List, IfOk, IsSome, OnErr, Some};
-ghost use Rattle.bosh_types.specs.declared.hosts.HostName.{HostName};
-ghost use Rattle.parked_gate.specs.Passes.{IsPassOf, Known, known};
-ghost use Rattle.serve_loop.specs.Answering.{Adds, Answers, IsAsked, ShowsSession};
+ghost use Rattle.std.specs.Prelude.{◌≡◌, ℕ, List, IfOk, IsSome, None, OnErr, Some};
+ghost use Rattle.parked_gate.specs.Passes.{IsPassOf};
+ghost use Rattle.serve_loop.specs.Answering.{Adds, Answers, ShowsSession};
 ghost use Rattle.serve_loop.specs.Asked.{asked_of};
+ghost use Rattle.serve_loop.specs.Effects.{AddsNothing, FindsAtMost};
 ghost use Rattle.serve_loop.specs.Tracing.{HasRoom};
-ghost use Rattle.serve_loop.specs.Trail.{Names as NamesSession, refusal_text};
+ghost use Rattle.serve_loop.specs.Trail.{Names as NamesSession, refusal_text, setting};
 ghost use Rattle.session_attrs.specs.declared.request.Kind.TheVariants as kinds;
 ghost use Rattle.session_core.specs.Journal.{ToArrive};
 ghost use Rattle.session_journal.specs.Calls.{reply_in};
-ghost use Rattle.session_table.specs.declared.entry.Entry as table;
 ghost use Rattle.session_table.specs.declared.handle.SessionHandle.{SessionHandle};
-ghost use Rattle.session_table.specs.Purses.{Holds, held};
+ghost use Rattle.session_table.specs.declared.purse.Purse.{Purse};
+ghost use Rattle.session_table.specs.Purses.{Holds, OthersStay, held};
 
-use crate::answering::{Answering, Named, Waiting, evidence_of, let_go_if_over, session_of};
+use crate::answering::{Answering, Named, Waiting, evidence_of, session_of};
 use crate::asked::Asked;
 use crate::trail::{Evidence, TrailLine};
 use crate::worker::{Site, Worker};
@@ -40,9 +40,10 @@ impl<B: Bell, M: Names> Worker<B, M> {
         requires pass { IsPassOf site.now.directory.now self.old.purse.directory }
         requires asks { asked_of site.now.hosts.now body ≡ Asked.Later request }
         ensures pass { IsPassOf site.now.directory.now self.new.purse.directory }
-        ensures answers { IfOk result (Answers site.now.hosts.now body self.old.trail.lines.items self.new.trail.lines.items self.new.purse.sessions) }
-        ensures asked { IfOk result (IsAsked (known self.old.purse.directory) (known self.new.purse.directory) self.old.trail.lines.items self.new.trail.lines.items) }
+        ensures answers { IfOk result (Answers (setting site.now.hosts.now (C.moment site.now.clock.now)) body self.old.trail.lines.items self.new.trail.lines.items
+            self.old.purse self.new.purse) }
         ensures err { OnErr result (self.new.trail.lines.items ≡ self.old.trail.lines.items) }
+        ensures lost { OnErr result (AddsNothing self.old.purse self.new.purse) }
         ensures silences { B.silences self.new.bell ≡ B.silences self.old.bell }
     {
         let sid = named_by(site.alloc, &request)?;
@@ -70,12 +71,12 @@ impl<B: Bell, M: Names> Worker<B, M> {
         requires room { HasRoom self.old.trail }
         requires held { Holds self.old.purse.sessions session.number session.sid }
         requires names { NamesSession body session.sid request }
-        ensures answers { IfOk result (λ answering. (hosts : List HostName) → Answers hosts body self.old.trail.lines.items self.new.trail.lines.items
-            self.new.purse.sessions answering) }
-        ensures asked { IfOk result (λ answering. (before after : Known table.Entry) → IsAsked before after self.old.trail.lines.items self.new.trail.lines.items answering) }
+        ensures answers { (before : Purse) → FindsAtMost before self.old.purse session.number session.sid
+            → IfOk result (Answers (setting site.now.hosts.now (C.moment site.now.clock.now)) body self.old.trail.lines.items self.new.trail.lines.items before self.new.purse) }
         ensures directory { self.new.purse.directory ≡ self.old.purse.directory }
         ensures silences { B.silences self.new.bell ≡ B.silences self.old.bell }
         ensures err { OnErr result (self.new.trail.lines.items ≡ self.old.trail.lines.items) }
+        ensures lost { (before : Purse) → FindsAtMost before self.old.purse session.number session.sid → OnErr result (AddsNothing before self.new.purse) }
     {
         let now = site.clock.now();
         let Named { sid, number } = session;
@@ -85,8 +86,7 @@ impl<B: Bell, M: Names> Worker<B, M> {
         ring(&mut self.bell, number);
         match arrived_in(reply) {
             Arrived::Answer(text) => {
-                self.trail.enter(sid, session_of(&self.purse, number));
-                let_go_if_over(&mut self.purse, rt, number);
+                self.told_by_last(rt, Named { sid, number });
                 Ok(Answering::Now(text))
             }
             Arrived::Parked(ticket) => {
@@ -97,20 +97,23 @@ impl<B: Bell, M: Names> Worker<B, M> {
         }
     }
 
-    /// The session had ended: its pass is let go.
+    /// The session had ended: its handle is let go, unless there is no memory for the answer.
     fn over(&mut self, alloc: Global, sid: SharedText, number: u64) -> Result<Answering, AllocError>
         requires room { HasRoom self.old.trail }
         requires held { IsSome (held self.old.purse.sessions number) }
         ensures text { IfOk result (λ answering. answering ≡ Answering.Now (refusal_text Condition.ItemNotFound)) }
         ensures line { IfOk result (λ _. (session : SessionHandle) → held self.old.purse.sessions number ≡ Some session
             → Adds self.old.trail.lines.items self.new.trail.lines.items (TrailLine.Unknown sid) (ShowsSession session)) }
+        ensures gone { IfOk result (λ _. (held self.new.purse.sessions number ≡ None) × OthersStay number self.old.purse.sessions self.new.purse.sessions) }
         ensures directory { self.new.purse.directory ≡ self.old.purse.directory }
         ensures silences { B.silences self.new.bell ≡ B.silences self.old.bell }
         ensures err { OnErr result (self.new.trail.lines.items ≡ self.old.trail.lines.items) }
+        ensures kept { OnErr result (self.new.purse ≡ self.old.purse) }
     {
         let evidence = Evidence::Session(Snapshot::of(session_of(&self.purse, number)));
+        let answering = self.trail.unknown(alloc, sid, evidence)?;
         self.purse.let_go(number);
-        self.trail.unknown(alloc, sid, evidence)
+        Ok(answering)
     }
 }
 

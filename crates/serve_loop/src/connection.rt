@@ -1,10 +1,11 @@
 // One connection of a client, as a value that makes one move after the other.
 ghost use Rattle.std.specs.Prelude.{◌≡◌, ◌≤◌, ℕ, [], Bool, IsSome, List, Option};
-ghost use Rattle.bosh_types.specs.declared.hosts.HostName.{HostName};
 ghost use Rattle.parked_gate.specs.Passes.{IsPassOf};
 ghost use Rattle.serve_loop.specs.declared.trail.Traced.{Traced};
-ghost use Rattle.session_table.specs.Purses.{Sessions, held};
+ghost use Rattle.session_table.specs.declared.purse.Purse.{Purse};
+ghost use Rattle.session_table.specs.Purses.{held};
 ghost use Rattle.serve_loop.specs.Connections.{IsAskedOr, IsRefusedOr, IsServedBy, Moves, outside, stage_after, stage_behind, wanted_by};
+ghost use Rattle.serve_loop.specs.Trail.{Setting, setting};
 
 use crate::answering::{Answering, Waiting};
 use crate::owed::Owed;
@@ -117,10 +118,10 @@ impl Connection {
         requires held { IsServedBy worker.old.purse.sessions self.old.stage }
         ensures pass { IsPassOf site.now.directory.now worker.new.purse.directory }
         ensures held { IsServedBy worker.new.purse.sessions self.new.stage }
-        ensures moves { Moves site.now.hosts.now
-            (outside self.old.reader (L.left link.old) (L.given link.old) worker.old.trail.lines.items (L.faults link.old))
-            (outside self.new.reader (L.left link.new) (L.given link.new) worker.new.trail.lines.items (L.faults link.new))
-            worker.old.purse.sessions worker.new.purse.sessions self.old.stage self.new.stage }
+        ensures moves { Moves (setting site.now.hosts.now (C.moment site.now.clock.now))
+            (outside self.old.reader (L.left link.old) (L.given link.old) worker.old.trail.lines.items worker.old.purse (L.faults link.old))
+            (outside self.new.reader (L.left link.new) (L.given link.new) worker.new.trail.lines.items worker.new.purse (L.faults link.new))
+            self.old.stage self.new.stage }
         ensures faults { L.faults link.old ≤ L.faults link.new }
         ensures silences { B.silences worker.new.bell ≡ B.silences worker.old.bell }
     {
@@ -141,10 +142,10 @@ impl Connection {
         requires held { IsServedBy worker.old.purse.sessions stage }
         ensures pass { IsPassOf site.now.directory.now worker.new.purse.directory }
         ensures held { IsServedBy worker.new.purse.sessions result }
-        ensures moves { Moves site.now.hosts.now
-            (outside self.old.reader (L.left link.old) (L.given link.old) worker.old.trail.lines.items (L.faults link.old))
-            (outside self.new.reader (L.left link.new) (L.given link.new) worker.new.trail.lines.items (L.faults link.new))
-            worker.old.purse.sessions worker.new.purse.sessions stage result }
+        ensures moves { Moves (setting site.now.hosts.now (C.moment site.now.clock.now))
+            (outside self.old.reader (L.left link.old) (L.given link.old) worker.old.trail.lines.items worker.old.purse (L.faults link.old))
+            (outside self.new.reader (L.left link.new) (L.given link.new) worker.new.trail.lines.items worker.new.purse (L.faults link.new))
+            stage result }
         ensures faults { L.faults link.old ≤ L.faults link.new }
         ensures silences { B.silences worker.new.bell ≡ B.silences worker.old.bell }
     {
@@ -163,11 +164,11 @@ impl Connection {
 
     // Reads the next request.
     fn read<L: Link>(&mut self, trail: &mut Trail, link: &mut L) -> Stage
-        ensures held { (sessions : Sessions) → IsServedBy sessions result }
-        ensures moves { (hosts : List HostName) → (sessions : Sessions) → Moves hosts
-            (outside self.old.reader (L.left link.old) (L.given link.old) trail.old.lines.items (L.faults link.old))
-            (outside self.new.reader (L.left link.new) (L.given link.new) trail.new.lines.items (L.faults link.new))
-            sessions sessions Stage.Reading result }
+        ensures held { (purse : Purse) → IsServedBy purse.sessions result }
+        ensures moves { (site : Setting) → (purse : Purse) → Moves site
+            (outside self.old.reader (L.left link.old) (L.given link.old) trail.old.lines.items purse (L.faults link.old))
+            (outside self.new.reader (L.left link.new) (L.given link.new) trail.new.lines.items purse (L.faults link.new))
+            Stage.Reading result }
         ensures faults { L.faults link.old ≤ L.faults link.new }
     {
         match self.reader.next(self.alloc, link) {
@@ -181,11 +182,11 @@ impl Connection {
 
     // Writes what is owed.
     fn write<L: Link>(&mut self, link: &mut L, owed: &Owed) -> Stage
-        ensures held { (sessions : Sessions) → IsServedBy sessions result }
-        ensures moves { (hosts : List HostName) → (sessions : Sessions) → (trail : List Traced) → Moves hosts
-            (outside self.old.reader (L.left link.old) (L.given link.old) trail (L.faults link.old))
-            (outside self.new.reader (L.left link.new) (L.given link.new) trail (L.faults link.new))
-            sessions sessions (Stage.Owing owed.now) result }
+        ensures held { (purse : Purse) → IsServedBy purse.sessions result }
+        ensures moves { (site : Setting) → (purse : Purse) → (trail : List Traced) → Moves site
+            (outside self.old.reader (L.left link.old) (L.given link.old) trail purse (L.faults link.old))
+            (outside self.new.reader (L.left link.new) (L.given link.new) trail purse (L.faults link.new))
+            (Stage.Owing owed.now) result }
         ensures faults { L.faults link.old ≤ L.faults link.new }
     {
         let closing = owed.closes();
@@ -241,10 +242,10 @@ fn ask<R: Wait, C: Clock, B: Bell, M: Names>(
     requires pass { IsPassOf site.now.directory.now worker.old.purse.directory }
     ensures pass { IsPassOf site.now.directory.now worker.new.purse.directory }
     ensures held { IsServedBy worker.new.purse.sessions result }
-    ensures moves { (stream given : Option (List ℕ)) → (faults : ℕ) → Moves site.now.hosts.now
-        (record { stream = stream; given = given; trail = worker.old.trail.lines.items; faults = faults })
-        (record { stream = stream; given = given; trail = worker.new.trail.lines.items; faults = faults })
-        worker.old.purse.sessions worker.new.purse.sessions (Stage.Asked body closing) result }
+    ensures moves { (stream given : Option (List ℕ)) → (faults : ℕ) → Moves (setting site.now.hosts.now (C.moment site.now.clock.now))
+        (record { stream = stream; given = given; trail = worker.old.trail.lines.items; purse = worker.old.purse; faults = faults })
+        (record { stream = stream; given = given; trail = worker.new.trail.lines.items; purse = worker.new.purse; faults = faults })
+        (Stage.Asked body closing) result }
     ensures silences { B.silences worker.new.bell ≡ B.silences worker.old.bell }
 {
     match worker.answer(rt, site, body) {
@@ -263,10 +264,10 @@ fn collected<R: Wait, B: Bell, M: Names>(
     requires held { IsSome (held worker.old.purse.sessions waiting.session.number) }
     ensures directory { worker.new.purse.directory ≡ worker.old.purse.directory }
     ensures held { IsServedBy worker.new.purse.sessions result }
-    ensures moves { (hosts : List HostName) → (looked : Bool) → (stream given : Option (List ℕ)) → (faults : ℕ) → Moves hosts
-        (record { stream = stream; given = given; trail = worker.old.trail.lines.items; faults = faults })
-        (record { stream = stream; given = given; trail = worker.new.trail.lines.items; faults = faults })
-        worker.old.purse.sessions worker.new.purse.sessions (Stage.Waiting waiting closing looked) result }
+    ensures moves { (site : Setting) → (looked : Bool) → (stream given : Option (List ℕ)) → (faults : ℕ) → Moves site
+        (record { stream = stream; given = given; trail = worker.old.trail.lines.items; purse = worker.old.purse; faults = faults })
+        (record { stream = stream; given = given; trail = worker.new.trail.lines.items; purse = worker.new.purse; faults = faults })
+        (Stage.Waiting waiting closing looked) result }
     ensures silences { B.silences worker.new.bell ≡ B.silences worker.old.bell }
 {
     match worker.collect(rt, waiting) {

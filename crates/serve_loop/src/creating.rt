@@ -2,11 +2,11 @@
 ghost use Rattle.std.specs.Prelude.{◌≡◌, ◌<◌, IfOk, IsTrue, OnErr, Some, length, slice_get};
 ghost use Rattle.std.specs.List.{list_all};
 ghost use Rattle.parked_gate.specs.Passes.{IsPassOf, known};
-ghost use Rattle.serve_loop.specs.Answering.{Adds, Answers, IsAsked, ShowsDirectory};
+ghost use Rattle.serve_loop.specs.Answering.{Adds, Answers, IsLost, ShowsDirectory};
 ghost use Rattle.serve_loop.specs.Asked.{asked_of};
 ghost use Rattle.session_attrs.specs.Serving.{can_serve};
 ghost use Rattle.serve_loop.specs.Tracing.{HasRoom};
-ghost use Rattle.serve_loop.specs.Trail.{IsOpeningAt, refusal_text};
+ghost use Rattle.serve_loop.specs.Trail.{IsNow, IsOpeningAt, Setting, refusal_text, setting};
 ghost use Rattle.session_attrs.specs.declared.request.Creation.{Creation};
 ghost use Rattle.session_attrs.specs.declared.request.Kind.TheVariants as kinds;
 ghost use Rattle.session_core.specs.Journal.{IsReadFrom};
@@ -42,9 +42,10 @@ impl<B: Bell, M: Names> Worker<B, M> {
         requires pass { IsPassOf site.now.directory.now self.old.purse.directory }
         requires asks { asked_of site.now.hosts.now body ≡ Asked.Creation request place }
         ensures pass { IsPassOf site.now.directory.now self.new.purse.directory }
-        ensures answers { IfOk result (Answers site.now.hosts.now body self.old.trail.lines.items self.new.trail.lines.items self.new.purse.sessions) }
-        ensures asked { IfOk result (IsAsked (known self.old.purse.directory) (known self.new.purse.directory) self.old.trail.lines.items self.new.trail.lines.items) }
+        ensures answers { IfOk result (Answers (setting site.now.hosts.now (C.moment site.now.clock.now)) body self.old.trail.lines.items self.new.trail.lines.items
+            self.old.purse self.new.purse) }
         ensures err { OnErr result (self.new.trail.lines.items ≡ self.old.trail.lines.items) }
+        ensures lost { OnErr result (IsLost (setting site.now.hosts.now (C.moment site.now.clock.now)) body self.old.purse self.new.purse) }
         ensures silences { B.silences self.new.bell ≡ B.silences self.old.bell }
     {
         let name = self.names.name()?;
@@ -103,8 +104,7 @@ fn opening_at(
     requires read { IsReadFrom body request }
     requires creation { (creation : Creation) × (request.kind ≡ kinds.Creation creation) }
     ensures may { IfOk result MayOpen }
-    ensures is { IfOk result (IsOpeningAt host.now request body) }
-    ensures at { IfOk result (λ opening. opening.at ≡ at) }
+    ensures is { (site : Setting) → IsNow site at → IfOk result (IsOpeningAt site host.now request body) }
 {
     let host_name = SharedText::new(alloc, host.name.copy_in(alloc)?)?;
     let greeting = Stanzas::from_vec(copy_items(alloc, host.greeting.as_slice())?);

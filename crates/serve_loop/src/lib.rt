@@ -11,6 +11,8 @@ mod owed;
 mod refusing;
 mod serve;
 mod telling;
+#[cfg(test)]
+mod tests;
 mod trail;
 mod worker;
 

@@ -3,6 +3,7 @@ ghost use Rattle.std.specs.Prelude.{◌≡◌, ◌≤◌, [], true};
 ghost use Rattle.bosh_ports.specs.Faults.{HasRisen};
 ghost use Rattle.parked_gate.specs.Passes.{IsPassOf};
 ghost use Rattle.serve_loop.specs.Connections.{outside, Serves};
+ghost use Rattle.serve_loop.specs.Trail.{setting};
 
 use crate::connection::{Connection, ConnectionEnd, Stage};
 use crate::worker::{Site, Worker};
@@ -21,10 +22,10 @@ pub fn serve_connection<R: Wait, L: Link, C: Clock, B: Bell, M: Names>(
     requires { IsPassOf site.now.directory.now worker.old.purse.directory }
     ensures pass { IsPassOf site.now.directory.now worker.new.purse.directory }
 
-    // What was read, answered and told, in order, and how the connection ended.
-    ensures served { Serves site.now.hosts.now
-        (outside [] (L.left link.old) (L.given link.old) worker.old.trail.lines.items (L.faults link.old))
-        (L.left link.new) (L.given link.new) worker.new.trail.lines.items (L.faults link.new) worker.new.purse.sessions result }
+    // What was read, answered and told, in order, what was added for it to which history, and how the connection ended.
+    ensures served { Serves (setting site.now.hosts.now (C.moment site.now.clock.now))
+        (outside [] (L.left link.old) (L.given link.old) worker.old.trail.lines.items worker.old.purse (L.faults link.old))
+        (L.left link.new) (L.given link.new) worker.new.trail.lines.items worker.new.purse (L.faults link.new) result }
     ensures silent { result ≡ ConnectionEnd.Silent → HasRisen (B.silences worker.old.bell) (B.silences worker.new.bell) }
     ensures silences { B.silences worker.old.bell ≤ B.silences worker.new.bell }
     ensures faults { L.faults link.old ≤ L.faults link.new }

@@ -1,6 +1,7 @@
 // What a trail says of requests that have their answer.
-ghost use Rattle.std.specs.Prelude.{◌≡◌, IfOk, OnErr};
-ghost use Rattle.serve_loop.specs.Answering.{Adds, ShowsSession, last_entry};
+ghost use Rattle.std.specs.Prelude.{◌≡◌, ◌-◌, IfOk, OnErr, length};
+ghost use Rattle.parked_gate.specs.Passes.{known};
+ghost use Rattle.serve_loop.specs.Answering.{Adds, ShowsSession};
 ghost use Rattle.serve_loop.specs.Tracing.{HasRoom};
 ghost use Rattle.serve_loop.specs.Trail.{refusal_text};
 
@@ -11,6 +12,24 @@ use bosh_types::{Condition, SharedText};
 use session_table::SessionHandle;
 use std::alloc::{AllocError, Global};
 use std::snapshot::Snapshot;
+
+/// Which entry a session's pass made last.
+#[derive(Clone, Copy)]
+pub(crate) struct LastEntry {
+    caller: u32,
+    place: u64,
+}
+
+/// The last entry that the session's pass has seen, as one that it made.
+pub(crate) fn last_of(session: &SessionHandle) -> LastEntry
+    ensures caller { result.caller ≡ (known session.now.pass).number }
+    ensures place { result.place ≡ length (known session.now.pass).seen - 1 }
+{
+    LastEntry {
+        caller: session.pass.number(),
+        place: session.pass.length().saturating_sub(1),
+    }
+}
 
 impl Trail {
     /// The request is refused with this condition, which this evidence tells. The only error is want of memory.
@@ -47,13 +66,12 @@ impl Trail {
         Ok(Answering::Now(text))
     }
 
-    /// The last entry that the session's pass has seen answers the request. It takes no memory.
-    pub(crate) fn enter(&mut self, sid: SharedText, session: &SessionHandle)
+    /// The entry answers the request, as this handle tells. It takes no memory.
+    pub(crate) fn enter(&mut self, sid: SharedText, last: LastEntry, session: &SessionHandle)
         requires { HasRoom self.old }
-        ensures { Adds self.old.lines.items self.new.lines.items (last_entry sid session.now) (ShowsSession session.now) }
+        ensures { Adds self.old.lines.items self.new.lines.items (TrailLine.Entry sid last.caller last.place) (ShowsSession session.now) }
     {
-        let caller = session.pass.number();
-        let place = session.pass.length().saturating_sub(1);
+        let LastEntry { caller, place } = last;
         let evidence = Evidence::Session(Snapshot::of(session));
         self.push(TrailLine::Entry { sid, caller, place }, evidence);
     }

@@ -1,6 +1,9 @@
 use Rattle.std.proofs.Common.{◌≤◌, []}
 use Rattle.parked_gate.specs.Passes.{IsPassOf}
+use Rattle.session_table.specs.declared.purse.Purse.{Purse}
 use Rattle.serve_loop.specs.Connections.{IsServedBy, Stands, outside}
+use Rattle.serve_loop.specs.Effects.{DropsRemoved}
+use Rattle.serve_loop.specs.Trail.{setting}
 use Rattle.serve_loop.proofs.serve.serve_connection.Given as goal
 
 abbrev pub invariant-loop : goal.invariant-loop
@@ -9,10 +12,12 @@ invariant-loop g l = record {
   finite : (goal.iterator-loop g).is_finite l.iterator';
   pass : IsPassOf l.site.directory.now l.worker.purse.directory;
   held : IsServedBy l.worker.purse.sessions l.connection.stage;
-  stands : Stands l.site.hosts.now
-      (outside [] (g.L.Link.left l.fn.link) (g.L.Link.given l.fn.link) l.fn.worker.trail.lines.items (g.L.Link.faults l.fn.link))
-      (outside l.connection.reader (g.L.Link.left l.link) (g.L.Link.given l.link) l.worker.trail.lines.items (g.L.Link.faults l.link))
-      l.worker.purse.sessions l.connection.stage;
+  first : Purse;
+  dropped : DropsRemoved l.fn.worker.purse first;
+  stands : Stands (setting l.site.hosts.now (g.C.Clock.moment l.site.clock.now))
+      (outside [] (g.L.Link.left l.fn.link) (g.L.Link.given l.fn.link) l.fn.worker.trail.lines.items first (g.L.Link.faults l.fn.link))
+      (outside l.connection.reader (g.L.Link.left l.link) (g.L.Link.given l.link) l.worker.trail.lines.items l.worker.purse (g.L.Link.faults l.link))
+      l.connection.stage;
   silences : g.B.Bell.silences l.fn.worker.bell ≤ g.B.Bell.silences l.worker.bell;
   faults : g.L.Link.faults l.fn.link ≤ g.L.Link.faults l.link;
 }

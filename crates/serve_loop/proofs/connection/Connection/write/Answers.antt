@@ -8,7 +8,7 @@ use Rattle.serve_loop.proofs.ConnectionLemmas.{after_write, moves_failing, moves
 use Rattle.serve_loop.proofs.connection.Connection.write.Goals as goal
 
 pub returns-in-Ok-clause-moves : goal.returns-in-Ok-clause-moves
-returns-in-Ok-clause-moves g c hosts sessions trail =
+returns-in-Ok-clause-moves g c site purse trail =
     let port = g.L.Link in
     let old = c.args.link.now in
     let new = c.write_response.new.link in
@@ -20,12 +20,12 @@ returns-in-Ok-clause-moves g c hosts sessions trail =
     let gave = subst (λ k. Gives (response_text (status_owed what) (text_owed what) k)) c.closes-closing.ensures
     (subst (λ t. Gives (response_text (status_owed what) t c.closes-closing.result)) c.text.ensures
     (subst (λ s. Gives (response_text s c.text.result.now c.closes-closing.result)) c.status.ensures c.in-Ok.ensures.given)) in
-    subst (Moves hosts (after_write before (port.given old) trail (port.faults old)) (after_write after (port.given new) trail (port.faults new)) sessions sessions (stages.Owing what))
+    subst (Moves site (after_write before (port.given old) trail purse (port.faults old)) (after_write after (port.given new) trail purse (port.faults new)) (stages.Owing what))
     (sym c.stage_behind.ensures)
-    (moves_given hosts sessions before after (port.given old) (port.given new) trail (port.faults old) (port.faults new) what (keeps_prepended kept (port.left old) (port.left new) c.write_response.ensures.left) gave c.in-Ok.ensures.counts)
+    (moves_given site before after (port.given old) (port.given new) trail purse (port.faults old) (port.faults new) what (keeps_prepended kept (port.left old) (port.left new) c.write_response.ensures.left) gave c.in-Ok.ensures.counts)
 
 pub returns-in-Err-clause-moves : goal.returns-in-Err-clause-moves
-returns-in-Err-clause-moves g c hosts sessions trail =
+returns-in-Err-clause-moves g c site purse trail =
     let port = g.L.Link in
     let old = c.args.link.now in
     let new = c.write_response.new.link in
@@ -37,4 +37,4 @@ returns-in-Err-clause-moves g c hosts sessions trail =
     let front = subst (λ k. Gives (response_text (status_owed what) (text_owed what) k)) c.closes-closing.ensures
     (subst (λ t. Gives (response_text (status_owed what) t c.closes-closing.result)) c.text.ensures
     (subst (λ s. Gives (response_text s c.text.result.now c.closes-closing.result)) c.status.ensures c.in-Err.ensures.given)) in
-    moves_failing hosts sessions before after (port.given old) (port.given new) trail (port.faults old) (port.faults new) what (keeps_prepended kept (port.left old) (port.left new) c.write_response.ensures.left) front c.in-Err.ensures.fault
+    moves_failing site before after (port.given old) (port.given new) trail purse (port.faults old) (port.faults new) what (keeps_prepended kept (port.left old) (port.left new) c.write_response.ensures.left) front c.in-Err.ensures.fault

@@ -1,12 +1,14 @@
-use Rattle.std.proofs.Common.{sym, subst}
-use Rattle.std.specs.Prelude.{IfOk}
+use Rattle.std.proofs.Common.{refl, sym, subst, inl}
+use Rattle.std.specs.Prelude.{OnErr}
 use Rattle.bosh_types.specs.declared.condition.Condition.TheVariants.{UndefinedCondition}
 use Rattle.parked_gate.specs.Passes.{known}
 use Rattle.session_table.specs.declared.purse.Purse.{Purse}
-use Rattle.serve_loop.specs.Answering.{IsAsked}
-use Rattle.serve_loop.specs.Trail.{refusal_text}
-use Rattle.serve_loop.proofs.AnswersLemmas.{answers_from, asked_from}
+use Rattle.serve_loop.specs.Answering.{IsLost, Tells}
+use Rattle.serve_loop.specs.Trail.{refusal_text, setting}
+use Rattle.serve_loop.proofs.AnswersLemmas.{answers_from, on_err}
 use Rattle.serve_loop.proofs.AskedLemmas.{asks_creation, read_from}
+use Rattle.serve_loop.proofs.EffectLemmas.{adds_nothing_same}
+use Rattle.serve_loop.proofs.OpeningLemmas.{full_lost, open_lost, opened_lost}
 use Rattle.serve_loop.proofs.TellingLemmas.{openings_spent, table_full, tells_full, tells_opened}
 use Rattle.serve_loop.proofs.worker.Worker.create.Goals as goal
 
@@ -18,34 +20,58 @@ opening_at-requires-clause-creation g c = (asks_creation _ _ _ _ c.requires.asks
 
 pub returns-in-TableFull-clause-answers : goal.returns-in-TableFull-clause-answers
 returns-in-TableFull-clause-answers g c =
+    let site = setting c.args.site.now.hosts.now (g.C.Clock.moment c.args.site.now.clock.now) in
     let call = table_full c.in_ok-opening.opening c.open.new.self.sessions (known c.args.self.now.purse.directory) (known c.open.new.self.directory) (rw c.in-TableFull.is at c.in_ok-new.ensures.opened) in
-    answers_from c.no_room.result c.args.site.now.hosts.now c.args.body (refusal_text UndefinedCondition) _ _ _ _ c.no_room.ensures.text c.no_room.ensures.line
-    (λ adds. (tells_full c.args.site.now.hosts.now c.args.body c.args.request c.args.place _ _ _ _ c.requires.asks call adds).0)
+    answers_from c.no_room.result site c.args.body (refusal_text UndefinedCondition) _ _ _ _ _ c.no_room.ensures.text c.no_room.ensures.line
+    (λ adds. subst (λ (p : Purse). Tells site c.args.body (refusal_text UndefinedCondition) c.args.self.now.trail.lines.items c.no_room.new.self.trail.lines.items c.args.self.now.purse p) (sym c.no_room.ensures.purse)
+    (tells_full site c.args.body c.args.request c.args.place _ _ _ _ c.requires.asks call (rw c.in-TableFull.is at c.in_ok-new.ensures.others) adds))
 
-pub returns-in-TableFull-clause-asked : goal.returns-in-TableFull-clause-asked
-returns-in-TableFull-clause-asked g c =
+pub returns-in-TableFull-clause-lost : goal.returns-in-TableFull-clause-lost
+returns-in-TableFull-clause-lost g c =
+    let site = setting c.args.site.now.hosts.now (g.C.Clock.moment c.args.site.now.clock.now) in
     let call = table_full c.in_ok-opening.opening c.open.new.self.sessions (known c.args.self.now.purse.directory) (known c.open.new.self.directory) (rw c.in-TableFull.is at c.in_ok-new.ensures.opened) in
-    subst (λ (p : Purse). IfOk c.no_room.result (IsAsked (known c.args.self.now.purse.directory) (known p.directory) c.args.self.now.trail.lines.items c.no_room.new.self.trail.lines.items))
-    (sym c.no_room.ensures.purse)
-    (asked_from c.no_room.result (refusal_text UndefinedCondition) _ _ _ _ _ c.no_room.ensures.text c.no_room.ensures.line
-    (λ adds. (tells_full c.args.site.now.hosts.now c.args.body c.args.request c.args.place _ _ _ _ c.requires.asks call adds).1))
+    subst (λ (p : Purse). OnErr c.no_room.result (IsLost site c.args.body c.args.self.now.purse p)) (sym c.no_room.ensures.purse)
+    (on_err _ _ (full_lost site c.args.body c.args.request c.args.place c.host_at-host.result.now c.in_ok-opening.opening c.requires.asks c.host_at-host.ensures.host
+    (c.in_ok-opening.ensures.is site c.now-at.ensures) c.args.self.now.purse c.open.new.self (rw c.in-TableFull.is at c.in_ok-new.ensures.others) call))
 
 pub returns-in-OpeningsSpent-clause-answers : goal.returns-in-OpeningsSpent-clause-answers
 returns-in-OpeningsSpent-clause-answers g c =
+    let site = setting c.args.site.now.hosts.now (g.C.Clock.moment c.args.site.now.clock.now) in
     let call = openings_spent c.in_ok-opening.opening c.open.new.self.sessions (known c.args.self.now.purse.directory) (known c.open.new.self.directory) (rw c.in-OpeningsSpent.is at c.in_ok-new.ensures.opened) in
-    answers_from c.no_room-in-OpeningsSpent.result c.args.site.now.hosts.now c.args.body (refusal_text UndefinedCondition) _ _ _ _ c.no_room-in-OpeningsSpent.ensures.text c.no_room-in-OpeningsSpent.ensures.line
-    (λ adds. (tells_full c.args.site.now.hosts.now c.args.body c.args.request c.args.place _ _ _ _ c.requires.asks call adds).0)
+    answers_from c.no_room-in-OpeningsSpent.result site c.args.body (refusal_text UndefinedCondition) _ _ _ _ _ c.no_room-in-OpeningsSpent.ensures.text c.no_room-in-OpeningsSpent.ensures.line
+    (λ adds. subst (λ (p : Purse). Tells site c.args.body (refusal_text UndefinedCondition) c.args.self.now.trail.lines.items c.no_room-in-OpeningsSpent.new.self.trail.lines.items c.args.self.now.purse p) (sym c.no_room-in-OpeningsSpent.ensures.purse)
+    (tells_full site c.args.body c.args.request c.args.place _ _ _ _ c.requires.asks call (rw c.in-OpeningsSpent.is at c.in_ok-new.ensures.others) adds))
 
-pub returns-in-OpeningsSpent-clause-asked : goal.returns-in-OpeningsSpent-clause-asked
-returns-in-OpeningsSpent-clause-asked g c =
+pub returns-in-OpeningsSpent-clause-lost : goal.returns-in-OpeningsSpent-clause-lost
+returns-in-OpeningsSpent-clause-lost g c =
+    let site = setting c.args.site.now.hosts.now (g.C.Clock.moment c.args.site.now.clock.now) in
     let call = openings_spent c.in_ok-opening.opening c.open.new.self.sessions (known c.args.self.now.purse.directory) (known c.open.new.self.directory) (rw c.in-OpeningsSpent.is at c.in_ok-new.ensures.opened) in
-    subst (λ (p : Purse). IfOk c.no_room-in-OpeningsSpent.result (IsAsked (known c.args.self.now.purse.directory) (known p.directory) c.args.self.now.trail.lines.items c.no_room-in-OpeningsSpent.new.self.trail.lines.items))
-    (sym c.no_room-in-OpeningsSpent.ensures.purse)
-    (asked_from c.no_room-in-OpeningsSpent.result (refusal_text UndefinedCondition) _ _ _ _ _ c.no_room-in-OpeningsSpent.ensures.text c.no_room-in-OpeningsSpent.ensures.line
-    (λ adds. (tells_full c.args.site.now.hosts.now c.args.body c.args.request c.args.place _ _ _ _ c.requires.asks call adds).1))
+    subst (λ (p : Purse). OnErr c.no_room-in-OpeningsSpent.result (IsLost site c.args.body c.args.self.now.purse p)) (sym c.no_room-in-OpeningsSpent.ensures.purse)
+    (on_err _ _ (full_lost site c.args.body c.args.request c.args.place c.host_at-host.result.now c.in_ok-opening.opening c.requires.asks c.host_at-host.ensures.host
+    (c.in_ok-opening.ensures.is site c.now-at.ensures) c.args.self.now.purse c.open.new.self (rw c.in-OpeningsSpent.is at c.in_ok-new.ensures.others) call))
 
 pub returns-in_ok-open-in-Opened-clause-answers : goal.returns-in_ok-open-in-Opened-clause-answers
 returns-in_ok-open-in-Opened-clause-answers g c =
-    (tells_opened c.args.site.now.hosts.now c.args.body c.in-Opened.answer c.args.request c.args.place c.host_at-host.result.now c.in_ok-opening.opening c.in-Opened.number
-    (known c.args.self.now.purse.directory) (known c.open.new.self.directory) _ _ c.open.new.self.sessions c.session_of.result.now
-    c.requires.asks c.host_at-host.ensures.host c.in_ok-opening.ensures.is c.session_of.ensures (rw c.in-Opened.is at c.in_ok-new.ensures.opened) c.in_ok-open-in-Opened.ensures.line).0
+    let site = setting c.args.site.now.hosts.now (g.C.Clock.moment c.args.site.now.clock.now) in
+    tells_opened site c.args.body c.in-Opened.answer c.args.request c.args.place c.host_at-host.result.now c.in_ok-opening.opening c.in-Opened.number
+    c.args.self.now.purse c.open.new.self _ _ c.session_of.result.now c.requires.asks c.host_at-host.ensures.host (c.in_ok-opening.ensures.is site c.now-at.ensures)
+    c.session_of.ensures (rw c.in-Opened.is at c.in_ok-new.ensures.others) (rw c.in-Opened.is at c.in_ok-new.ensures.opened) c.in_ok-open-in-Opened.ensures.line
+
+pub returns-in_err-open-in-Opened-clause-lost : goal.returns-in_err-open-in-Opened-clause-lost
+returns-in_err-open-in-Opened-clause-lost g c =
+    let site = setting c.args.site.now.hosts.now (g.C.Clock.moment c.args.site.now.clock.now) in
+    on_err _ _ (opened_lost site c.args.body c.args.request c.args.place c.host_at-host.result.now c.in_ok-opening.opening c.requires.asks c.host_at-host.ensures.host
+    (c.in_ok-opening.ensures.is site c.now-at.ensures) c.args.self.now.purse c.open.new.self c.in-Opened.number c.in-Opened.answer (rw c.in-Opened.is at c.in_ok-new.ensures.others)
+    (rw c.in-Opened.is at c.in_ok-new.ensures.opened))
+
+pub returns-in_err-new-clause-lost : goal.returns-in_err-new-clause-lost
+returns-in_err-new-clause-lost g c =
+    let site = setting c.args.site.now.hosts.now (g.C.Clock.moment c.args.site.now.clock.now) in
+    on_err _ _ (open_lost site c.args.body c.args.request c.args.place c.host_at-host.result.now c.in_ok-opening.opening c.requires.asks c.host_at-host.ensures.host
+    (c.in_ok-opening.ensures.is site c.now-at.ensures) c.args.self.now.purse c.open.new.self c.in_err-new.ensures.err.0 c.in_err-new.ensures.err.1)
+
+pub returns-in_err-opening-clause-lost : goal.returns-in_err-opening-clause-lost
+returns-in_err-opening-clause-lost g c = on_err _ _ (inl (adds_nothing_same _ _ refl))
+
+pub returns-in_err-name-clause-lost : goal.returns-in_err-name-clause-lost
+returns-in_err-name-clause-lost g c = on_err _ _ (inl (adds_nothing_same _ _ refl))

@@ -1,8 +1,8 @@
-use Rattle.std.proofs.Common.{Some, sym, subst}
-use Rattle.std.proofs.lemmas.Result.{IfOk-weaker}
-use Rattle.session_table.specs.Purses.{Holds}
-use Rattle.serve_loop.proofs.AnswersLemmas.{answers_from, asked_from}
+use Rattle.std.proofs.Common.{refl, subst}
+use Rattle.session_table.specs.Purses.{Holds, IsFound}
+use Rattle.serve_loop.proofs.AnswersLemmas.{answers_from, on_err}
 use Rattle.serve_loop.proofs.AskedLemmas.{asks_later}
+use Rattle.serve_loop.proofs.EffectLemmas.{adds_nothing, adds_nothing_same, finds_at_most}
 use Rattle.serve_loop.proofs.TellingLemmas.{unknown_told}
 use Rattle.serve_loop.proofs.worker.Worker.serve.Goals as goal
 
@@ -12,25 +12,36 @@ named_by-requires g c = (asks_later _ _ _ c.requires.asks).1
 pub arrive-requires-clause-held : goal.arrive-requires-clause-held
 arrive-requires-clause-held g c =
     let found = rw c.in-Some.is at c.in_ok-found.ensures.found in
-    subst (Holds _ _) c.as_slice.ensures found.0
+    subst (Holds _ _) c.as_slice.ensures found.holds
 
 pub arrive-requires-clause-names : goal.arrive-requires-clause-names
 arrive-requires-clause-names g c = record { read = (asks_later _ _ _ c.requires.asks).0; named = c.in_ok-sid.ensures }
 
 pub returns-in-Some-clause-answers : goal.returns-in-Some-clause-answers
-returns-in-Some-clause-answers g c = IfOk-weaker c.arrive.result _ _ (λ answering answers. answers _) c.arrive.ensures.answers
+returns-in-Some-clause-answers g c =
+    let found = rw c.in-Some.is at c.in_ok-found.ensures.found in
+    c.arrive.ensures.answers c.args.self.now.purse
+    (finds_at_most c.args.self.now.purse c.find.new.self c.in-Some.number _ (subst (IsFound _ _ _) c.as_slice.ensures found) c.in_ok-found.ensures.grows)
 
-pub returns-in-Some-clause-asked : goal.returns-in-Some-clause-asked
-returns-in-Some-clause-asked g c = IfOk-weaker c.arrive.result _ _ (λ answering asked. asked _ _) c.arrive.ensures.asked
+pub returns-in-Some-clause-lost : goal.returns-in-Some-clause-lost
+returns-in-Some-clause-lost g c =
+    let found = rw c.in-Some.is at c.in_ok-found.ensures.found in
+    c.arrive.ensures.lost c.args.self.now.purse
+    (finds_at_most c.args.self.now.purse c.find.new.self c.in-Some.number _ (subst (IsFound _ _ _) c.as_slice.ensures found) c.in_ok-found.ensures.grows)
 
 pub returns-in-None-clause-answers : goal.returns-in-None-clause-answers
 returns-in-None-clause-answers g c =
     let asked = rw c.in-None.is at c.in_ok-found.ensures.unknown in
-    answers_from c.unknown.result _ _ _ _ _ _ _ c.unknown.ensures.text c.unknown.ensures.line
-    (λ adds. (unknown_told _ _ _ _ c.args.request _ _ _ _ _ (record { read = (asks_later _ _ _ c.requires.asks).0; named = c.in_ok-sid.ensures }) c.as_slice.ensures asked.1 c.evidence_of-evidence.ensures adds).0)
+    answers_from c.unknown.result _ _ _ _ _ _ _ _ c.unknown.ensures.text c.unknown.ensures.line
+    (λ adds. unknown_told _ _ _ _ c.args.request _ _ _ _ _ (record { read = (asks_later _ _ _ c.requires.asks).0; named = c.in_ok-sid.ensures }) c.as_slice.ensures asked.1 asked.0 c.evidence_of-evidence.ensures adds)
 
-pub returns-in-None-clause-asked : goal.returns-in-None-clause-asked
-returns-in-None-clause-asked g c =
+pub returns-in-None-clause-lost : goal.returns-in-None-clause-lost
+returns-in-None-clause-lost g c =
     let asked = rw c.in-None.is at c.in_ok-found.ensures.unknown in
-    asked_from c.unknown.result _ _ _ _ _ _ c.unknown.ensures.text c.unknown.ensures.line
-    (λ adds. (unknown_told c.args.site.now.hosts.now c.args.body _ _ c.args.request _ _ _ _ _ (record { read = (asks_later _ _ _ c.requires.asks).0; named = c.in_ok-sid.ensures }) c.as_slice.ensures asked.1 c.evidence_of-evidence.ensures adds).1)
+    on_err _ _ (adds_nothing c.args.self.now.purse c.find.new.self asked.0 c.in_ok-found.ensures.grows)
+
+pub returns-in_err-found-clause-lost : goal.returns-in_err-found-clause-lost
+returns-in_err-found-clause-lost g c = on_err _ _ (adds_nothing c.args.self.now.purse c.find.new.self c.in_err-found.ensures.err c.in_err-found.ensures.grows)
+
+pub returns-in_err-sid-clause-lost : goal.returns-in_err-sid-clause-lost
+returns-in_err-sid-clause-lost g c = on_err _ _ (adds_nothing_same _ _ refl)
