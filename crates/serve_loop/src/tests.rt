@@ -13,7 +13,6 @@ use std::test::Fail;
 
 mod bodies;
 mod refusals;
-mod threads;
 
 fn text(alloc: Global, bytes: &[u8]) -> Result<Text, AllocError> {
     Ok(Text::from_vec(Vec::from_slice(alloc, bytes)?))
@@ -70,7 +69,7 @@ struct Served {
 }
 
 /// Serves a link by a worker with this purse and this bell.
-fn serve_by<R: Wait, B: Bell>(
+fn serve_by<R: Wait, B: Bell + Drop>(
     rt: &R,
     site: &Site<'_, StillClock>,
     purse: Purse,
@@ -122,7 +121,11 @@ fn serve_at<R: Wait>(
 }
 
 /// What is served on this link, to the end of its bytes or to its first wait.
-fn served<R: Wait>(rt: &R, alloc: Global, link: &mut MemoryLink) -> Result<Served, &'static str> {
+fn serve_alone<R: Wait>(
+    rt: &R,
+    alloc: Global,
+    link: &mut MemoryLink,
+) -> Result<Served, &'static str> {
     match Gate::new(alloc, Directory::new(alloc)) {
         Ok((directory, pass)) => serve_at(rt, alloc, &directory, pass, link),
         Err(_) => Err("no memory"),
@@ -138,7 +141,7 @@ fn is_served<R: Wait>(
     trail: &[u8],
     end: ConnectionEnd,
 ) -> Result<bool, &'static str> {
-    let seen = served(rt, alloc, link)?;
+    let seen = serve_alone(rt, alloc, link)?;
     if seen.end != end || seen.trail.as_slice() != trail {
         return Ok(false);
     }

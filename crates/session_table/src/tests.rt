@@ -1,4 +1,4 @@
-// A directory by itself, and behind a gate that two threads call.
+// A directory by itself, and behind a gate that workers call.
 ghost use Rattle.std.specs.Prelude.{◌≡◌, ℕ, IfOk, IfSome, List, [], true};
 ghost use Rattle.parked_gate.specs.Passes.{IsPassOf};
 ghost use Rattle.session_attrs.specs.declared.request.Creation.{Creation};
@@ -15,7 +15,6 @@ use std::alloc::{AllocError, Global};
 use std::test::Fail;
 
 mod purses;
-mod threads;
 
 const CREATION: &[u8] =
     b"<body rid='1000' to='example.org' wait='60' hold='1' ver='1.6' xmlns='http://jabber.org/protocol/httpbind'/>";

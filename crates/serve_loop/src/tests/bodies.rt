@@ -1,5 +1,5 @@
 // Bodies as browsers and clients send them, and what is answered to the byte.
-use super::{is_served, link_over, served};
+use super::{is_served, link_over, serve_alone};
 use crate::ConnectionEnd;
 use std::alloc::{AllocError, Global};
 use std::sync::Wait;
@@ -159,7 +159,7 @@ fn creates_many<R: Wait>(rt: &R, alloc: Global, count: usize, last: &[u8]) -> Re
         add_message(alloc, &mut bytes, REQUEST, body)?;
     }
     let mut link = link_over(alloc, bytes.as_slice(), &[], &[])?;
-    let seen = served(rt, alloc, &mut link)?;
+    let seen = serve_alone(rt, alloc, &mut link)?;
     Ok(seen.trail.last() == Some(&b'n') && link.as_slice().ends_with(last))
 }
 
