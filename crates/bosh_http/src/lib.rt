@@ -5,11 +5,14 @@
 mod fields;
 mod gathering;
 mod heading;
+mod heads;
 mod judging;
 mod laws;
+mod reader;
 mod reading;
 mod refusal;
 mod responding;
+mod room;
 mod scan;
 mod taken;
 mod target;
