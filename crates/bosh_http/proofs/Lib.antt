@@ -1,3 +1,4 @@
+pub mod FeedingLemmas
 pub mod HeadingLemmas
 pub mod JudgingLemmas
 pub mod MessageLemmas

@@ -9,7 +9,7 @@ use Rattle.httparse.specs.Grammar.{RequestHead, print_request, print_section, pr
 use Rattle.bosh_http.specs.Heads.{IsHeadless}
 use Rattle.bosh_http.specs.Judging.{IsServed, IsRefusedBy}
 use Rattle.bosh_http.specs.Message.{content_length, EndsInContent, IsHeadBegun, IsRequestMessage, IsRefused}
-use Rattle.bosh_http.specs.Reader.{HasMessage, WantsContent, CameOver}
+use Rattle.bosh_http.specs.Reader.{HasMessage, WantsContent, CameBy, CameOver}
 use Rattle.bosh_http.specs.Reading.{IsAllOf, GivesNothing, AnswersBy, Answers, answer_of, ended_answer, Reads}
 use Rattle.bosh_http.specs.Taking.{TakesMore}
 use Rattle.bosh_http.specs.declared.reader.Came.{Came}
@@ -31,7 +31,11 @@ rest_of bytes start content closing served =
       ap length parts ∙ length-append text served.rest ∙ ap (λ n. n + length served.rest) (sym served.start_is),
     )
 
-message_is : (bytes body : List ℕ) (start content : ℕ) (closing : Bool) → IsServed bytes start content closing → start + content ≤ length bytes → body ≡ take (start + content - start) (drop start bytes) → IsRequestMessage bytes (start + content) body closing
+-- the head is there
+pub served_is_there : (bytes : List ℕ) (start content : ℕ) (closing : Bool) → IsServed bytes start content closing → start ≤ length bytes
+served_is_there bytes start content closing served = omega (arith, (rest_of bytes start content closing served).1)
+
+pub message_is : (bytes body : List ℕ) (start content : ℕ) (closing : Bool) → IsServed bytes start content closing → start + content ≤ length bytes → body ≡ take (start + content - start) (drop start bytes) → IsRequestMessage bytes (start + content) body closing
 message_is bytes body start content closing served whole body_is =
     let rest = rest_of bytes start content closing served in
     let size : start + content - start ≡ content_length served.head = omega (arith, served.content_is) in
@@ -46,7 +50,7 @@ message_is bytes body start content closing served whole body_is =
       closing_is = served.closing_is;
     }
 
-some_left : (n : ℕ) → (n == 0) ≡ false → 0 < n
+pub some_left : (n : ℕ) → (n == 0) ≡ false → 0 < n
 some_left n is = grind (arith, nat_tests)
 
 some_size : (n : ℕ) → 0 < n → (n == 0) ≡ false
@@ -61,13 +65,13 @@ some_head h = longer _ (print_section h.fields h.last) (longer _ (print_end h.la
     longer front rest some = omega (arith, some, length-append front rest)
 
 -- some of the content is to come
-content_to_come : (bytes : List ℕ) → WantsContent IsServed bytes → EndsInContent bytes
+pub content_to_come : (bytes : List ℕ) → WantsContent IsServed bytes → EndsInContent bytes
 content_to_come bytes w =
     let rest = rest_of bytes w.start w.content w.said w.reads in
     (w.reads.head, w.reads.rest, w.reads.begins, w.reads.served, omega (arith, w.short, rest.1, w.reads.content_is))
 
 -- and some bytes have come
-some_came : (bytes : List ℕ) → WantsContent IsServed bytes → 0 < length bytes
+pub some_came : (bytes : List ℕ) → WantsContent IsServed bytes → 0 < length bytes
 some_came bytes w =
     let rest = rest_of bytes w.start w.content w.said w.reads in
     let some : 0 < length (print_request w.reads.head) = some_head w.reads.head in
@@ -102,12 +106,14 @@ ended_by bytes all (inl headless) a = by_size (length bytes == 0) refl
 ended_by bytes all (inr wants) a =
     rw (some_size (length bytes) (some_came bytes wants)) ((refl, some_came bytes wants, inr (content_to_come bytes wants)), inr a, refl)
 
-pub answers_of : (left left' : Option (List ℕ)) (kept kept' : List ℕ) (came : Came Bool HttpRefusal) → CameOver IsServed IsRefusedBy HasNoRequest IsHeadBegun left left' kept kept' came → Answers left left' kept kept' (answer_of (length kept') came)
-answers_of left left' kept kept' (came.Message body closing) (taken, is, by) = (taken, is, request_at (kept ++ taken) body closing kept' by)
-answers_of left left' kept kept' (came.Wrong refusal) (taken, is, (denied, same)) = (taken, is, (denied.1, inl denied.0, same))
-answers_of left left' kept kept' came.Ended (taken, is, (ended, all, same)) =
-    (taken, is, subst (λ k. AnswersBy (kept ++ taken) k (IsAllOf left taken) (ended_answer (length k))) (sym same) (ended_by (kept ++ taken) (IsAllOf left taken) ended all))
-answers_of left left' kept kept' came.Failed (taken, is, (failed, same)) = (taken, is, (gives_nothing false (kept ++ taken) failed, same))
+pub answers_by : (seen kept : List ℕ) (all : Type 0) (what : Came Bool HttpRefusal) → CameBy IsServed IsRefusedBy HasNoRequest IsHeadBegun seen kept all what → AnswersBy seen kept all (answer_of (length kept) what)
+answers_by seen kept all (came.Message body closing) by = request_at seen body closing kept by
+answers_by seen kept all (came.Wrong refusal) (denied, same) = (denied.1, inl denied.0, same)
+answers_by seen kept all came.Ended (ended, is, same) = subst (λ k. AnswersBy seen k all (ended_answer (length k))) (sym same) (ended_by seen all ended is)
+answers_by seen kept all came.Failed (failed, same) = (gives_nothing false seen failed, same)
+
+pub answers_of : (left left' : Option (List ℕ)) (kept kept' : List ℕ) (what : Came Bool HttpRefusal) → CameOver IsServed IsRefusedBy HasNoRequest IsHeadBegun left left' kept kept' what → Answers left left' kept kept' (answer_of (length kept') what)
+answers_of left left' kept kept' what (taken, is, by) = (taken, is, answers_by (kept ++ taken) kept' (IsAllOf left taken) what by)
 
 -- only a failed link gives the answer that says so
 pub fault_of : (count : ℕ) (what : Came Bool HttpRefusal) → answer_of count what ≡ ReadFault → what ≡ came.Failed

@@ -9,12 +9,14 @@ use Rattle.std.specs.Io.KnownBytes.{prepend_known}
 use Rattle.httparse.specs.Grammar.{print_response, HasNoResponse}
 use Rattle.bosh_http.specs.Heading.{IsHeaded}
 use Rattle.bosh_http.specs.Heads.{IsHeadless}
-use Rattle.bosh_http.specs.Reader.{HasMessage, WantsContent, CameOver}
+use Rattle.bosh_http.specs.Reader.{HasMessage, WantsContent, FrontBy, CameBy, CameOver}
 use Rattle.bosh_http.specs.Reading.{IsAllOf}
 use Rattle.bosh_http.specs.Response.{response_length, IsResponseMessage, IsBadStream, IsResponseBegun, EndsInResponse, EndsEarly}
-use Rattle.bosh_http.specs.Responding.{GivesNoResponse, RespondsBy, Responds, answered, response_of, ReadsBack}
+use Rattle.bosh_http.specs.Responding.{FrontResponds, GivesNoResponse, RespondsBy, Responds, answered, front_response, response_of, ReadsBack}
 use Rattle.bosh_http.specs.declared.reader.Came.{Came}
 use Rattle.bosh_http.specs.declared.reader.Came.TheVariants as came
+use Rattle.bosh_http.specs.declared.reader.Front.{Front}
+use Rattle.bosh_http.specs.declared.reader.Front.TheVariants as front
 use Rattle.bosh_http.specs.declared.responding.ResponseIn.{ResponseIn}
 use Rattle.bosh_http.specs.declared.responding.ResponseIn.TheVariants.{Body, Status, Bad, End, ReadFault}
 use Rattle.bosh_http.proofs.HeadingLemmas.{IsBadStream-append, BeginsWithResponse-append}
@@ -29,6 +31,10 @@ rest_of bytes start content status headed =
       ap₂ (λ n b. drop n b) headed.start_is parts ∙ drop-append_seam text headed.rest,
       ap length parts ∙ length-append text headed.rest ∙ ap (λ n. n + length headed.rest) (sym headed.start_is),
     )
+
+-- the head is there
+pub headed_is_there : (bytes : List ℕ) (start content status : ℕ) → IsHeaded bytes start content status → start ≤ length bytes
+headed_is_there bytes start content status headed = omega (arith, (rest_of bytes start content status headed).1)
 
 response_is : (bytes body : List ℕ) (start content status : ℕ) → IsHeaded bytes start content status → start + content ≤ length bytes → body ≡ take (start + content - start) (drop start bytes) → IsResponseMessage bytes (start + content) status body
 response_is bytes body start content status headed whole body_is =
@@ -84,20 +90,31 @@ message_by bytes body status kept all m = by_status (status == 200) refl
         other : (n : ℕ) → (n == 200) ≡ false → n ≢ 200
         other n is ok = grind (arith, nat_tests)
 
-pub responds_of : (left left' : Option (List ℕ)) (kept kept' : List ℕ) (came : Came ℕ ⊤) → CameOver IsHeaded (λ bytes fault. IsBadStream bytes) HasNoResponse IsResponseBegun left left' kept kept' came → Responds left left' kept kept' (response_of came)
-responds_of left left' kept kept' (came.Message body status) (taken, is, by) = (taken, is, message_by (kept ++ taken) body status kept' (IsAllOf left taken) by)
-responds_of left left' kept kept' (came.Wrong fault) (taken, is, by) = (taken, is, by)
-responds_of left left' kept kept' came.Ended (taken, is, (ended, all, same)) = (taken, is, (ends_early (kept ++ taken) ended, all, same))
-responds_of left left' kept kept' came.Failed (taken, is, (failed, same)) = (taken, is, (gives_no_response false (kept ++ taken) failed, same))
+pub responds_by : (seen kept : List ℕ) (all : Type 0) (what : Came ℕ ⊤) → CameBy IsHeaded (λ bytes fault. IsBadStream bytes) HasNoResponse IsResponseBegun seen kept all what → RespondsBy seen kept all (response_of what)
+responds_by seen kept all (came.Message body status) by = message_by seen body status kept all by
+responds_by seen kept all (came.Wrong fault) by = by
+responds_by seen kept all came.Ended (ended, is, same) = (ends_early seen ended, is, same)
+responds_by seen kept all came.Failed (failed, same) = (gives_no_response false seen failed, same)
 
--- only a failed link gives the answer that says so
-pub response_fault : (what : Came ℕ ⊤) → response_of what ≡ ReadFault → what ≡ came.Failed
+pub responds_of : (left left' : Option (List ℕ)) (kept kept' : List ℕ) (what : Came ℕ ⊤) → CameOver IsHeaded (λ bytes fault. IsBadStream bytes) HasNoResponse IsResponseBegun left left' kept kept' what → Responds left left' kept kept' (response_of what)
+responds_of left left' kept kept' what (taken, is, by) = (taken, is, responds_by (kept ++ taken) kept' (IsAllOf left taken) what by)
+
+answered_is : (status : ℕ) (body : List ℕ) → answered status body ≢ ReadFault
 unfolding answered
-response_fault (came.Message body status) is = absurd (by_status (status == 200) is)
+answered_is status body = by_status (status == 200)
   where
     by_status : (is_ok : Bool) → ¬ ((if is_ok then Body body else Status status) ≡ ReadFault)
     by_status true is = cc is
     by_status false is = cc is
+
+pub front_responds : (seen kept : List ℕ) (what : Front ℕ ⊤) → FrontBy IsHeaded (λ bytes fault. IsBadStream bytes) (IsHeadless HasNoResponse IsResponseBegun false) seen kept what → FrontResponds seen kept (front_response what)
+front_responds seen kept (front.Message body status) by = (message_by seen body status kept ⊥ by, answered_is status body)
+front_responds seen kept (front.Wrong fault) by = (by, λ is. cc is)
+front_responds seen kept front.More (wants, same) = (gives_no_response false seen wants, same)
+
+-- only a failed link gives the answer that says so
+pub response_fault : (what : Came ℕ ⊤) → response_of what ≡ ReadFault → what ≡ came.Failed
+response_fault (came.Message body status) is = absurd (answered_is status body is)
 response_fault (came.Wrong fault) is = cc is
 response_fault came.Ended is = cc is
 response_fault came.Failed is = refl

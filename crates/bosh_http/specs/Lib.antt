@@ -1,3 +1,4 @@
+pub mod Feeding
 pub mod Fields
 pub mod Heading
 pub mod Heads

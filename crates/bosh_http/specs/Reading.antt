@@ -1,5 +1,5 @@
 -- What reading the next request answers.
-use Rattle.std.specs.Prelude.{◌≡◌, ℕ, ◌<◌, ◌==◌, ◌⊎◌, Bool, if◌then◌else◌, List, [], ◌++◌, length, drop, Option, None, Some, IfSome}
+use Rattle.std.specs.Prelude.{◌≡◌, ◌≢◌, ℕ, ◌<◌, ◌==◌, ◌⊎◌, Bool, if◌then◌else◌, List, [], ◌++◌, length, drop, Option, None, Some, IfSome}
 use Rattle.std.specs.Io.KnownBytes.{Consumes}
 use Rattle.bosh_http.specs.Judging.{IsSettled}
 use Rattle.httparse.specs.Grammar.{HasNoRequest}
@@ -25,6 +25,11 @@ AnswersBy seen kept all (Request body closing) = (count : ℕ) × IsRequestMessa
 AnswersBy seen kept all (Refused refusal) = IsRefused seen refusal × (IsSettled refusal ⊎ all) × (kept ≡ seen)
 AnswersBy seen kept all End = (seen ≡ []) × all × (kept ≡ [])
 AnswersBy seen kept all ReadFault = GivesNothing seen × (kept ≡ seen)
+
+-- what the bytes that have come give: an answer that needs no more of them, or nothing, where more are wanted
+abbrev pub FrontGives : List ℕ → List ℕ → Option HttpIn → Type 0
+FrontGives seen kept None = GivesNothing seen × (kept ≡ seen)
+FrontGives seen kept (Some answer) = AnswersBy seen kept ⊥ answer × (answer ≢ ReadFault)
 
 -- the answer where the stream ended and no request is whole in these many bytes
 unfoldable pub ended_answer : ℕ → HttpIn

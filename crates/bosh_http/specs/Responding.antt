@@ -7,6 +7,8 @@ use Rattle.bosh_http.specs.Reading.{IsAllOf}
 use Rattle.bosh_http.specs.Response.{IsResponseMessage, IsBadStream, EndsInResponse, EndsEarly}
 use Rattle.bosh_http.specs.declared.reader.Came.{Came}
 use Rattle.bosh_http.specs.declared.reader.Came.TheVariants as came
+use Rattle.bosh_http.specs.declared.reader.Front.{Front}
+use Rattle.bosh_http.specs.declared.reader.Front.TheVariants as front
 use Rattle.bosh_http.specs.declared.responding.ResponseIn.{ResponseIn}
 use Rattle.bosh_http.specs.declared.responding.ResponseIn.TheVariants.{Body, Status, Bad, End, ReadFault}
 
@@ -22,9 +24,20 @@ RespondsBy seen kept all Bad = IsBadStream seen × (kept ≡ seen)
 RespondsBy seen kept all End = EndsEarly seen × all × (kept ≡ seen)
 RespondsBy seen kept all ReadFault = GivesNoResponse seen × (kept ≡ seen)
 
+-- what the bytes that have come give: an answer that needs no more of them, or nothing, where more are wanted
+abbrev pub FrontResponds : List ℕ → List ℕ → Option ResponseIn → Type 0
+FrontResponds seen kept None = GivesNoResponse seen × (kept ≡ seen)
+FrontResponds seen kept (Some answer) = RespondsBy seen kept ⊥ answer × (answer ≢ ReadFault)
+
 -- the answer by a response with this status and content
 unfoldable pub answered : ℕ → List ℕ → ResponseIn
 answered status body = if status == 200 then Body body else Status status
+
+-- what stands at the front as an answer
+abbrev pub front_response : Front ℕ ⊤ → Option ResponseIn
+front_response (front.Message body status) = Some (answered status body)
+front_response (front.Wrong fault) = Some Bad
+front_response front.More = None
 
 -- what was read of responses as an answer
 abbrev pub response_of : Came ℕ ⊤ → ResponseIn

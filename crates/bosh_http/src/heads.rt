@@ -73,6 +73,7 @@ pub(crate) trait Heads {
         ensures reads_more { (bytes more : List ℕ) (start content : ℕ) (said : Self.Said) → reads bytes start content said → reads (bytes ++ more) start content said }
         ensures denies_more { (bytes more : List ℕ) (fault : Self.Fault) → denies bytes fault → denies (bytes ++ more) fault }
         ensures is_short { (bytes : List ℕ) (start content : ℕ) (said : Self.Said) → reads bytes start content said → start + content ≤ longest_head + longest_content }
+        ensures is_there { (bytes : List ℕ) (start content : ℕ) (said : Self.Said) → reads bytes start content said → start ≤ length bytes }
         ensures begun_lacks { (bytes : List ℕ) → begins bytes → lacks bytes }
         ensures lacks_before { (seen : ℕ) (bytes : List ℕ) → lacks bytes → lacks (take seen bytes) }
         ensures lacks_on { (seen : ℕ) (bytes : List ℕ) → lacks (take seen bytes) → NoHeadEnds seen (length bytes) bytes → lacks bytes }

@@ -5,13 +5,13 @@ ghost use Rattle.bosh_ports.specs.Faults.{HasRisen};
 ghost use Rattle.bosh_http.specs.Heads.{IsHeadless, TellsOf};
 ghost use Rattle.bosh_http.specs.Scanning.{Scans};
 ghost use Rattle.bosh_http.specs.Taking.{TakesMore};
-ghost use Rattle.bosh_http.specs.Reader.{CameBy, CameOver, FrontBy, StandsAt};
+ghost use Rattle.bosh_http.specs.Reader.{CameBy, CameOver, FrontBy, OpenedBy, OpenedOver, OpensBy, PassesOn, StandsAt};
 ghost use Rattle.bosh_http.specs.declared.reader.Came.TheVariants as came;
 
 use crate::heads::{Head, Heads, Judged, judge};
 use crate::scan::Scan;
 use crate::taken::{Filled, Taken};
-use bosh_ports::Link;
+use bosh_ports::{Fed, Feed, Link};
 use bosh_types::Text;
 use httparse::spans::HeaderSpan;
 use std::alloc::{AllocError, Global};
@@ -45,6 +45,17 @@ pub(crate) enum Came<S, F> {
     Message { body: Text, said: S },
     Wrong(F),
     // The stream ended before a whole message.
+    Ended,
+    // The link failed.
+    Failed,
+}
+
+// What reading the next head off a link gives, where the head of a message is let go of.
+#[derive(Drop)]
+pub(crate) enum Opened<S, F> {
+    Head(Head<S>),
+    Wrong(F),
+    // The stream ended, and no head is whole.
     Ended,
     // The link failed.
     Failed,
@@ -219,6 +230,60 @@ impl<H: Heads> Reader<H> {
         self.stage = Stage::Scanning(H::scan());
     }
 
+    // What stands at the front, where its content is to be fed: the head of a message is let go of.
+    pub(crate) fn open(&mut self, is_all: bool) -> Result<Judged<H::Said, H::Fault>, AllocError>
+        ensures opens { IfOk result (OpensBy H.reads H.denies (IsHeadless H.lacks H.begins is_all) self.old self.new) }
+        ensures err { OnErr result (self.new ≡ self.old) }
+    {
+        match self.head(is_all)? {
+            Judged::Whole(head) => {
+                self.enter(&head);
+                Ok(Judged::Whole(head))
+            }
+            Judged::Wrong(fault) => Ok(Judged::Wrong(fault)),
+            Judged::Begun => Ok(Judged::Begun),
+        }
+    }
+
+    // Lets go of a head.
+    fn enter(&mut self, head: &Head<H::Said>)
+        requires { H.reads self.old head.now.start head.now.content head.now.said }
+        ensures there { head.now.start ≤ length self.old }
+        ensures kept { self.new ≡ drop head.now.start self.old }
+    {
+        H::laws();
+        self.taken.pass(head.start);
+        self.stage = Stage::Inside;
+    }
+
+    // Feeds what has come of a content, of which so many bytes are left, and says how many are left then.
+    pub(crate) fn feed<F: Feed>(&mut self, left: usize, feed: &mut F) -> Result<usize, AllocError>
+        ensures passes { IfOk result (PassesOn self.old self.new (F.fed feed.old) (F.fed feed.new) left) }
+        ensures same { OnErr result (self.new ≡ self.old) }
+        ensures unfed { OnErr result (F.fed feed.new ≡ F.fed feed.old) }
+    {
+        let count = left.min(self.taken.len());
+        match feed.piece(self.taken.as_slice().split_at(count).0) {
+            Fed::Done => {}
+            Fed::Memory => return Err(AllocError),
+        }
+        self.leave(count, count == left);
+        Ok(left - count)
+    }
+
+    // Lets go of a part of a content, which may be the last.
+    fn leave(&mut self, count: usize, is_last: bool)
+        requires { count ≤ length self.old }
+        ensures { self.new ≡ drop count self.old }
+    {
+        if is_last {
+            self.pass(count);
+            return;
+        }
+        self.taken.pass(count);
+        self.stage = Stage::Inside;
+    }
+
     // Reads the next message off a link.
     pub(crate) fn next<L: Link>(
         &mut self,
@@ -248,7 +313,7 @@ impl<H: Heads> Reader<H> {
     }
 
     // What is read where the link has come to its end.
-    fn last(&mut self, alloc: Global) -> Result<Came<H::Said, H::Fault>, AllocError>
+    pub(crate) fn last(&mut self, alloc: Global) -> Result<Came<H::Said, H::Fault>, AllocError>
         ensures came { IfOk result (CameBy H.reads H.denies H.lacks H.begins self.old self.new ⊤) }
         ensures failed { result ≢ Ok Came.Failed }
         ensures err { OnErr result (self.new ≡ self.old) }
@@ -257,6 +322,46 @@ impl<H: Heads> Reader<H> {
             Front::Message { body, said } => Ok(Came::Message { body, said }),
             Front::Wrong(fault) => Ok(Came::Wrong(fault)),
             Front::More => Ok(Came::Ended),
+        }
+    }
+
+    // Reads the next head off a link, and lets go of it.
+    pub(crate) fn next_head<L: Link>(
+        &mut self,
+        link: &mut L,
+    ) -> Result<Opened<H::Said, H::Fault>, AllocError>
+        ensures opened { IfOk result (OpenedOver H.reads H.denies H.lacks H.begins (L.left link.old) (L.left link.new) self.old self.new) }
+        ensures kept { OnErr result (TakesMore (L.left link.old) (L.left link.new) self.old self.new) }
+        ensures given { Keeps (L.given link.old) (L.given link.new) }
+        ensures fault { result ≡ Ok Opened.Failed → HasRisen (L.faults link.old) (L.faults link.new) }
+        ensures quiet { result ≢ Ok Opened.Failed → L.faults link.new ≡ L.faults link.old }
+        ensures faults { L.faults link.old ≤ L.faults link.new }
+    {
+        H::laws();
+        loop {
+            match self.open(false)? {
+                Judged::Whole(head) => return Ok(Opened::Head(head)),
+                Judged::Wrong(fault) => return Ok(Opened::Wrong(fault)),
+                Judged::Begun => {}
+            }
+            match self.fill(link)? {
+                Filled::More => {}
+                Filled::End => return self.last_head(),
+                Filled::Failed => return Ok(Opened::Failed),
+            }
+        }
+    }
+
+    // What is read where the link has come to its end.
+    fn last_head(&mut self) -> Result<Opened<H::Said, H::Fault>, AllocError>
+        ensures opened { IfOk result (OpenedBy H.reads H.denies H.lacks H.begins self.old self.new ⊤) }
+        ensures failed { result ≢ Ok Opened.Failed }
+        ensures err { OnErr result (self.new ≡ self.old) }
+    {
+        match self.open(true)? {
+            Judged::Whole(head) => Ok(Opened::Head(head)),
+            Judged::Wrong(fault) => Ok(Opened::Wrong(fault)),
+            Judged::Begun => Ok(Opened::Ended),
         }
     }
 }

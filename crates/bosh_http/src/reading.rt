@@ -1,9 +1,9 @@
 // Reading requests off a link.
-ghost use Rattle.std.specs.Prelude.{◌≡◌, ◌≢◌, ◌≤◌, [], IfOk, OnErr, Ok};
+ghost use Rattle.std.specs.Prelude.{◌≡◌, ◌≢◌, ◌≤◌, [], ◌++◌, ⊤, IfOk, OnErr, OnOk, Ok};
 ghost use Rattle.bosh_http.specs.Reading.{answer_of, ended_answer};
 
 use crate::judging::Requests;
-use crate::reader::{Came, Reader};
+use crate::reader::{Came, Front, Reader};
 use crate::refusal::HttpRefusal;
 use bosh_ports::Link;
 use bosh_types::Text;
@@ -28,7 +28,7 @@ pub enum HttpIn {
 /// that no request has given yet.
 #[derive(Drop)]
 pub struct RequestReader {
-    reader: Reader<Requests>,
+    pub(crate) reader: Reader<Requests>,
 }
 
 impl Model for RequestReader {
@@ -42,7 +42,7 @@ impl Model for RequestReader {
 impl RequestReader {
     ghost use Rattle.std.specs.Io.KnownBytes.{Keeps, prepend_known};
     ghost use Rattle.bosh_ports.specs.Faults.{HasRisen};
-    ghost use Rattle.bosh_http.specs.Reading.{Answers, Reads};
+    ghost use Rattle.bosh_http.specs.Reading.{Answers, AnswersBy, FrontGives, Reads};
     ghost use Rattle.bosh_http.specs.Taking.{TakesMore};
 
     /// Takes no memory.
@@ -52,6 +52,39 @@ impl RequestReader {
         RequestReader {
             reader: Reader::new(alloc),
         }
+    }
+
+    /// Takes these bytes, behind those that it has. An error is want of memory: none of them was taken.
+    pub fn give(&mut self, bytes: &[u8]) -> Result<(), AllocError>
+        ensures ok { OnOk result (self.new ≡ self.old ++ bytes.now) }
+        ensures err { OnErr result (self.new ≡ self.old) }
+    {
+        self.reader.give(bytes)
+    }
+
+    /// What the bytes that have come give, or nothing, where more are wanted. An error is want of memory.
+    pub fn front(&mut self, alloc: Global) -> Result<Option<HttpIn>, AllocError>
+        ensures front { IfOk result (FrontGives self.old self.new) }
+        ensures err { OnErr result (self.new ≡ self.old) }
+    {
+        match self.reader.front(alloc, false)? {
+            Front::Message { body, said } => Ok(Some(HttpIn::Request {
+                body,
+                closing: said,
+            })),
+            Front::Wrong(refusal) => Ok(Some(HttpIn::Refused(refusal))),
+            Front::More => Ok(None),
+        }
+    }
+
+    /// What the bytes that have come give, where no more come. An error is want of memory.
+    pub fn end(&mut self, alloc: Global) -> Result<HttpIn, AllocError>
+        ensures answers { IfOk result (AnswersBy self.old self.new ⊤) }
+        ensures fault { result ≢ Ok HttpIn.ReadFault }
+        ensures err { OnErr result (self.new ≡ self.old) }
+    {
+        let came = self.reader.last(alloc)?;
+        Ok(answer(came, self.reader.len()))
     }
 
     /// Reads the next request off a link, in whatever pieces its bytes come. An error is want of memory: the reader then has
@@ -93,7 +126,7 @@ fn answer(came: Came<bool, HttpRefusal>, count: usize) -> HttpIn
 
 // What is answered where the stream ended and no request is whole in so many bytes.
 #[tactic(auto, unfolding(crate::specs::Reading::ended_answer))]
-fn ended(count: usize) -> HttpIn
+pub(crate) fn ended(count: usize) -> HttpIn
     ensures { result ≡ ended_answer count }
 {
     match count {

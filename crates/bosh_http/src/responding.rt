@@ -1,9 +1,9 @@
 // Reading responses off a link.
-ghost use Rattle.std.specs.Prelude.{◌≡◌, ◌≢◌, ◌≤◌, [], IfOk, OnErr, Ok};
-ghost use Rattle.bosh_http.specs.Responding.{answered, response_of};
+ghost use Rattle.std.specs.Prelude.{◌≡◌, ◌≢◌, ◌≤◌, [], ◌++◌, ⊤, IfOk, OnErr, OnOk, Ok};
+ghost use Rattle.bosh_http.specs.Responding.{answered, front_response, response_of};
 
 use crate::heading::Responses;
-use crate::reader::{Came, Reader};
+use crate::reader::{Came, Front, Reader};
 use bosh_ports::Link;
 use bosh_types::Text;
 use http::StatusCode;
@@ -44,7 +44,7 @@ impl Model for ResponseReader {
 impl ResponseReader {
     ghost use Rattle.std.specs.Io.KnownBytes.{Keeps, prepend_known};
     ghost use Rattle.bosh_ports.specs.Faults.{HasRisen};
-    ghost use Rattle.bosh_http.specs.Responding.{Responds, ReadsBack};
+    ghost use Rattle.bosh_http.specs.Responding.{FrontResponds, Responds, RespondsBy, ReadsBack};
     ghost use Rattle.bosh_http.specs.Taking.{TakesMore};
 
     /// Takes no memory.
@@ -54,6 +54,33 @@ impl ResponseReader {
         ResponseReader {
             reader: Reader::new(alloc),
         }
+    }
+
+    /// Takes these bytes, behind those that it has. An error is want of memory: none of them was taken.
+    pub fn give(&mut self, bytes: &[u8]) -> Result<(), AllocError>
+        ensures ok { OnOk result (self.new ≡ self.old ++ bytes.now) }
+        ensures err { OnErr result (self.new ≡ self.old) }
+    {
+        self.reader.give(bytes)
+    }
+
+    /// What the bytes that have come give, or nothing, where more are wanted. An error is want of memory.
+    pub fn front(&mut self, alloc: Global) -> Result<Option<ResponseIn>, AllocError>
+        ensures front { IfOk result (FrontResponds self.old self.new) }
+        ensures err { OnErr result (self.new ≡ self.old) }
+    {
+        let front = self.reader.front(alloc, false)?;
+        Ok(front_answer(front))
+    }
+
+    /// What the bytes that have come give, where no more come. An error is want of memory.
+    pub fn end(&mut self, alloc: Global) -> Result<ResponseIn, AllocError>
+        ensures responds { IfOk result (RespondsBy self.old self.new ⊤) }
+        ensures fault { result ≢ Ok ResponseIn.ReadFault }
+        ensures err { OnErr result (self.new ≡ self.old) }
+    {
+        let came = self.reader.last(alloc)?;
+        Ok(answer(came))
     }
 
     /// Reads the next response off a link, in whatever pieces its bytes come. An error is want of memory: the reader then
@@ -75,6 +102,17 @@ impl ResponseReader {
     {
         let came = self.reader.next(alloc, link)?;
         Ok(answer(came))
+    }
+}
+
+// What stands at the front as an answer.
+fn front_answer(front: Front<StatusCode, ()>) -> Option<ResponseIn>
+    ensures { result ≡ front_response front }
+{
+    match front {
+        Front::Message { body, said } => Some(answered(said, body)),
+        Front::Wrong(()) => Some(ResponseIn::Bad),
+        Front::More => None,
     }
 }
 
