@@ -5,18 +5,25 @@ use bosh_ports::KeptContent;
 use std::alloc::Global;
 use std::test::Fail;
 
-// What a reader gives that is fed a text in pieces of one size: how many requests, and whether it ends between two.
+// How many requests stand at the front of a reader, of three at most.
+fn asked(reader: &mut RequestReader, alloc: Global) -> Result<usize, Fail> {
+    let mut count: usize = 0;
+    for _ in 0..3u32 {
+        match reader.front(alloc)? {
+            Some(HttpIn::Request { .. }) => count = count.saturating_add(1),
+            _ => return Ok(count),
+        }
+    }
+    Ok(count)
+}
+
+// What a reader gives that takes a text in pieces of one size: how many requests, and whether it ends between two.
 fn given_in_pieces(alloc: Global, text: &[u8], size: usize) -> Result<(usize, bool), Fail> {
     let mut reader = RequestReader::new(alloc);
     let mut count: usize = 0;
     for piece in text.chunks(size.max(1)) {
         reader.give(piece)?;
-        while let Some(answer) = reader.front(alloc)? {
-            match answer {
-                HttpIn::Request { .. } => count = count.saturating_add(1),
-                _ => return Ok((count, false)),
-            }
-        }
+        count = count.saturating_add(asked(&mut reader, alloc)?);
     }
     Ok((count, matches!(reader.end(alloc)?, HttpIn::End)))
 }
