@@ -3,8 +3,8 @@ use Rattle.std.proofs.Common.{◌≡◌, ℕ, ◌+◌, ◌-◌, ◌<◌, ◌≤�
 use Rattle.std.proofs.Math.Seq.{take-append_seam, drop-append_seam}
 use Rattle.std.proofs.lemmas.Bool.{cases_order}
 use Rattle.std.proofs.lemmas.List.{take-append-drop, take-take, drop-take}
-use Rattle.std.specs.List.{flat_map, list_any}
-use Rattle.httparse.specs.Grammar.{LineEnd, crlf, lf, print_end, Field, print_field, print_blank, print_version, print_reason, RequestHead, print_request, ReadsRequest, HasNoRequest, ResponseHead, print_response, ReadsResponse, HasNoResponse}
+use Rattle.std.specs.List.{flat_map}
+use Rattle.httparse.specs.Grammar.{LineEnd, crlf, lf, print_end, Field, print_field, print_blank, print_version, print_reason, RequestHead, print_request, HasNoRequest, ResponseHead, print_response, HasNoResponse}
 use Rattle.bosh_http.specs.Scanning.{is_text_byte, has_text, EndsHead, NoHeadEnds}
 
 text_right : (xs ys : List ℕ) → has_text ys ≡ true → has_text (xs ++ ys) ≡ true

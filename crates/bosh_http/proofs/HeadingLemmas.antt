@@ -1,7 +1,7 @@
 -- What the bytes at the front of a stream of responses tell.
 use Rattle.std.proofs.Common.{◌≡◌, ℕ, ◌+◌, ◌*◌, ◌≤◌, nat_lt, List, [], ◌∷◌, ◌++◌, Bool, true, false, All, if◌then◌else◌, length, map, take, drop, inl, inr, refl, sym, ◌∙◌, ap, subst, arith, append_assoc, append-nil, length-append, flat_map, true≢false}
 use Rattle.std.proofs.lemmas.Bool.Decides.{nat_tests}
-use Rattle.std.proofs.lemmas.List.{take-append-drop, take-append-le}
+use Rattle.std.proofs.lemmas.List.{take-append-le}
 use Rattle.httparse.specs.Grammar.{IsField, print_end, print_field, print_section, ResponseHead, print_response, status_code, HasNoResponse, NeverHasResponse}
 use Rattle.httparse.specs.Spans.{ResponseExceeds, IsResponseWithin, IsResponseOf, header_bytes}
 use Rattle.httparse.specs.declared.spans.HeaderSpan.{HeaderSpan}
@@ -9,10 +9,8 @@ use Rattle.httparse.specs.declared.spans.ResponseSpans.{ResponseSpans}
 use Rattle.httparse.proofs.GrammarLemmas.{ReadsResponse-append}
 use Rattle.bosh_http.specs.Fields.{has_too_many, has_transfer, has_no_length, has_bad_length, lengths_of, first_length}
 use Rattle.bosh_http.specs.Message.{longest_head, longest_content}
-use Rattle.bosh_http.specs.Response.{is_one_so, is_bad, response_fields, BeginsWithResponse, IsBadStream}
-use Rattle.bosh_http.specs.Responding.{IsHeaded, TellsResponse}
-use Rattle.bosh_http.specs.declared.heading.Headed.{Headed}
-use Rattle.bosh_http.specs.declared.heading.Headed.TheVariants.{Whole, Wrong, Unfinished}
+use Rattle.bosh_http.specs.Response.{is_one_so, is_bad, response_fields, BeginsWithResponse, IsBadStream, IsResponseBegun}
+use Rattle.bosh_http.specs.Heading.{IsHeaded}
 use Rattle.bosh_http.proofs.JudgingLemmas.{fields_size, longer}
 
 -- ---- a whole head
@@ -127,15 +125,5 @@ IsBadStream-append bytes more (inr (inl (long, none))) = inr (inl (
 ))
 IsBadStream-append bytes more (inr (inr (head, rest, begins, bad))) = inr (inr (head, rest ++ more, BeginsWithResponse-append bytes head rest more begins, bad))
 
-pub long_bad : (bytes front : List ℕ) (headed : Headed) → longest_head ≤ length bytes → front ≡ take longest_head bytes → headed ≡ Unfinished → TellsResponse front headed → IsBadStream bytes
-long_bad bytes front headed long is unfinished tells = inr (inl (long, subst HasNoResponse is (subst (TellsResponse front) unfinished tells).0))
-
--- what a front tells but that a head is unfinished, more bytes tell too
-TellsResponse-append : (bytes : List ℕ) (headed : Headed) (more : List ℕ) → ¬ (headed ≡ Unfinished) → TellsResponse bytes headed → TellsResponse (bytes ++ more) headed
-TellsResponse-append bytes (Whole start content status) more decided tells = IsHeaded-append bytes start content status more tells
-TellsResponse-append bytes Wrong more decided tells = IsBadStream-append bytes more tells
-TellsResponse-append bytes Unfinished more decided tells = absurd (decided refl)
-
-pub front_heads : (bytes front : List ℕ) (headed : Headed) → front ≡ take longest_head bytes → ¬ (headed ≡ Unfinished) → TellsResponse front headed → TellsResponse bytes headed
-front_heads bytes front headed is decided tells =
-    subst (λ b. TellsResponse b headed) (ap (λ f. f ++ drop longest_head bytes) is ∙ take-append-drop longest_head bytes) (TellsResponse-append front headed (drop longest_head bytes) decided tells)
+pub long_bad : (bytes : List ℕ) → longest_head ≤ length bytes → IsResponseBegun (take longest_head bytes) → IsBadStream bytes
+long_bad bytes long begun = inr (inl (long, begun.0))

@@ -1,7 +1,7 @@
 -- What the bytes at the front of a stream tell.
 use Rattle.std.proofs.Common.{◌≡◌, ℕ, ◌+◌, ◌*◌, ◌≤◌, nat_lt, List, [], ◌∷◌, ◌++◌, Bool, true, false, Option, Some, None, All, if◌then◌else◌, length, map, take, drop, inl, inr, refl, sym, ◌∙◌, ap, subst, arith, add-one, append_assoc, append-nil, length-append, flat_map}
 use Rattle.std.proofs.lemmas.Bool.Decides.{nat_tests}
-use Rattle.std.proofs.lemmas.List.{take-append-drop, take-append-le}
+use Rattle.std.proofs.lemmas.List.{take-append-le}
 use Rattle.std.proofs.lemmas.List.Elements.{All-head, All-tail}
 use Rattle.httparse.specs.Grammar.{LineEnd, crlf, lf, print_end, Field, IsField, print_field, print_section, RequestHead, print_request, ReadsRequest, NeverHasRequest}
 use Rattle.httparse.specs.Spans.{RequestExceeds, IsRequestWithin, IsRequestOf, header_bytes, span_bytes}
@@ -9,12 +9,10 @@ use Rattle.httparse.specs.declared.spans.HeaderSpan.{HeaderSpan}
 use Rattle.httparse.specs.declared.spans.RequestSpans.{RequestSpans}
 use Rattle.httparse.proofs.GrammarLemmas.{ReadsRequest-append}
 use Rattle.bosh_http.specs.Fields.{has_bad_length, lengths_of, first_length, is_closing}
-use Rattle.bosh_http.specs.Judging.{IsServed, IsRefusedBy, Tells}
+use Rattle.bosh_http.specs.Judging.{IsServed, IsRefusedBy}
 use Rattle.bosh_http.specs.Message.{longest_head, longest_content, content_length, fields_of, first_reason, reasons_of, refusal_of, BeginsWith, HasRefusedHead, BeginsNoHead, IsHeadBegun}
 use Rattle.bosh_http.specs.Target.{ends_in_target}
 use Rattle.bosh_http.specs.declared.refusal.HttpRefusal.{HttpRefusal}
-use Rattle.bosh_http.specs.declared.judging.Judged.{Judged}
-use Rattle.bosh_http.specs.declared.judging.Judged.TheVariants.{Served, Refused, Begun}
 use Rattle.bosh_http.specs.declared.refusal.HttpRefusal.TheVariants.{Cut, Malformed, HeadTooLarge, BadHost, Method, Path, Transfer, Encoding, NoLength, BadLength, TooLong}
 use Rattle.bosh_http.proofs.TargetLemmas.{in_target, not_in_target}
 
@@ -132,8 +130,8 @@ whole_served front all headers spans method target content closing short within 
 
 -- ---- the first 8192 bytes of more
 
-pub front_begun : (bytes front : List ℕ) (judged : Judged) → longest_head ≤ length bytes → front ≡ take longest_head bytes → judged ≡ Begun → Tells front judged → IsRefusedBy bytes HeadTooLarge
-front_begun bytes front judged long is begun tells = (tt, inl (long, subst IsHeadBegun is (subst (Tells front) begun tells)))
+pub begun_too_long : (bytes : List ℕ) → longest_head ≤ length bytes → IsHeadBegun (take longest_head bytes) → IsRefusedBy bytes HeadTooLarge
+begun_too_long bytes long begun = (tt, inl (long, begun))
 
 -- ---- no head of 8192 bytes has more fields than there is room for
 
@@ -210,16 +208,6 @@ IsRefusedBy-append bytes Encoding more (settled, refused) = (tt, refused_head by
 IsRefusedBy-append bytes NoLength more (settled, refused) = (tt, refused_head bytes NoLength more refused)
 IsRefusedBy-append bytes BadLength more (settled, refused) = (tt, refused_head bytes BadLength more refused)
 IsRefusedBy-append bytes TooLong more (settled, refused) = (tt, refused_head bytes TooLong more refused)
-
--- what a front tells but that a head is begun, more bytes tell too
-pub Tells-append : (bytes : List ℕ) (judged : Judged) (more : List ℕ) → ¬ (judged ≡ Begun) → Tells bytes judged → Tells (bytes ++ more) judged
-Tells-append bytes (Served start content closing) more decided tells = IsServed-append bytes start content closing more tells
-Tells-append bytes (Refused refusal) more decided tells = IsRefusedBy-append bytes refusal more tells
-Tells-append bytes Begun more decided tells = absurd (decided refl)
-
-pub front_tells : (bytes front : List ℕ) (judged : Judged) → front ≡ take longest_head bytes → ¬ (judged ≡ Begun) → Tells front judged → Tells bytes judged
-front_tells bytes front judged is decided tells =
-    subst (λ b. Tells b judged) (ap (λ f. f ++ drop longest_head bytes) is ∙ take-append-drop longest_head bytes) (Tells-append front judged (drop longest_head bytes) decided tells)
 
 -- a message that is served is short
 pub served_is_short : (bytes : List ℕ) (start content : ℕ) (closing : Bool) → IsServed bytes start content closing → start + content ≤ longest_head + longest_content

@@ -1,6 +1,8 @@
+pub mod FeedingLemmas
 pub mod HeadingLemmas
 pub mod JudgingLemmas
 pub mod MessageLemmas
+pub mod ReaderLemmas
 pub mod ReadingLemmas
 pub mod RespondingLemmas
 pub mod Rows

@@ -1,18 +1,22 @@
 -- Reading the next request.
-use Rattle.std.proofs.Common.{◌≡◌, ℕ, ◌+◌, ◌-◌, ◌<◌, ◌≤◌, ◌==◌, true, false, if◌then◌else◌, List, [], ◌++◌, Bool, Option, None, Some, length, take, drop, inl, inr, refl, sym, ◌∙◌, ap, ap₂, subst, arith, append_assoc, append-nil, length-append}
+use Rattle.std.proofs.Common.{◌≡◌, ℕ, ◌+◌, ◌-◌, ◌<◌, ◌≤◌, ◌⊎◌, ◌==◌, true, false, if◌then◌else◌, List, [], ◌++◌, Bool, Option, None, Some, length, take, drop, inl, inr, refl, sym, ◌∙◌, ap, ap₂, subst, arith, append_assoc, append-nil, length-append}
 use Rattle.std.proofs.Math.Seq.{drop-append_seam, drop-append-le}
 use Rattle.std.proofs.lemmas.List.{take-append-le, nil_from_length}
 use Rattle.std.proofs.lemmas.Bool.{eqb-true}
 use Rattle.std.proofs.lemmas.Bool.Decides.{nat_tests}
-use Rattle.std.proofs.KnownBytes.{Consumes-kept, Consumes-whole, Consumes-trans}
-use Rattle.std.specs.Io.KnownBytes.{Consumes, Keeps, IsAtEnd, prepend_known}
-use Rattle.httparse.specs.Grammar.{RequestHead, print_request, print_section, print_end}
-use Rattle.bosh_http.specs.Judging.{IsServed}
-use Rattle.bosh_http.specs.Message.{longest_head, content_length, EndsInContent, IsHeadBegun, IsRequestMessage, IsRefused}
-use Rattle.bosh_http.specs.Reading.{IsAllOf, AnswersBy, Answers, Reads}
+use Rattle.std.specs.Io.KnownBytes.{Keeps, prepend_known}
+use Rattle.httparse.specs.Grammar.{RequestHead, print_request, print_section, print_end, HasNoRequest}
+use Rattle.bosh_http.specs.Heads.{IsHeadless}
+use Rattle.bosh_http.specs.Judging.{IsServed, IsRefusedBy}
+use Rattle.bosh_http.specs.Message.{content_length, EndsInContent, IsHeadBegun, IsRequestMessage, IsRefused}
+use Rattle.bosh_http.specs.Reader.{HasMessage, WantsContent, CameBy, CameOver}
+use Rattle.bosh_http.specs.Reading.{IsAllOf, GivesNothing, AnswersBy, Answers, answer_of, ended_answer, Reads}
 use Rattle.bosh_http.specs.Taking.{TakesMore}
+use Rattle.bosh_http.specs.declared.reader.Came.{Came}
+use Rattle.bosh_http.specs.declared.reader.Came.TheVariants as came
 use Rattle.bosh_http.specs.declared.reading.HttpIn.{HttpIn}
 use Rattle.bosh_http.specs.declared.reading.HttpIn.TheVariants.{Request, Refused, End, ReadFault}
+use Rattle.bosh_http.specs.declared.refusal.HttpRefusal.{HttpRefusal}
 use Rattle.bosh_http.specs.declared.refusal.HttpRefusal.TheVariants.{Cut}
 use Rattle.bosh_http.proofs.JudgingLemmas.{IsRefusedBy-append, BeginsWith-append, end_size}
 
@@ -26,6 +30,10 @@ rest_of bytes start content closing served =
       ap₂ (λ n b. drop n b) served.start_is parts ∙ drop-append_seam text served.rest,
       ap length parts ∙ length-append text served.rest ∙ ap (λ n. n + length served.rest) (sym served.start_is),
     )
+
+-- the head is there
+pub served_is_there : (bytes : List ℕ) (start content : ℕ) (closing : Bool) → IsServed bytes start content closing → start ≤ length bytes
+served_is_there bytes start content closing served = omega (arith, (rest_of bytes start content closing served).1)
 
 pub message_is : (bytes body : List ℕ) (start content : ℕ) (closing : Bool) → IsServed bytes start content closing → start + content ≤ length bytes → body ≡ take (start + content - start) (drop start bytes) → IsRequestMessage bytes (start + content) body closing
 message_is bytes body start content closing served whole body_is =
@@ -42,6 +50,12 @@ message_is bytes body start content closing served whole body_is =
       closing_is = served.closing_is;
     }
 
+pub some_left : (n : ℕ) → (n == 0) ≡ false → 0 < n
+some_left n is = grind (arith, nat_tests)
+
+some_size : (n : ℕ) → 0 < n → (n == 0) ≡ false
+some_size n is = grind (arith, nat_tests)
+
 -- a head has some bytes
 some_head : (h : RequestHead) → 0 < length (print_request h)
 unfolding print_request
@@ -50,39 +64,20 @@ some_head h = longer _ (print_section h.fields h.last) (longer _ (print_end h.la
     longer : (front rest : List ℕ) → 1 ≤ length rest → 0 < length (front ++ rest)
     longer front rest some = omega (arith, some, length-append front rest)
 
--- the content is cut short
-pub content_cut : (bytes : List ℕ) (start content count : ℕ) (closing : Bool) → IsServed bytes start content closing → length bytes < start + content → count ≡ length bytes → IsRefused bytes (Cut count)
-content_cut bytes start content count closing served short count_is =
-    let rest = rest_of bytes start content closing served in
-    let some : 0 < length (print_request served.head) = some_head served.head in (
-      count_is,
-      omega (arith, count_is, rest.1, served.start_is, some),
-      inr (served.head, served.rest, served.begins, served.served, omega (arith, short, rest.1, served.content_is)),
-    )
+-- some of the content is to come
+pub content_to_come : (bytes : List ℕ) → WantsContent IsServed bytes → EndsInContent bytes
+content_to_come bytes w =
+    let rest = rest_of bytes w.start w.content w.said w.reads in
+    (w.reads.head, w.reads.rest, w.reads.begins, w.reads.served, omega (arith, w.short, rest.1, w.reads.content_is))
 
--- some of it is to come
-pub content_to_come : (bytes : List ℕ) (start content : ℕ) (closing : Bool) → IsServed bytes start content closing → length bytes < start + content → EndsInContent bytes
-content_to_come bytes start content closing served short =
-    let rest = rest_of bytes start content closing served in
-    (served.head, served.rest, served.begins, served.served, omega (arith, short, rest.1, served.content_is))
+-- and some bytes have come
+pub some_came : (bytes : List ℕ) → WantsContent IsServed bytes → 0 < length bytes
+some_came bytes w =
+    let rest = rest_of bytes w.start w.content w.said w.reads in
+    let some : 0 < length (print_request w.reads.head) = some_head w.reads.head in
+    omega (arith, rest.1, w.reads.start_is, some)
 
 -- ---- answers
-
-pub answers_from : (left left' : Option (List ℕ)) (kept now kept' : List ℕ) (answer : HttpIn) → (takes : TakesMore left left' kept now) → AnswersBy now kept' (IsAllOf left takes.0) answer → Answers left left' kept kept' answer
-answers_from left left' kept now kept' answer takes by = (takes.0, takes.1, subst (λ seen. AnswersBy seen kept' (IsAllOf left takes.0) answer) takes.2 by)
-
--- the link came to its end
-pub answers_at_end : (left mid left' : Option (List ℕ)) (kept now kept' : List ℕ) (answer : HttpIn) → TakesMore left mid kept now → IsAtEnd mid → Keeps mid left' → ((all : Type 0) → all → AnswersBy now kept' all answer) → Answers left left' kept kept' answer
-answers_at_end left mid left' kept now kept' answer takes end keeps by = (
-  takes.0,
-  Consumes-kept left mid left' takes.0 takes.1 keeps,
-  subst (λ seen. AnswersBy seen kept' (IsAllOf left takes.0) answer) takes.2 (by (IsAllOf left takes.0) (Consumes-whole left mid takes.0 (λ bytes. takes.0 ≡ bytes) takes.1 end refl)),
-)
-
-pub all_taken : (left mid : Option (List ℕ)) (x y : List ℕ) → Consumes left mid x → IsAllOf mid y → IsAllOf left (x ++ y)
-all_taken None mid x y first all = tt
-all_taken (Some xs) None x y first all = absurd first
-all_taken (Some xs) (Some ys) x y first all = ap (λ r. x ++ r) all ∙ sym first
 
 all_before : (answer : HttpIn) (seen kept' : List ℕ) (P Q : Type 0) → (P → Q) → AnswersBy seen kept' P answer → AnswersBy seen kept' Q answer
 all_before (Request body closing) seen kept' P Q f by = by
@@ -91,22 +86,46 @@ all_before (Refused refusal) seen kept' P Q f (refused, inr all, kept) = (refuse
 all_before End seen kept' P Q f (none, all, kept) = (none, f all, kept)
 all_before ReadFault seen kept' P Q f by = by
 
--- more was taken before
-pub answers_later : (left mid left' : Option (List ℕ)) (kept now kept' : List ℕ) (answer : HttpIn) → TakesMore left mid kept now → Answers mid left' now kept' answer → Answers left left' kept kept' answer
-answers_later left mid left' kept now kept' answer (x, first, is) (y, then', by) = (
-  x ++ y,
-  Consumes-trans left mid left' x y first then',
-  all_before answer (kept ++ (x ++ y)) kept' (IsAllOf mid y) (IsAllOf left (x ++ y)) (all_taken left mid x y first)
-      (subst (λ seen. AnswersBy seen kept' (IsAllOf mid y) answer) (ap (λ k. k ++ y) is ∙ append_assoc kept x y) by),
-)
+-- ---- what the reader of all kinds gives, as an answer
 
--- what is answered where no head is whole at the end of the stream
-pub ended_answer : (now : List ℕ) (all : Type 0) (none : Bool) → (length now == 0) ≡ none → IsHeadBegun now → length now < longest_head → all → AnswersBy now now all (if none then End else Refused (Cut (length now)))
-ended_answer now all true is begun short a = let nothing : now ≡ [] = nil_from_length now (eqb-true (length now) 0 is) in (nothing, a, nothing)
-ended_answer now all false is begun short a = ((refl, some (length now) is, inl (short, begun)), inr a, refl)
+request_at : (bytes body : List ℕ) (closing : Bool) (kept : List ℕ) → HasMessage IsServed bytes body closing kept → (count : ℕ) × IsRequestMessage bytes count body closing × (kept ≡ drop count bytes)
+request_at bytes body closing kept m = (m.start + m.content, message_is bytes body m.start m.content closing m.reads m.whole m.body_is, m.kept_is)
+
+pub gives_nothing : (is_all : Bool) (bytes : List ℕ) → IsHeadless HasNoRequest IsHeadBegun is_all bytes ⊎ WantsContent IsServed bytes → GivesNothing bytes
+gives_nothing is_all bytes (inl headless) = inl (headless.short, headless.lacks)
+gives_nothing is_all bytes (inr wants) = inr (content_to_come bytes wants)
+
+-- what is answered where the stream ended and no request is whole
+pub ended_by : (bytes : List ℕ) (all : Type 0) → IsHeadless HasNoRequest IsHeadBegun true bytes ⊎ WantsContent IsServed bytes → all → AnswersBy bytes bytes all (ended_answer (length bytes))
+unfolding ended_answer
+ended_by bytes all (inl headless) a = by_size (length bytes == 0) refl
   where
-    some : (n : ℕ) → (n == 0) ≡ false → 0 < n
-    some n is = grind (arith, nat_tests)
+    by_size : (none : Bool) → (length bytes == 0) ≡ none → AnswersBy bytes bytes all (if none then End else Refused (Cut (length bytes)))
+    by_size true is = let nothing : bytes ≡ [] = nil_from_length bytes (eqb-true (length bytes) 0 is) in (nothing, a, nothing)
+    by_size false is = ((refl, some_left (length bytes) is, inl (headless.short, headless.begins refl)), inr a, refl)
+ended_by bytes all (inr wants) a =
+    rw (some_size (length bytes) (some_came bytes wants)) ((refl, some_came bytes wants, inr (content_to_come bytes wants)), inr a, refl)
+
+pub answers_by : (seen kept : List ℕ) (all : Type 0) (what : Came Bool HttpRefusal) → CameBy IsServed IsRefusedBy HasNoRequest IsHeadBegun seen kept all what → AnswersBy seen kept all (answer_of (length kept) what)
+answers_by seen kept all (came.Message body closing) by = request_at seen body closing kept by
+answers_by seen kept all (came.Wrong refusal) (denied, same) = (denied.1, inl denied.0, same)
+answers_by seen kept all came.Ended (ended, is, same) = subst (λ k. AnswersBy seen k all (ended_answer (length k))) (sym same) (ended_by seen all ended is)
+answers_by seen kept all came.Failed (failed, same) = (gives_nothing false seen failed, same)
+
+pub answers_of : (left left' : Option (List ℕ)) (kept kept' : List ℕ) (what : Came Bool HttpRefusal) → CameOver IsServed IsRefusedBy HasNoRequest IsHeadBegun left left' kept kept' what → Answers left left' kept kept' (answer_of (length kept') what)
+answers_of left left' kept kept' what (taken, is, by) = (taken, is, answers_by (kept ++ taken) kept' (IsAllOf left taken) what by)
+
+-- only a failed link gives the answer that says so
+pub fault_of : (count : ℕ) (what : Came Bool HttpRefusal) → answer_of count what ≡ ReadFault → what ≡ came.Failed
+unfolding ended_answer
+fault_of count (came.Message body closing) is = cc is
+fault_of count (came.Wrong refusal) is = cc is
+fault_of count came.Ended is = absurd (by_size (count == 0) is)
+  where
+    by_size : (none : Bool) → ¬ ((if none then End else Refused (Cut count)) ≡ ReadFault)
+    by_size true is = cc is
+    by_size false is = cc is
+fault_of count came.Failed is = refl
 
 -- ---- the answer by the whole rest of the stream
 

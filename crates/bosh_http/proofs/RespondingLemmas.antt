@@ -1,18 +1,25 @@
 -- Reading the next response.
-use Rattle.std.proofs.Common.{◌≡◌, ℕ, ◌+◌, ◌-◌, ◌≤◌, List, [], ◌++◌, Option, None, Some, length, take, drop, sym, ◌∙◌, ap, ap₂, subst, arith, append_assoc, append-nil, length-append, refl}
+use Rattle.std.proofs.Common.{◌≡◌, ◌≢◌, ℕ, ◌+◌, ◌-◌, ◌≤◌, ◌⊎◌, ◌==◌, Bool, true, false, if◌then◌else◌, List, [], ◌++◌, Option, None, Some, length, take, drop, inl, inr, sym, ◌∙◌, ap, ap₂, subst, arith, append_assoc, append-nil, length-append, refl}
 use Rattle.std.proofs.Math.Seq.{drop-append_seam, drop-append-le}
+use Rattle.std.proofs.lemmas.Bool.{eqb-true}
+use Rattle.std.proofs.lemmas.Bool.Decides.{nat_tests}
 use Rattle.std.proofs.lemmas.List.{take-append-le, nil_from_length}
-use Rattle.std.proofs.KnownBytes.{Consumes-kept, Consumes-whole, Consumes-trans}
-use Rattle.std.specs.Io.KnownBytes.{Keeps, IsAtEnd, prepend_known}
-use Rattle.httparse.specs.Grammar.{print_response}
+use Rattle.std.specs.Prelude.{⊤}
+use Rattle.std.specs.Io.KnownBytes.{prepend_known}
+use Rattle.httparse.specs.Grammar.{print_response, HasNoResponse}
+use Rattle.bosh_http.specs.Heading.{IsHeaded}
+use Rattle.bosh_http.specs.Heads.{IsHeadless}
+use Rattle.bosh_http.specs.Reader.{HasMessage, WantsContent, FrontBy, CameBy, CameOver}
 use Rattle.bosh_http.specs.Reading.{IsAllOf}
-use Rattle.bosh_http.specs.Response.{response_length, IsResponseMessage, EndsEarly}
-use Rattle.bosh_http.specs.Responding.{IsHeaded, RespondsBy, Responds, ReadsBack}
-use Rattle.bosh_http.specs.Taking.{TakesMore}
+use Rattle.bosh_http.specs.Response.{response_length, IsResponseMessage, IsBadStream, IsResponseBegun, EndsInResponse, EndsEarly}
+use Rattle.bosh_http.specs.Responding.{FrontResponds, GivesNoResponse, RespondsBy, Responds, answered, front_response, response_of, ReadsBack}
+use Rattle.bosh_http.specs.declared.reader.Came.{Came}
+use Rattle.bosh_http.specs.declared.reader.Came.TheVariants as came
+use Rattle.bosh_http.specs.declared.reader.Front.{Front}
+use Rattle.bosh_http.specs.declared.reader.Front.TheVariants as front
 use Rattle.bosh_http.specs.declared.responding.ResponseIn.{ResponseIn}
 use Rattle.bosh_http.specs.declared.responding.ResponseIn.TheVariants.{Body, Status, Bad, End, ReadFault}
 use Rattle.bosh_http.proofs.HeadingLemmas.{IsBadStream-append, BeginsWithResponse-append}
-use Rattle.bosh_http.proofs.ReadingLemmas.{all_taken}
 
 -- ---- a whole head, and its content
 
@@ -25,7 +32,11 @@ rest_of bytes start content status headed =
       ap length parts ∙ length-append text headed.rest ∙ ap (λ n. n + length headed.rest) (sym headed.start_is),
     )
 
-pub response_is : (bytes body : List ℕ) (start content status : ℕ) → IsHeaded bytes start content status → start + content ≤ length bytes → body ≡ take (start + content - start) (drop start bytes) → IsResponseMessage bytes (start + content) status body
+-- the head is there
+pub headed_is_there : (bytes : List ℕ) (start content status : ℕ) → IsHeaded bytes start content status → start ≤ length bytes
+headed_is_there bytes start content status headed = omega (arith, (rest_of bytes start content status headed).1)
+
+response_is : (bytes body : List ℕ) (start content status : ℕ) → IsHeaded bytes start content status → start + content ≤ length bytes → body ≡ take (start + content - start) (drop start bytes) → IsResponseMessage bytes (start + content) status body
 response_is bytes body start content status headed whole body_is =
     let rest = rest_of bytes start content status headed in
     let size : start + content - start ≡ response_length headed.head = omega (arith, headed.content_is) in
@@ -42,17 +53,6 @@ response_is bytes body start content status headed whole body_is =
 
 -- ---- answers
 
-pub responds_from : (left left' : Option (List ℕ)) (kept now kept' : List ℕ) (answer : ResponseIn) → (takes : TakesMore left left' kept now) → RespondsBy now kept' (IsAllOf left takes.0) answer → Responds left left' kept kept' answer
-responds_from left left' kept now kept' answer takes by = (takes.0, takes.1, subst (λ seen. RespondsBy seen kept' (IsAllOf left takes.0) answer) takes.2 by)
-
--- the link came to its end
-pub responds_at_end : (left mid left' : Option (List ℕ)) (kept now kept' : List ℕ) (answer : ResponseIn) → TakesMore left mid kept now → IsAtEnd mid → Keeps mid left' → ((all : Type 0) → all → RespondsBy now kept' all answer) → Responds left left' kept kept' answer
-responds_at_end left mid left' kept now kept' answer takes end keeps by = (
-  takes.0,
-  Consumes-kept left mid left' takes.0 takes.1 keeps,
-  subst (λ seen. RespondsBy seen kept' (IsAllOf left takes.0) answer) takes.2 (by (IsAllOf left takes.0) (Consumes-whole left mid takes.0 (λ bytes. takes.0 ≡ bytes) takes.1 end refl)),
-)
-
 all_before : (answer : ResponseIn) (seen kept' : List ℕ) (P Q : Type 0) → (P → Q) → RespondsBy seen kept' P answer → RespondsBy seen kept' Q answer
 all_before (Body body) seen kept' P Q f by = by
 all_before (Status status) seen kept' P Q f by = by
@@ -60,14 +60,64 @@ all_before Bad seen kept' P Q f by = by
 all_before End seen kept' P Q f (early, all, kept) = (early, f all, kept)
 all_before ReadFault seen kept' P Q f by = by
 
--- more was taken before
-pub responds_later : (left mid left' : Option (List ℕ)) (kept now kept' : List ℕ) (answer : ResponseIn) → TakesMore left mid kept now → Responds mid left' now kept' answer → Responds left left' kept kept' answer
-responds_later left mid left' kept now kept' answer (x, first, is) (y, then', by) = (
-  x ++ y,
-  Consumes-trans left mid left' x y first then',
-  all_before answer (kept ++ (x ++ y)) kept' (IsAllOf mid y) (IsAllOf left (x ++ y)) (all_taken left mid x y first)
-      (subst (λ seen. RespondsBy seen kept' (IsAllOf mid y) answer) (ap (λ k. k ++ y) is ∙ append_assoc kept x y) by),
-)
+-- ---- what the reader of all kinds gives, as an answer
+
+-- the stream ends inside the content
+ends_inside : (bytes : List ℕ) → WantsContent IsHeaded bytes → EndsInResponse bytes
+ends_inside bytes w =
+    let rest = rest_of bytes w.start w.content w.said w.reads in
+    (w.reads.head, w.reads.rest, w.reads.begins, w.reads.good, omega (arith, w.short, rest.1, w.reads.content_is))
+
+pub gives_no_response : (is_all : Bool) (bytes : List ℕ) → IsHeadless HasNoResponse IsResponseBegun is_all bytes ⊎ WantsContent IsHeaded bytes → GivesNoResponse bytes
+gives_no_response is_all bytes (inl headless) = inl (headless.short, headless.lacks)
+gives_no_response is_all bytes (inr wants) = inr (ends_inside bytes wants)
+
+pub ends_early : (bytes : List ℕ) → IsHeadless HasNoResponse IsResponseBegun true bytes ⊎ WantsContent IsHeaded bytes → EndsEarly bytes
+ends_early bytes (inl headless) = inl (headless.short, headless.begins refl)
+ends_early bytes (inr wants) = inr (ends_inside bytes wants)
+
+message_by : (bytes body : List ℕ) (status : ℕ) (kept : List ℕ) (all : Type 0) → HasMessage IsHeaded bytes body status kept → RespondsBy bytes kept all (answered status body)
+unfolding answered
+message_by bytes body status kept all m = by_status (status == 200) refl
+  where
+    message : IsResponseMessage bytes (m.start + m.content) status body
+    message = response_is bytes body m.start m.content status m.reads m.whole m.body_is
+
+    by_status : (is_ok : Bool) → (status == 200) ≡ is_ok → RespondsBy bytes kept all (if is_ok then Body body else Status status)
+    by_status true is = (m.start + m.content, subst (λ s. IsResponseMessage bytes (m.start + m.content) s body) (eqb-true status 200 is) message, m.kept_is)
+    by_status false is = (λ ok. other status is ok, m.start + m.content, body, message, m.kept_is)
+      where
+        other : (n : ℕ) → (n == 200) ≡ false → n ≢ 200
+        other n is ok = grind (arith, nat_tests)
+
+pub responds_by : (seen kept : List ℕ) (all : Type 0) (what : Came ℕ ⊤) → CameBy IsHeaded (λ bytes fault. IsBadStream bytes) HasNoResponse IsResponseBegun seen kept all what → RespondsBy seen kept all (response_of what)
+responds_by seen kept all (came.Message body status) by = message_by seen body status kept all by
+responds_by seen kept all (came.Wrong fault) by = by
+responds_by seen kept all came.Ended (ended, is, same) = (ends_early seen ended, is, same)
+responds_by seen kept all came.Failed (failed, same) = (gives_no_response false seen failed, same)
+
+pub responds_of : (left left' : Option (List ℕ)) (kept kept' : List ℕ) (what : Came ℕ ⊤) → CameOver IsHeaded (λ bytes fault. IsBadStream bytes) HasNoResponse IsResponseBegun left left' kept kept' what → Responds left left' kept kept' (response_of what)
+responds_of left left' kept kept' what (taken, is, by) = (taken, is, responds_by (kept ++ taken) kept' (IsAllOf left taken) what by)
+
+answered_is : (status : ℕ) (body : List ℕ) → answered status body ≢ ReadFault
+unfolding answered
+answered_is status body = by_status (status == 200)
+  where
+    by_status : (is_ok : Bool) → ¬ ((if is_ok then Body body else Status status) ≡ ReadFault)
+    by_status true is = cc is
+    by_status false is = cc is
+
+pub front_responds : (seen kept : List ℕ) (what : Front ℕ ⊤) → FrontBy IsHeaded (λ bytes fault. IsBadStream bytes) (IsHeadless HasNoResponse IsResponseBegun false) seen kept what → FrontResponds seen kept (front_response what)
+front_responds seen kept (front.Message body status) by = (message_by seen body status kept ⊥ by, answered_is status body)
+front_responds seen kept (front.Wrong fault) by = (by, λ is. cc is)
+front_responds seen kept front.More (wants, same) = (gives_no_response false seen wants, same)
+
+-- only a failed link gives the answer that says so
+pub response_fault : (what : Came ℕ ⊤) → response_of what ≡ ReadFault → what ≡ came.Failed
+response_fault (came.Message body status) is = absurd (answered_is status body is)
+response_fault (came.Wrong fault) is = cc is
+response_fault came.Ended is = cc is
+response_fault came.Failed is = refl
 
 -- ---- the answer by the whole rest of the stream
 

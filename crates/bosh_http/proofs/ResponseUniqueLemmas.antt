@@ -1,5 +1,5 @@
 -- One stream is read as one response, or is none in one way.
-use Rattle.std.proofs.Common.{◌≡◌, ℕ, ◌+◌, ◌<◌, List, [], ◌++◌, true, false, length, take, inl, inr, sym, ◌∙◌, ap, ap₂, subst, arith, append_assoc}
+use Rattle.std.proofs.Common.{◌≡◌, ℕ, ◌+◌, List, [], ◌++◌, true, false, length, take, inl, inr, sym, ◌∙◌, ap, ap₂, subst, arith, append_assoc}
 use Rattle.httparse.specs.Grammar.{ResponseHead, print_response, status_code, ReadsResponse, HasNoResponse}
 use Rattle.httparse.proofs.GrammarLemmas.{response_unique}
 use Rattle.bosh_http.specs.Message.{longest_head}

@@ -1,9 +1,8 @@
 -- The scan of a head is due at each byte that ends one.
-use Rattle.std.proofs.Common.{◌≡◌, ℕ, ◌+◌, ◌-◌, ◌<◌, ◌≤◌, ◌⊎◌, ◌==◌, ◌||◌, not, Bool, true, false, if◌then◌else◌, List, [], ◌∷◌, ◌++◌, length, take, get_or, inl, inr, refl, sym, ◌∙◌, ap, subst, arith, append_assoc, length-append}
+use Rattle.std.proofs.Common.{◌≡◌, ℕ, ◌+◌, ◌<◌, ◌⊎◌, ◌==◌, ◌||◌, not, Bool, true, false, if◌then◌else◌, List, [], ◌∷◌, ◌++◌, length, take, get_or, inl, inr, refl, sym, ◌∙◌, ap, subst, arith, append_assoc, length-append}
 use Rattle.std.proofs.Math.Seq.{take-append_seam}
 use Rattle.std.proofs.lemmas.Bool.Decides.{nat_tests}
-use Rattle.std.proofs.lemmas.List.{take_more, take-append-le, append_cancel_right}
-use Rattle.std.specs.List.{list_any}
+use Rattle.std.proofs.lemmas.List.{take_more, take-append-le}
 use Rattle.httparse.specs.Grammar.{is_token_byte, is_uri_byte, is_value_byte}
 use Rattle.bosh_http.specs.declared.scan.Place.{Place}
 use Rattle.bosh_http.specs.declared.scan.Place.TheVariants.{Before, BeforeReturn, MethodStart, Method, Target, Line, LineStart, Name, Value, Return, Anywhere}

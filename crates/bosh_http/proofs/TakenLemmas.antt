@@ -1,43 +1,29 @@
--- Taking more of a stream.
-use Rattle.std.proofs.Common.{◌≡◌, ℕ, ◌+◌, List, [], ◌++◌, Option, length, take, drop, sym, ◌∙◌, ap, ap₂, subst, arith, append_assoc, append-nil}
-use Rattle.std.proofs.lemmas.List.{take-append-drop, take-take, drop-take}
-use Rattle.std.proofs.lemmas.Grind.{common_steps}
-use Rattle.std.proofs.KnownBytes.{Consumes-nil, Consumes-trans, Consumes-kept}
-use Rattle.std.specs.Prelude.{Result, Ok, Err, OnErr}
-use Rattle.std.specs.Io.KnownBytes.{Consumes, Keeps}
-use Rattle.bosh_http.specs.Taking.{TakesMore}
+-- What is kept in a room.
+use Rattle.std.proofs.Common.{◌≡◌, ℕ, ◌+◌, ◌-◌, ◌≤◌, List, ◌++◌, length, take, drop, slice_range, sym, ◌∙◌, ap, ap₂, arith, take-add, drop-drop, length-take}
+use Rattle.std.proofs.lemmas.List.{drop-take}
 
-pub takes_none : (left : Option (List ℕ)) (kept : List ℕ) → TakesMore left left kept kept
-takes_none left kept = ([], Consumes-nil left, sym (append-nil kept))
-
-pub takes_same : (left left' : Option (List ℕ)) (kept kept' : List ℕ) → Keeps left left' → kept' ≡ kept → TakesMore left left' kept kept'
-takes_same left left' kept kept' keeps same = ([], Consumes-kept left left left' [] (Consumes-nil left) keeps, same ∙ sym (append-nil kept))
-
-pub takes_both : (a b c : Option (List ℕ)) (k l m : List ℕ) → TakesMore a b k l → TakesMore b c l m → TakesMore a c k m
-takes_both a b c k l m (x, first, x_is) (y, then', y_is) = (x ++ y, Consumes-trans a b c x y first then', y_is ∙ ap (λ z. z ++ y) x_is ∙ append_assoc k x y)
-
--- the bytes that came stand after those that were there
-pub filled_more : (left left' : Option (List ℕ)) (kept zeros grown room whole new : List ℕ) (first most n : ℕ) → first ≡ length kept → grown ≡ take (first + most) kept ++ zeros → take first room ≡ take first grown
-    → Consumes left left' (take n (drop first room)) → whole ≡ room → new ≡ take (first + n) whole → TakesMore left left' kept new
-filled_more left left' kept zeros grown room whole new first most n first_is grown_is front consumes whole_is new_is = (
-  take n (drop first room),
-  consumes,
-  new_is ∙ ap (take (first + n)) whole_is ∙ take_parts first n room ∙ ap (λ f. f ++ take n (drop first room)) (front ∙ ap (take first) grown_is ∙ kept_front),
-)
+-- what is kept in a room whose front stayed
+pub range_stays : (old new : List ℕ) (start end : ℕ) → start ≤ end → take end new ≡ take end old → slice_range new start end ≡ slice_range old start end
+range_stays old new start end ordered same = sym (parts new) ∙ ap (drop start) same ∙ parts old
   where
-    take_parts : (i n : ℕ) (xs : List ℕ) → take (i + n) xs ≡ take i xs ++ take n (drop i xs)
-    take_parts i n xs =
-        sym (take-append-drop i (take (i + n) xs)) ∙ ap₂ (λ a b. a ++ b) (take-take i (i + n) xs (omega arith)) (drop-take i n xs)
+    parts : (xs : List ℕ) → drop start (take end xs) ≡ slice_range xs start end
+    parts xs = let size : end ≡ start + (end - start) = omega (arith, ordered) in ap (λ n. drop start (take n xs)) size ∙ drop-take start (end - start) xs
 
-    kept_front : take first (take (first + most) kept ++ zeros) ≡ kept
-    kept_front = grind (arith, common_steps, first_is)
+-- more stands behind it
+pub range_more : (old new : List ℕ) (start end n : ℕ) → start ≤ end → take end new ≡ take end old → slice_range new start (end + n) ≡ slice_range old start end ++ take n (drop end new)
+range_more old new start end n ordered same = parts new ∙ ap (λ kept. kept ++ take n (drop end new)) (range_stays old new start end ordered same)
+  where
+    parts : (xs : List ℕ) → slice_range xs start (end + n) ≡ slice_range xs start end ++ take n (drop end xs)
+    parts xs =
+        let size : end + n - start ≡ (end - start) + n = omega (arith, ordered) in
+        let at : start + (end - start) ≡ end = omega (arith, ordered) in
+        ap (λ m. take m (drop start xs)) size ∙ take-add (end - start) n (drop start xs)
+        ∙ ap (λ l. slice_range xs start end ++ take n l) (drop-drop (end - start) start xs ∙ ap (λ m. drop m xs) at)
 
--- a call that changed nothing came after
-pub takes_through : {L : Type 0} → (left : L → Option (List ℕ)) (first mid last : L) (kept now kept' : List ℕ) → TakesMore (left first) (left mid) kept now → kept' ≡ now → last ≡ mid → TakesMore (left first) (left last) kept kept'
-takes_through left first mid last kept now kept' takes same link =
-    subst (λ l. TakesMore (left first) (left l) kept kept') (sym link) (subst (TakesMore (left first) (left mid) kept) (sym same) takes)
-
--- a fact holds where there is an error
-pub on_err_here : {T E P : Type 0} (r : Result T E) → P → OnErr r P
-on_err_here (Ok x) p = tt
-on_err_here (Err e) p = p
+-- what is kept without its front
+pub range_passed : (xs : List ℕ) (start end n : ℕ) → n ≤ length (slice_range xs start end) → slice_range xs (start + n) end ≡ drop n (slice_range xs start end)
+range_passed xs start end n within =
+    let fits : n ≤ end - start = omega (arith, within, length-take (end - start) (drop start xs)) in
+    let less : end - (start + n) ≡ (end - start) - n = omega arith in
+    let parts : end - start ≡ n + ((end - start) - n) = omega (arith, fits) in
+    ap₂ (λ m l. take m l) less (sym (drop-drop n start xs)) ∙ sym (ap (λ m. drop n (take m (drop start xs))) parts ∙ drop-take n ((end - start) - n) (drop start xs))

@@ -5,8 +5,8 @@ use Rattle.bosh_http.specs.Fields.{is_closing}
 use Rattle.bosh_http.specs.Message.{BeginsWith, head_refusal, content_length, fields_of, IsHeadBegun, IsRefused}
 use Rattle.bosh_http.specs.declared.refusal.HttpRefusal.{HttpRefusal}
 use Rattle.bosh_http.specs.declared.refusal.HttpRefusal.TheVariants.{Cut, Malformed, HeadTooLarge, BadHost, Method, Path, Transfer, Encoding, NoLength, BadLength, TooLong}
-use Rattle.bosh_http.specs.declared.judging.Judged.{Judged}
-use Rattle.bosh_http.specs.declared.judging.Judged.TheVariants.{Served, Refused, Begun}
+use Rattle.bosh_http.specs.Heads.{TellsOf}
+use Rattle.bosh_http.specs.declared.heads.Judged.{Judged}
 
 -- the bytes begin with a head of so many bytes that is served, and so many bytes of content follow it
 pub record IsServed (bytes : List ℕ) (start content : ℕ) (closing : Bool) : Type 0 where
@@ -37,7 +37,5 @@ abbrev pub IsRefusedBy : List ℕ → HttpRefusal → Type 0
 IsRefusedBy front refusal = IsSettled refusal × IsRefused front refusal
 
 -- what these bytes at the front of a stream tell
-abbrev pub Tells : List ℕ → Judged → Type 0
-Tells bytes (Served start content closing) = IsServed bytes start content closing
-Tells bytes (Refused refusal) = IsRefusedBy bytes refusal
-Tells bytes Begun = IsHeadBegun bytes
+abbrev pub TellsRequest : List ℕ → Judged Bool HttpRefusal → Type 0
+TellsRequest = TellsOf IsServed IsRefusedBy IsHeadBegun

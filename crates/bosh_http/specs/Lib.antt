@@ -1,7 +1,11 @@
+pub mod Feeding
 pub mod Fields
+pub mod Heading
+pub mod Heads
 pub mod Gathering
 pub mod Judging
 pub mod Message
+pub mod Reader
 pub mod Reading
 pub mod Refusal
 pub mod Responding

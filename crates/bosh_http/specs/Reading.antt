@@ -1,11 +1,15 @@
 -- What reading the next request answers.
-use Rattle.std.specs.Prelude.{◌≡◌, ℕ, ◌<◌, ◌⊎◌, List, [], ◌++◌, length, drop, Option, None, Some, IfSome}
+use Rattle.std.specs.Prelude.{◌≡◌, ◌≢◌, ℕ, ◌<◌, ◌==◌, ◌⊎◌, Bool, if◌then◌else◌, List, [], ◌++◌, length, drop, Option, None, Some, IfSome}
 use Rattle.std.specs.Io.KnownBytes.{Consumes}
 use Rattle.bosh_http.specs.Judging.{IsSettled}
 use Rattle.httparse.specs.Grammar.{HasNoRequest}
 use Rattle.bosh_http.specs.Message.{longest_head, EndsInContent, IsRequestMessage, IsRefused}
+use Rattle.bosh_http.specs.declared.reader.Came.{Came}
+use Rattle.bosh_http.specs.declared.reader.Came.TheVariants as came
 use Rattle.bosh_http.specs.declared.reading.HttpIn.{HttpIn}
 use Rattle.bosh_http.specs.declared.reading.HttpIn.TheVariants.{Request, Refused, End, ReadFault}
+use Rattle.bosh_http.specs.declared.refusal.HttpRefusal.{HttpRefusal}
+use Rattle.bosh_http.specs.declared.refusal.HttpRefusal.TheVariants.{Cut}
 
 -- these are all of the bytes that were left, where the link tells them
 abbrev pub IsAllOf : Option (List ℕ) → List ℕ → Type 0
@@ -21,6 +25,22 @@ AnswersBy seen kept all (Request body closing) = (count : ℕ) × IsRequestMessa
 AnswersBy seen kept all (Refused refusal) = IsRefused seen refusal × (IsSettled refusal ⊎ all) × (kept ≡ seen)
 AnswersBy seen kept all End = (seen ≡ []) × all × (kept ≡ [])
 AnswersBy seen kept all ReadFault = GivesNothing seen × (kept ≡ seen)
+
+-- what the bytes that have come give: an answer that needs no more of them, or nothing, where more are wanted
+abbrev pub FrontGives : List ℕ → List ℕ → Option HttpIn → Type 0
+FrontGives seen kept None = GivesNothing seen × (kept ≡ seen)
+FrontGives seen kept (Some answer) = AnswersBy seen kept ⊥ answer × (answer ≢ ReadFault)
+
+-- the answer where the stream ended and no request is whole in these many bytes
+unfoldable pub ended_answer : ℕ → HttpIn
+ended_answer count = if count == 0 then End else Refused (Cut count)
+
+-- what was read of requests as an answer, where so many bytes are kept
+abbrev pub answer_of : ℕ → Came Bool HttpRefusal → HttpIn
+answer_of count (came.Message body closing) = Request body closing
+answer_of count (came.Wrong refusal) = Refused refusal
+answer_of count came.Ended = ended_answer count
+answer_of count came.Failed = ReadFault
 
 -- some bytes were taken off the link, and the answer is by those that had been kept and these
 abbrev pub Answers : Option (List ℕ) → Option (List ℕ) → List ℕ → List ℕ → HttpIn → Type 0

@@ -1,30 +1,16 @@
 -- What reading the next response answers.
-use Rattle.std.specs.Prelude.{◌≡◌, ◌≢◌, ℕ, ◌<◌, ◌⊎◌, false, List, ◌++◌, length, drop, Option, None, Some}
+use Rattle.std.specs.Prelude.{◌≡◌, ◌≢◌, ℕ, ◌<◌, ◌==◌, ◌⊎◌, if◌then◌else◌, ⊤, List, ◌++◌, length, drop, Option, None, Some}
 use Rattle.std.specs.Io.KnownBytes.{Consumes}
-use Rattle.httparse.specs.Grammar.{ResponseHead, print_response, status_code, HasNoResponse}
+use Rattle.httparse.specs.Grammar.{HasNoResponse}
 use Rattle.bosh_http.specs.Message.{longest_head}
 use Rattle.bosh_http.specs.Reading.{IsAllOf}
-use Rattle.bosh_http.specs.Response.{BeginsWithResponse, is_bad, response_fields, response_length, IsResponseMessage, IsBadStream, IsResponseBegun, EndsInResponse, EndsEarly}
-use Rattle.bosh_http.specs.declared.heading.Headed.{Headed}
-use Rattle.bosh_http.specs.declared.heading.Headed.TheVariants.{Whole, Wrong, Unfinished}
+use Rattle.bosh_http.specs.Response.{IsResponseMessage, IsBadStream, EndsInResponse, EndsEarly}
+use Rattle.bosh_http.specs.declared.reader.Came.{Came}
+use Rattle.bosh_http.specs.declared.reader.Came.TheVariants as came
+use Rattle.bosh_http.specs.declared.reader.Front.{Front}
+use Rattle.bosh_http.specs.declared.reader.Front.TheVariants as front
 use Rattle.bosh_http.specs.declared.responding.ResponseIn.{ResponseIn}
 use Rattle.bosh_http.specs.declared.responding.ResponseIn.TheVariants.{Body, Status, Bad, End, ReadFault}
-
--- the bytes begin with the head of a response with this status, of so many bytes, and so many bytes of content follow it
-pub record IsHeaded (bytes : List ℕ) (start content status : ℕ) : Type 0 where
-  pub head : ResponseHead
-  pub rest : List ℕ
-  pub begins : BeginsWithResponse bytes head rest
-  pub good : is_bad (status_code head) (response_fields head) ≡ false
-  pub start_is : start ≡ length (print_response head)
-  pub content_is : content ≡ response_length head
-  pub status_is : status ≡ status_code head
-
--- what these bytes at the front of a stream tell
-abbrev pub TellsResponse : List ℕ → Headed → Type 0
-TellsResponse bytes (Whole start content status) = IsHeaded bytes start content status
-TellsResponse bytes Wrong = IsBadStream bytes
-TellsResponse bytes Unfinished = IsResponseBegun bytes
 
 -- these bytes give no response yet: no head is whole in them, or some of the content is to come
 abbrev pub GivesNoResponse : List ℕ → Type 0
@@ -37,6 +23,28 @@ RespondsBy seen kept all (Status status) = (status ≢ 200) × (count : ℕ) × 
 RespondsBy seen kept all Bad = IsBadStream seen × (kept ≡ seen)
 RespondsBy seen kept all End = EndsEarly seen × all × (kept ≡ seen)
 RespondsBy seen kept all ReadFault = GivesNoResponse seen × (kept ≡ seen)
+
+-- what the bytes that have come give: an answer that needs no more of them, or nothing, where more are wanted
+abbrev pub FrontResponds : List ℕ → List ℕ → Option ResponseIn → Type 0
+FrontResponds seen kept None = GivesNoResponse seen × (kept ≡ seen)
+FrontResponds seen kept (Some answer) = RespondsBy seen kept ⊥ answer × (answer ≢ ReadFault)
+
+-- the answer by a response with this status and content
+unfoldable pub answered : ℕ → List ℕ → ResponseIn
+answered status body = if status == 200 then Body body else Status status
+
+-- what stands at the front as an answer
+abbrev pub front_response : Front ℕ ⊤ → Option ResponseIn
+front_response (front.Message body status) = Some (answered status body)
+front_response (front.Wrong fault) = Some Bad
+front_response front.More = None
+
+-- what was read of responses as an answer
+abbrev pub response_of : Came ℕ ⊤ → ResponseIn
+response_of (came.Message body status) = answered status body
+response_of (came.Wrong fault) = Bad
+response_of came.Ended = End
+response_of came.Failed = ReadFault
 
 -- some bytes were taken off the link, and the answer is by those that had been kept and these
 abbrev pub Responds : Option (List ℕ) → Option (List ℕ) → List ℕ → List ℕ → ResponseIn → Type 0

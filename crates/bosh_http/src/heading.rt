@@ -1,35 +1,23 @@
-// What the bytes that have come tell of the response at their front.
-ghost use Rattle.std.specs.Prelude.{◌≡◌, ◌<◌, ◌≤◌, length, map, All, IfOk};
+// The heads of responses.
+ghost use Rattle.std.specs.Prelude.{◌≡◌, ◌≤◌, length, map, All, IfSome};
+ghost use Rattle.httparse.specs.Grammar.{HasNoResponse};
 ghost use Rattle.httparse.specs.Spans.{IsHeaderWithin, IsResponseWithin, IsResponseOf, header_bytes};
 ghost use Rattle.bosh_http.specs.Message.{longest_head};
-ghost use Rattle.bosh_http.specs.Response.{is_bad};
-ghost use Rattle.bosh_http.specs.Responding.{TellsResponse};
-ghost use Rattle.bosh_http.specs.declared.heading.Headed.TheVariants.{Unfinished};
+ghost use Rattle.bosh_http.specs.Response.{is_bad, IsBadStream, IsResponseBegun};
+ghost use Rattle.bosh_http.specs.Heading.{IsHeaded, TellsResponse};
 
 use crate::fields;
-use crate::judging::{LONGEST_CONTENT, ROOM};
-use bosh_types::limits::{LONGEST_HEAD, MOST_FIELDS};
+use crate::heads::{Head, Heads, Judged};
+use crate::judging::{LONGEST_CONTENT, ROOM, make_room};
+use crate::scan::Scan;
+use bosh_types::limits::MOST_FIELDS;
 use http::StatusCode;
-use httparse::Status;
 use httparse::spans::{EMPTY_HEADER_SPAN, HeaderSpan, ResponseSpans, parse_response};
-use std::alloc::{AllocError, Global};
+use httparse::{Error, Status};
+use std::alloc::AllocError;
 
-// What some bytes at the front of a stream tell.
-#[derive(Clone, Copy, Debug, PartialEq, Eq)]
-pub(crate) enum Headed {
-    // The head is whole and one of a response that is read.
-    Whole {
-        // How many bytes the head has.
-        start: usize,
-        // How many bytes the content has.
-        content: usize,
-        status: StatusCode,
-    },
-    // No response that is read begins so.
-    Wrong,
-    // The head isn't whole, and more bytes may make it so.
-    Unfinished,
-}
+// Responses as a kind of messages: a head says a status.
+pub(crate) struct Responses;
 
 // Whether a whole head is none of a response that is read.
 #[tactic(auto, unfolding(crate::specs::Response::is_bad))]
@@ -56,7 +44,7 @@ fn is_bad(code: u16, bytes: &[u8], headers: &[HeaderSpan]) -> bool
 }
 
 // What a whole head tells.
-fn head_whole(front: &[u8], spans: &ResponseSpans, headers: &[HeaderSpan]) -> Headed
+fn head_whole(front: &[u8], spans: &ResponseSpans, headers: &[HeaderSpan]) -> Judged<StatusCode, ()>
     requires short { length front.now ≤ longest_head }
     requires within { IsResponseWithin front.now headers.now spans.now }
     requires whole { IsResponseOf front.now headers.now spans.now }
@@ -64,41 +52,74 @@ fn head_whole(front: &[u8], spans: &ResponseSpans, headers: &[HeaderSpan]) -> He
 {
     let headers = headers.split_at(spans.headers).0;
     if is_bad(spans.code, front, headers) {
-        return Headed::Wrong;
+        return Judged::Wrong(());
     }
     match StatusCode::from_u16(spans.code) {
-        Ok(status) => Headed::Whole {
+        Ok(status) => Judged::Whole(Head {
             start: spans.len,
             content: fields::first_length(front, headers) as usize,
-            status,
-        },
-        Err(_) => Headed::Wrong,
+            said: status,
+        }),
+        Err(_) => Judged::Wrong(()),
     }
 }
 
-// What bytes tell that a head may have.
-fn head_front(alloc: Global, front: &[u8]) -> Result<Headed, AllocError>
+// What bytes tell that may have a head, and nothing where it may have more fields than there is room for.
+fn head_of_few(spans: &mut [HeaderSpan], front: &[u8]) -> Option<Judged<StatusCode, ()>>
     requires { length front.now ≤ longest_head }
-    ensures { IfOk result (TellsResponse front.now) }
+    ensures { IfSome result (TellsResponse front.now) }
 {
-    let mut headers = vec![in alloc; EMPTY_HEADER_SPAN; ROOM]?;
-    match parse_response(front, &mut headers) {
-        Ok(Status::Complete(spans)) => Ok(head_whole(front, &spans, &headers)),
-        Ok(Status::Partial) => Ok(Headed::Unfinished),
-        Err(_) => Ok(Headed::Wrong),
+    match parse_response(front, spans) {
+        Ok(Status::Complete(parts)) => Some(head_whole(front, &parts, spans)),
+        Ok(Status::Partial) => Some(Judged::Begun),
+        Err(Error::TooManyHeaders) => None,
+        Err(_) => Some(Judged::Wrong(())),
     }
 }
 
-// What the bytes that have come tell. It takes memory for the time of the call.
-pub(crate) fn head_of(alloc: Global, bytes: &[u8]) -> Result<Headed, AllocError>
-    ensures tells { IfOk result (TellsResponse bytes.now) }
-    ensures unfinished { IfOk result (λ headed. headed ≡ Unfinished → length bytes.now < longest_head) }
+// What bytes tell that may have a head, where there is room for all its fields.
+fn head_of_all(spans: &mut [HeaderSpan], front: &[u8]) -> Judged<StatusCode, ()>
+    requires front { length front.now ≤ longest_head }
+    requires room { length spans.old ≡ 2731 }
+    ensures { TellsResponse front.now result }
 {
-    if bytes.len() < LONGEST_HEAD {
-        return head_front(alloc, bytes);
+    match parse_response(front, spans) {
+        Ok(Status::Complete(parts)) => head_whole(front, &parts, spans),
+        Ok(Status::Partial) => Judged::Begun,
+        Err(_) => Judged::Wrong(()),
     }
-    match head_front(alloc, bytes.split_at(LONGEST_HEAD).0)? {
-        Headed::Unfinished => Ok(Headed::Wrong),
-        headed => Ok(headed),
+}
+
+impl Heads for Responses {
+    type Said = StatusCode;
+
+    type Fault = ();
+
+    ghost reads = { IsHeaded };
+
+    ghost denies = { λ bytes fault. IsBadStream bytes };
+
+    ghost begins = { IsResponseBegun };
+
+    ghost lacks = { HasNoResponse };
+
+    fn scan() -> Scan {
+        Scan::response()
     }
+
+    fn too_long() {}
+
+    fn judge(
+        spans: &mut Vec<HeaderSpan>,
+        front: &[u8],
+    ) -> Result<Judged<StatusCode, ()>, AllocError> {
+        make_room(spans)?;
+        if let Some(judged) = head_of_few(spans, front) {
+            return Ok(judged);
+        }
+        spans.resize(ROOM, EMPTY_HEADER_SPAN)?;
+        Ok(head_of_all(spans, front))
+    }
+
+    fn laws() {}
 }

@@ -1,39 +1,35 @@
-// What the bytes that have come tell of the message at their front.
-ghost use Rattle.std.specs.Prelude.{◌≡◌, ◌<◌, ◌≤◌, length, map, All, IfOk};
-ghost use Rattle.httparse.specs.Grammar.{NeverHasRequest};
+// The heads of requests.
+ghost use Rattle.std.specs.Prelude.{◌≡◌, ◌≤◌, length, map, All, IfOk, IfSome};
+ghost use Rattle.httparse.specs.Grammar.{HasNoRequest, NeverHasRequest};
 ghost use Rattle.httparse.specs.Spans.{IsHeaderWithin, IsRequestWithin, IsRequestOf, header_bytes};
 ghost use Rattle.bosh_http.specs.Message.{refusal_of, longest_head};
-ghost use Rattle.bosh_http.specs.Judging.{Tells};
-ghost use Rattle.bosh_http.specs.declared.judging.Judged.TheVariants.{Begun};
+ghost use Rattle.bosh_http.specs.Judging.{IsRefusedBy, IsServed, TellsRequest};
+ghost use Rattle.bosh_http.specs.Message.{IsHeadBegun};
 
 use crate::fields;
+use crate::heads::{Head, Heads, Judged};
 use crate::refusal::HttpRefusal;
+use crate::scan::Scan;
 use crate::target::ends_in_target;
-use bosh_types::limits::{LONGEST_HEAD, MOST_FIELDS};
-use httparse::Status;
+use bosh_types::limits::MOST_FIELDS;
 use httparse::spans::{EMPTY_HEADER_SPAN, HeaderSpan, RequestSpans, parse_request};
-use std::alloc::{AllocError, Global};
+use httparse::{Error, Status};
+use std::alloc::AllocError;
 
 pub(crate) const LONGEST_CONTENT: u64 = 1048576;
 
 // More fields than 8192 bytes can hold.
 pub(crate) const ROOM: usize = 2731;
 
-// What some bytes at the front of a stream tell.
-#[derive(Clone, Copy, Debug, PartialEq, Eq)]
-pub(crate) enum Judged {
-    // The head is whole and served.
-    Served {
-        // How many bytes the head has.
-        start: usize,
-        // How many bytes the content has.
-        content: usize,
-        // The connection ends after the response.
-        closing: bool,
-    },
-    Refused(HttpRefusal),
-    // The head isn't whole, and more bytes may make it so.
-    Begun,
+// Requests as a kind of messages: a head says whether the connection ends after the response.
+pub(crate) struct Requests;
+
+// Room for the fields of most heads.
+pub(crate) fn make_room(spans: &mut Vec<HeaderSpan>) -> Result<(), AllocError> {
+    if spans.is_empty() {
+        spans.resize(MOST_FIELDS, EMPTY_HEADER_SPAN)?;
+    }
+    Ok(())
 }
 
 // What refuses a head.
@@ -79,61 +75,100 @@ fn refusal_of(
 }
 
 // What a whole head tells.
-fn judge_whole(front: &[u8], spans: &RequestSpans, headers: &[HeaderSpan]) -> Judged
+fn judge_whole(
+    front: &[u8],
+    spans: &RequestSpans,
+    headers: &[HeaderSpan],
+) -> Judged<bool, HttpRefusal>
     requires short { length front.now ≤ longest_head }
     requires within { IsRequestWithin front.now headers.now spans.now }
     requires whole { IsRequestOf front.now headers.now spans.now }
-    ensures { Tells front.now result }
+    ensures { TellsRequest front.now result }
 {
     let headers = headers.split_at(spans.headers).0;
     let method = spans.method.of(front);
     let target = spans.path.of(front);
     match refusal_of(spans.version, method, target, front, headers) {
-        Some(refusal) => Judged::Refused(refusal),
-        None => Judged::Served {
+        Some(refusal) => Judged::Wrong(refusal),
+        None => Judged::Whole(Head {
             start: spans.len,
             content: fields::first_length(front, headers) as usize,
-            closing: fields::is_closing(spans.version, front, headers),
-        },
+            said: fields::is_closing(spans.version, front, headers),
+        }),
     }
 }
 
 // What bytes tell that no bytes can follow to make a head: they may end inside the target all the same, which is
 // judged only once it has ended.
-fn judge_hopeless(front: &[u8]) -> Judged
+fn judge_hopeless(front: &[u8]) -> Judged<bool, HttpRefusal>
     requires short { length front.now ≤ longest_head }
     requires never { NeverHasRequest front.now }
-    ensures { Tells front.now result }
+    ensures { TellsRequest front.now result }
 {
     if ends_in_target(front) {
         return Judged::Begun;
     }
-    Judged::Refused(HttpRefusal::Malformed)
+    Judged::Wrong(HttpRefusal::Malformed)
 }
 
-// What bytes tell that a head may have.
-fn judge_front(alloc: Global, front: &[u8]) -> Result<Judged, AllocError>
+// What bytes tell that may have a head, and nothing where it may have more fields than there is room for.
+fn judge_few(spans: &mut [HeaderSpan], front: &[u8]) -> Option<Judged<bool, HttpRefusal>>
     requires { length front.now ≤ longest_head }
-    ensures { IfOk result (Tells front.now) }
+    ensures { IfSome result (TellsRequest front.now) }
 {
-    let mut headers = vec![in alloc; EMPTY_HEADER_SPAN; ROOM]?;
-    match parse_request(front, &mut headers) {
-        Ok(Status::Complete(spans)) => Ok(judge_whole(front, &spans, &headers)),
-        Ok(Status::Partial) => Ok(Judged::Begun),
-        Err(_) => Ok(judge_hopeless(front)),
+    match parse_request(front, spans) {
+        Ok(Status::Complete(parts)) => Some(judge_whole(front, &parts, spans)),
+        Ok(Status::Partial) => Some(Judged::Begun),
+        Err(Error::TooManyHeaders) => None,
+        Err(_) => Some(judge_hopeless(front)),
     }
 }
 
-// What the bytes that have come tell. It takes memory for the time of the call.
-pub(crate) fn judge(alloc: Global, bytes: &[u8]) -> Result<Judged, AllocError>
-    ensures tells { IfOk result (Tells bytes.now) }
-    ensures begun { IfOk result (λ judged. judged ≡ Begun → length bytes.now < longest_head) }
+// What bytes tell that may have a head, where there is room for all its fields.
+fn judge_all(spans: &mut [HeaderSpan], front: &[u8]) -> Judged<bool, HttpRefusal>
+    requires front { length front.now ≤ longest_head }
+    requires room { length spans.old ≡ 2731 }
+    ensures { TellsRequest front.now result }
 {
-    if bytes.len() < LONGEST_HEAD {
-        return judge_front(alloc, bytes);
+    match parse_request(front, spans) {
+        Ok(Status::Complete(parts)) => judge_whole(front, &parts, spans),
+        Ok(Status::Partial) => Judged::Begun,
+        Err(_) => judge_hopeless(front),
     }
-    match judge_front(alloc, bytes.split_at(LONGEST_HEAD).0)? {
-        Judged::Begun => Ok(Judged::Refused(HttpRefusal::HeadTooLarge)),
-        judged => Ok(judged),
+}
+
+impl Heads for Requests {
+    type Said = bool;
+
+    type Fault = HttpRefusal;
+
+    ghost reads = { IsServed };
+
+    ghost denies = { IsRefusedBy };
+
+    ghost begins = { IsHeadBegun };
+
+    ghost lacks = { HasNoRequest };
+
+    fn scan() -> Scan {
+        Scan::request()
     }
+
+    fn too_long() -> HttpRefusal {
+        HttpRefusal::HeadTooLarge
+    }
+
+    fn judge(
+        spans: &mut Vec<HeaderSpan>,
+        front: &[u8],
+    ) -> Result<Judged<bool, HttpRefusal>, AllocError> {
+        make_room(spans)?;
+        if let Some(judged) = judge_few(spans, front) {
+            return Ok(judged);
+        }
+        spans.resize(ROOM, EMPTY_HEADER_SPAN)?;
+        Ok(judge_all(spans, front))
+    }
+
+    fn laws() {}
 }

@@ -2,14 +2,18 @@
 // text, and a response with one.
 #![tactic(auto)]
 
+mod feeding;
 mod fields;
 mod gathering;
 mod heading;
+mod heads;
 mod judging;
 mod laws;
+mod reader;
 mod reading;
 mod refusal;
 mod responding;
+mod room;
 mod scan;
 mod taken;
 mod target;
@@ -19,6 +23,7 @@ mod words;
 mod writing;
 
 pub use bosh_ports::WriteFault;
+pub use feeding::HttpFed;
 pub use laws::{responses_are_cut_in_one_way, streams_are_cut_in_one_way};
 pub use reading::{HttpIn, RequestReader};
 pub use refusal::HttpRefusal;

@@ -1,19 +1,14 @@
 // Reading requests off a link.
-ghost use Rattle.std.specs.Prelude.{◌≡◌, ◌≢◌, ◌==◌, ◌<◌, ◌≤◌, [], length, take, IfOk, IfSome, OnErr, Ok, Some, None, if◌then◌else◌};
+ghost use Rattle.std.specs.Prelude.{◌≡◌, ◌≢◌, ◌≤◌, [], ◌++◌, ⊤, IfOk, OnErr, OnOk, Ok};
+ghost use Rattle.bosh_http.specs.Reading.{answer_of, ended_answer};
 
-use crate::judging::{Judged, judge};
+use crate::judging::Requests;
+use crate::reader::{Came, Front, Reader};
 use crate::refusal::HttpRefusal;
-use crate::scan::Scan;
-use crate::taken::{Filled, Taken};
 use bosh_ports::Link;
 use bosh_types::Text;
 use std::alloc::{AllocError, Global};
 use std::marker::Model;
-
-// How many bytes are taken at a time while the head comes, and how many at most while the content comes.
-pub(crate) const HEAD_PIECE: usize = 4096;
-
-pub(crate) const LARGEST_PIECE: usize = 65536;
 
 /// What reading the next request gives.
 #[derive(Debug, Drop)]
@@ -31,9 +26,9 @@ pub enum HttpIn {
 /// Reads the requests of a connection one after the other (RFC 9112, sections 3 and 6): a head of at most 8192 bytes and 64
 /// fields, and then as many bytes as its Content-Length says, at most 1,048,576. It is seen as the bytes that it took and
 /// that no request has given yet.
-#[derive(Debug, Drop)]
+#[derive(Drop)]
 pub struct RequestReader {
-    taken: Taken,
+    pub(crate) reader: Reader<Requests>,
 }
 
 impl Model for RequestReader {
@@ -41,26 +36,55 @@ impl Model for RequestReader {
 
     ghost Value = { List ℕ };
 
-    ghost view = { λ r. r.taken };
+    ghost view = { λ r. r.reader };
 }
 
 impl RequestReader {
     ghost use Rattle.std.specs.Io.KnownBytes.{Keeps, prepend_known};
     ghost use Rattle.bosh_ports.specs.Faults.{HasRisen};
-    ghost use Rattle.bosh_http.specs.Judging.{IsServed};
-    ghost use Rattle.bosh_http.specs.Message.{IsHeadBegun, longest_head};
-    ghost use Rattle.bosh_http.specs.Reading.{Answers, Reads};
-    ghost use Rattle.bosh_http.specs.Scanning.{Scans};
+    ghost use Rattle.bosh_http.specs.Reading.{Answers, AnswersBy, FrontGives, Reads};
     ghost use Rattle.bosh_http.specs.Taking.{TakesMore};
-    ghost use Rattle.httparse.specs.Grammar.{HasNoRequest};
 
     /// Takes no memory.
     pub fn new(alloc: Global) -> Self
         ensures { result ≡ [] }
     {
         RequestReader {
-            taken: Taken::new(alloc),
+            reader: Reader::new(alloc),
         }
+    }
+
+    /// Takes these bytes, behind those that it has. An error is want of memory: none of them was taken.
+    pub fn give(&mut self, bytes: &[u8]) -> Result<(), AllocError>
+        ensures ok { OnOk result (self.new ≡ self.old ++ bytes.now) }
+        ensures err { OnErr result (self.new ≡ self.old) }
+    {
+        self.reader.give(bytes)
+    }
+
+    /// What the bytes that have come give, or nothing, where more are wanted. An error is want of memory.
+    pub fn front(&mut self, alloc: Global) -> Result<Option<HttpIn>, AllocError>
+        ensures front { IfOk result (FrontGives self.old self.new) }
+        ensures err { OnErr result (self.new ≡ self.old) }
+    {
+        match self.reader.front(alloc, false)? {
+            Front::Message { body, said } => Ok(Some(HttpIn::Request {
+                body,
+                closing: said,
+            })),
+            Front::Wrong(refusal) => Ok(Some(HttpIn::Refused(refusal))),
+            Front::More => Ok(None),
+        }
+    }
+
+    /// What the bytes that have come give, where no more come. An error is want of memory.
+    pub fn end(&mut self, alloc: Global) -> Result<HttpIn, AllocError>
+        ensures answers { IfOk result (AnswersBy self.old self.new ⊤) }
+        ensures fault { result ≢ Ok HttpIn.ReadFault }
+        ensures err { OnErr result (self.new ≡ self.old) }
+    {
+        let came = self.reader.last(alloc)?;
+        Ok(answer(came, self.reader.len()))
     }
 
     /// Reads the next request off a link, in whatever pieces its bytes come. An error is want of memory: the reader then has
@@ -80,121 +104,33 @@ impl RequestReader {
         ensures quiet { result ≢ Ok HttpIn.ReadFault → L.faults link.new ≡ L.faults link.old }
         ensures faults { L.faults link.old ≤ L.faults link.new }
     {
-        self.read(alloc, link)
+        let came = self.reader.next(alloc, link)?;
+        Ok(answer(came, self.reader.len()))
     }
+}
 
-    // Reads the content of a request whose head is whole and served.
-    fn read_content<L: Link>(
-        &mut self,
-        alloc: Global,
-        link: &mut L,
-        start: usize,
-        content: usize,
-        closing: bool,
-    ) -> Result<HttpIn, AllocError>
-        requires { IsServed self.old start content closing }
-        ensures answers { IfOk result (Answers (L.left link.old) (L.left link.new) self.old self.new) }
-        ensures kept { OnErr result (TakesMore (L.left link.old) (L.left link.new) self.old self.new) }
-        ensures given { Keeps (L.given link.old) (L.given link.new) }
-        ensures fault { result ≡ Ok HttpIn.ReadFault → HasRisen (L.faults link.old) (L.faults link.new) }
-        ensures quiet { result ≢ Ok HttpIn.ReadFault → L.faults link.new ≡ L.faults link.old }
-        ensures faults { L.faults link.old ≤ L.faults link.new }
-    {
-        let count = start + content;
-        while self.taken.len() < count {
-            let missing = count - self.taken.len();
-            match self.taken.fill(link, missing.min(LARGEST_PIECE))? {
-                Filled::More => {}
-                Filled::End => return Ok(HttpIn::Refused(HttpRefusal::Cut(self.taken.len()))),
-                Filled::Failed => return Ok(HttpIn::ReadFault),
-            }
-        }
-        let body = Text::from_vec(self.taken.split(alloc, start, count)?);
-        Ok(HttpIn::Request { body, closing })
+// What was read as an answer, where so many bytes are kept.
+fn answer(came: Came<bool, HttpRefusal>, count: usize) -> HttpIn
+    ensures { result ≡ answer_of count came }
+{
+    match came {
+        Came::Message { body, said } => HttpIn::Request {
+            body,
+            closing: said,
+        },
+        Came::Wrong(refusal) => HttpIn::Refused(refusal),
+        Came::Ended => ended(count),
+        Came::Failed => HttpIn::ReadFault,
     }
+}
 
-    // What is answered where the stream ended and no head is whole.
-    fn ended(&self) -> HttpIn
-        ensures { result ≡ (if length self.now == 0 then HttpIn.End else HttpIn.Refused (HttpRefusal.Cut (length self.now))) }
-    {
-        if self.taken.is_empty() {
-            return HttpIn::End;
-        }
-        HttpIn::Refused(HttpRefusal::Cut(self.taken.len()))
-    }
-
-    // What is answered by the bytes that have come, if they tell it.
-    fn told<L: Link>(&mut self, alloc: Global, link: &mut L) -> Result<Option<HttpIn>, AllocError>
-        ensures some { IfOk result (λ told. IfSome told (Answers (L.left link.old) (L.left link.new) self.old self.new)) }
-        ensures begun { result ≡ Ok None → IsHeadBegun self.old × (length self.old < longest_head) }
-        ensures same { result ≡ Ok None → (self.new ≡ self.old) × (link.new ≡ link.old) }
-        ensures kept { OnErr result (TakesMore (L.left link.old) (L.left link.new) self.old self.new) }
-        ensures given { Keeps (L.given link.old) (L.given link.new) }
-        ensures fault { result ≡ Ok (Some HttpIn.ReadFault) → HasRisen (L.faults link.old) (L.faults link.new) }
-        ensures quiet { result ≢ Ok (Some HttpIn.ReadFault) → L.faults link.new ≡ L.faults link.old }
-        ensures faults { L.faults link.old ≤ L.faults link.new }
-    {
-        match judge(alloc, self.taken.as_slice())? {
-            Judged::Served {
-                start,
-                content,
-                closing,
-            } => Ok(Some(self.read_content(alloc, link, start, content, closing)?)),
-            Judged::Refused(refusal) => Ok(Some(HttpIn::Refused(refusal))),
-            Judged::Begun => Ok(None),
-        }
-    }
-
-    // The same where the scan finds that they may tell something new.
-    fn told_if_due<L: Link>(
-        &mut self,
-        alloc: Global,
-        link: &mut L,
-        scan: &mut Scan,
-    ) -> Result<Option<HttpIn>, AllocError>
-        requires scans { Scans scan.old.seen scan.old.place self.old }
-        requires none { HasNoRequest (take scan.old.seen self.old) }
-        ensures some { IfOk result (λ told. IfSome told (Answers (L.left link.old) (L.left link.new) self.old self.new)) }
-        ensures short { result ≡ Ok None → length self.old < longest_head }
-        ensures scans { result ≡ Ok None → Scans scan.new.seen scan.new.place self.old }
-        ensures none { result ≡ Ok None → HasNoRequest self.old }
-        ensures same { result ≡ Ok None → (self.new ≡ self.old) × (link.new ≡ link.old) }
-        ensures kept { OnErr result (TakesMore (L.left link.old) (L.left link.new) self.old self.new) }
-        ensures given { Keeps (L.given link.old) (L.given link.new) }
-        ensures fault { result ≡ Ok (Some HttpIn.ReadFault) → HasRisen (L.faults link.old) (L.faults link.new) }
-        ensures quiet { result ≢ Ok (Some HttpIn.ReadFault) → L.faults link.new ≡ L.faults link.old }
-        ensures faults { L.faults link.old ≤ L.faults link.new }
-    {
-        if !scan.is_due(self.taken.as_slice()) {
-            return Ok(None);
-        }
-        self.told(alloc, link)
-    }
-
-    // Reads the next request.
-    fn read<L: Link>(&mut self, alloc: Global, link: &mut L) -> Result<HttpIn, AllocError>
-        ensures answers { IfOk result (Answers (L.left link.old) (L.left link.new) self.old self.new) }
-        ensures kept { OnErr result (TakesMore (L.left link.old) (L.left link.new) self.old self.new) }
-        ensures given { Keeps (L.given link.old) (L.given link.new) }
-        ensures fault { result ≡ Ok HttpIn.ReadFault → HasRisen (L.faults link.old) (L.faults link.new) }
-        ensures quiet { result ≢ Ok HttpIn.ReadFault → L.faults link.new ≡ L.faults link.old }
-        ensures faults { L.faults link.old ≤ L.faults link.new }
-    {
-        let mut scan = Scan::request();
-        loop {
-            if let Some(answer) = self.told_if_due(alloc, link, &mut scan)? {
-                return Ok(answer);
-            }
-            match self.taken.fill(link, HEAD_PIECE)? {
-                Filled::More => {}
-                Filled::End => {
-                    return match self.told(alloc, link)? {
-                        Some(answer) => Ok(answer),
-                        None => Ok(self.ended()),
-                    };
-                }
-                Filled::Failed => return Ok(HttpIn::ReadFault),
-            }
-        }
+// What is answered where the stream ended and no request is whole in so many bytes.
+#[tactic(auto, unfolding(crate::specs::Reading::ended_answer))]
+pub(crate) fn ended(count: usize) -> HttpIn
+    ensures { result ≡ ended_answer count }
+{
+    match count {
+        0 => HttpIn::End,
+        _ => HttpIn::Refused(HttpRefusal::Cut(count)),
     }
 }

@@ -1,10 +1,9 @@
 // Reading responses off a link.
-ghost use Rattle.std.specs.Prelude.{◌≡◌, ◌≢◌, ◌<◌, ◌≤◌, [], length, take, IfOk, IfSome, OnErr, Ok, Some, None};
+ghost use Rattle.std.specs.Prelude.{◌≡◌, ◌≢◌, ◌≤◌, [], ◌++◌, ⊤, IfOk, OnErr, OnOk, Ok};
+ghost use Rattle.bosh_http.specs.Responding.{answered, front_response, response_of};
 
-use crate::heading::{Headed, head_of};
-use crate::reading::{HEAD_PIECE, LARGEST_PIECE};
-use crate::scan::Scan;
-use crate::taken::{Filled, Taken};
+use crate::heading::Responses;
+use crate::reader::{Came, Front, Reader};
 use bosh_ports::Link;
 use bosh_types::Text;
 use http::StatusCode;
@@ -29,9 +28,9 @@ pub enum ResponseIn {
 /// Reads the responses of a connection one after the other (RFC 9112, section 4): a head of at most 8192 bytes and 64
 /// fields with a status from 100 to 999, one Content-Length of at most 1,048,576 and no Transfer-Encoding, and then so many
 /// bytes. It is seen as the bytes that it took and that no response has given yet.
-#[derive(Debug, Drop)]
+#[derive(Drop)]
 pub struct ResponseReader {
-    taken: Taken,
+    reader: Reader<Responses>,
 }
 
 impl Model for ResponseReader {
@@ -39,26 +38,49 @@ impl Model for ResponseReader {
 
     ghost Value = { List ℕ };
 
-    ghost view = { λ r. r.taken };
+    ghost view = { λ r. r.reader };
 }
 
 impl ResponseReader {
     ghost use Rattle.std.specs.Io.KnownBytes.{Keeps, prepend_known};
     ghost use Rattle.bosh_ports.specs.Faults.{HasRisen};
-    ghost use Rattle.bosh_http.specs.Message.{longest_head};
-    ghost use Rattle.bosh_http.specs.Response.{IsResponseBegun};
-    ghost use Rattle.bosh_http.specs.Responding.{IsHeaded, Responds, ReadsBack};
-    ghost use Rattle.bosh_http.specs.Scanning.{Scans};
+    ghost use Rattle.bosh_http.specs.Responding.{FrontResponds, Responds, RespondsBy, ReadsBack};
     ghost use Rattle.bosh_http.specs.Taking.{TakesMore};
-    ghost use Rattle.httparse.specs.Grammar.{HasNoResponse};
 
     /// Takes no memory.
     pub fn new(alloc: Global) -> Self
         ensures { result ≡ [] }
     {
         ResponseReader {
-            taken: Taken::new(alloc),
+            reader: Reader::new(alloc),
         }
+    }
+
+    /// Takes these bytes, behind those that it has. An error is want of memory: none of them was taken.
+    pub fn give(&mut self, bytes: &[u8]) -> Result<(), AllocError>
+        ensures ok { OnOk result (self.new ≡ self.old ++ bytes.now) }
+        ensures err { OnErr result (self.new ≡ self.old) }
+    {
+        self.reader.give(bytes)
+    }
+
+    /// What the bytes that have come give, or nothing, where more are wanted. An error is want of memory.
+    pub fn front(&mut self, alloc: Global) -> Result<Option<ResponseIn>, AllocError>
+        ensures front { IfOk result (FrontResponds self.old self.new) }
+        ensures err { OnErr result (self.new ≡ self.old) }
+    {
+        let front = self.reader.front(alloc, false)?;
+        Ok(front_answer(front))
+    }
+
+    /// What the bytes that have come give, where no more come. An error is want of memory.
+    pub fn end(&mut self, alloc: Global) -> Result<ResponseIn, AllocError>
+        ensures responds { IfOk result (RespondsBy self.old self.new ⊤) }
+        ensures fault { result ≢ Ok ResponseIn.ReadFault }
+        ensures err { OnErr result (self.new ≡ self.old) }
+    {
+        let came = self.reader.last(alloc)?;
+        Ok(answer(came))
     }
 
     /// Reads the next response off a link, in whatever pieces its bytes come. An error is want of memory: the reader then
@@ -78,118 +100,41 @@ impl ResponseReader {
         ensures quiet { result ≢ Ok ResponseIn.ReadFault → L.faults link.new ≡ L.faults link.old }
         ensures faults { L.faults link.old ≤ L.faults link.new }
     {
-        self.read(alloc, link)
+        let came = self.reader.next(alloc, link)?;
+        Ok(answer(came))
     }
+}
 
-    // Reads the content of a response whose head is whole.
-    fn read_content<L: Link>(
-        &mut self,
-        alloc: Global,
-        link: &mut L,
-        start: usize,
-        content: usize,
-        status: StatusCode,
-    ) -> Result<ResponseIn, AllocError>
-        requires { IsHeaded self.old start content status }
-        ensures answers { IfOk result (Responds (L.left link.old) (L.left link.new) self.old self.new) }
-        ensures kept { OnErr result (TakesMore (L.left link.old) (L.left link.new) self.old self.new) }
-        ensures given { Keeps (L.given link.old) (L.given link.new) }
-        ensures fault { result ≡ Ok ResponseIn.ReadFault → HasRisen (L.faults link.old) (L.faults link.new) }
-        ensures quiet { result ≢ Ok ResponseIn.ReadFault → L.faults link.new ≡ L.faults link.old }
-        ensures faults { L.faults link.old ≤ L.faults link.new }
-    {
-        let count = start + content;
-        while self.taken.len() < count {
-            let missing = count - self.taken.len();
-            match self.taken.fill(link, missing.min(LARGEST_PIECE))? {
-                Filled::More => {}
-                Filled::End => return Ok(ResponseIn::End),
-                Filled::Failed => return Ok(ResponseIn::ReadFault),
-            }
-        }
-        let body = Text::from_vec(self.taken.split(alloc, start, count)?);
-        if status.as_u16() == 200 {
-            return Ok(ResponseIn::Body(body));
-        }
-        Ok(ResponseIn::Status(status))
+// What stands at the front as an answer.
+fn front_answer(front: Front<StatusCode, ()>) -> Option<ResponseIn>
+    ensures { result ≡ front_response front }
+{
+    match front {
+        Front::Message { body, said } => Some(answered(said, body)),
+        Front::Wrong(()) => Some(ResponseIn::Bad),
+        Front::More => None,
     }
+}
 
-    // What is answered by the bytes that have come, if they tell it.
-    fn told<L: Link>(
-        &mut self,
-        alloc: Global,
-        link: &mut L,
-    ) -> Result<Option<ResponseIn>, AllocError>
-        ensures some { IfOk result (λ told. IfSome told (Responds (L.left link.old) (L.left link.new) self.old self.new)) }
-        ensures begun { result ≡ Ok None → IsResponseBegun self.old × (length self.old < longest_head) }
-        ensures same { result ≡ Ok None → (self.new ≡ self.old) × (link.new ≡ link.old) }
-        ensures kept { OnErr result (TakesMore (L.left link.old) (L.left link.new) self.old self.new) }
-        ensures given { Keeps (L.given link.old) (L.given link.new) }
-        ensures fault { result ≡ Ok (Some ResponseIn.ReadFault) → HasRisen (L.faults link.old) (L.faults link.new) }
-        ensures quiet { result ≢ Ok (Some ResponseIn.ReadFault) → L.faults link.new ≡ L.faults link.old }
-        ensures faults { L.faults link.old ≤ L.faults link.new }
-    {
-        match head_of(alloc, self.taken.as_slice())? {
-            Headed::Whole {
-                start,
-                content,
-                status,
-            } => Ok(Some(self.read_content(alloc, link, start, content, status)?)),
-            Headed::Wrong => Ok(Some(ResponseIn::Bad)),
-            Headed::Unfinished => Ok(None),
-        }
+// What was read as an answer.
+fn answer(came: Came<StatusCode, ()>) -> ResponseIn
+    ensures { result ≡ response_of came }
+{
+    match came {
+        Came::Message { body, said } => answered(said, body),
+        Came::Wrong(()) => ResponseIn::Bad,
+        Came::Ended => ResponseIn::End,
+        Came::Failed => ResponseIn::ReadFault,
     }
+}
 
-    // The same where the scan finds that they may tell something new.
-    fn told_if_due<L: Link>(
-        &mut self,
-        alloc: Global,
-        link: &mut L,
-        scan: &mut Scan,
-    ) -> Result<Option<ResponseIn>, AllocError>
-        requires scans { Scans scan.old.seen scan.old.place self.old }
-        requires none { HasNoResponse (take scan.old.seen self.old) }
-        ensures some { IfOk result (λ told. IfSome told (Responds (L.left link.old) (L.left link.new) self.old self.new)) }
-        ensures short { result ≡ Ok None → length self.old < longest_head }
-        ensures scans { result ≡ Ok None → Scans scan.new.seen scan.new.place self.old }
-        ensures none { result ≡ Ok None → HasNoResponse self.old }
-        ensures same { result ≡ Ok None → (self.new ≡ self.old) × (link.new ≡ link.old) }
-        ensures kept { OnErr result (TakesMore (L.left link.old) (L.left link.new) self.old self.new) }
-        ensures given { Keeps (L.given link.old) (L.given link.new) }
-        ensures fault { result ≡ Ok (Some ResponseIn.ReadFault) → HasRisen (L.faults link.old) (L.faults link.new) }
-        ensures quiet { result ≢ Ok (Some ResponseIn.ReadFault) → L.faults link.new ≡ L.faults link.old }
-        ensures faults { L.faults link.old ≤ L.faults link.new }
-    {
-        if !scan.is_due(self.taken.as_slice()) {
-            return Ok(None);
-        }
-        self.told(alloc, link)
+// What is answered by a response: its content, or another status than 200.
+#[tactic(auto, unfolding(crate::specs::Responding::answered))]
+fn answered(status: StatusCode, body: Text) -> ResponseIn
+    ensures { result ≡ answered status body }
+{
+    if status.as_u16() == 200 {
+        return ResponseIn::Body(body);
     }
-
-    // Reads the next response.
-    fn read<L: Link>(&mut self, alloc: Global, link: &mut L) -> Result<ResponseIn, AllocError>
-        ensures answers { IfOk result (Responds (L.left link.old) (L.left link.new) self.old self.new) }
-        ensures kept { OnErr result (TakesMore (L.left link.old) (L.left link.new) self.old self.new) }
-        ensures given { Keeps (L.given link.old) (L.given link.new) }
-        ensures fault { result ≡ Ok ResponseIn.ReadFault → HasRisen (L.faults link.old) (L.faults link.new) }
-        ensures quiet { result ≢ Ok ResponseIn.ReadFault → L.faults link.new ≡ L.faults link.old }
-        ensures faults { L.faults link.old ≤ L.faults link.new }
-    {
-        let mut scan = Scan::response();
-        loop {
-            if let Some(answer) = self.told_if_due(alloc, link, &mut scan)? {
-                return Ok(answer);
-            }
-            match self.taken.fill(link, HEAD_PIECE)? {
-                Filled::More => {}
-                Filled::End => {
-                    return match self.told(alloc, link)? {
-                        Some(answer) => Ok(answer),
-                        None => Ok(ResponseIn::End),
-                    };
-                }
-                Filled::Failed => return Ok(ResponseIn::ReadFault),
-            }
-        }
-    }
+    ResponseIn::Status(status)
 }

@@ -2,6 +2,7 @@ use bosh_ports::{MemoryLink, MemorySink, MemorySource};
 use std::alloc::Global;
 use std::test::Fail;
 
+mod feeding;
 mod refusals;
 mod requests;
 mod responses;

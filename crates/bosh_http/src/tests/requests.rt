@@ -5,16 +5,16 @@ use std::alloc::Global;
 use std::test::Fail;
 
 // A request with its content, and whether the connection ends after it.
-struct Row {
-    text: &'static [u8],
-    content: &'static [u8],
-    closing: bool,
+pub(super) struct Row {
+    pub(super) text: &'static [u8],
+    pub(super) content: &'static [u8],
+    pub(super) closing: bool,
 }
 
 // Requests that are served: a plain one; the heads that Strophe.js in Chromium and in Firefox, gloox, curl and nginx (to
 // an upstream) send; an old version without Host; a word in a list; names in any case with white space around the values
 // and a length twice; an empty line before; lines that end in LF alone.
-const SERVED: [Row; 11] = [
+pub(super) const SERVED: [Row; 11] = [
     Row {
         text: b"POST /http-bind HTTP/1.1\r\nHost: localhost\r\nContent-Length: 68\r\n\r\n<body rid='7' sid='zz' xmlns='http://jabber.org/protocol/httpbind'/>",
         content: b"<body rid='7' sid='zz' xmlns='http://jabber.org/protocol/httpbind'/>",

@@ -1,8 +1,8 @@
-use Rattle.std.proofs.Common.{List, ℕ, [], ◌+◌, ◌++◌, Bor, drop, refl, sym, ◌∙◌, ap, subst, arith}
+use Rattle.std.proofs.Common.{List, ℕ, [], ◌+◌, ◌++◌, Bor, drop, sym, ◌∙◌, ap, subst}
 use Rattle.std.proofs.lemmas.List.{take_all}
 use Rattle.std.proofs.KnownBytes.{Keeps-trans}
 use Rattle.bosh_ports.proofs.PartsLemmas.{joined, joined_more, joined_split, gives_fault}
-use Rattle.bosh_ports.specs.Sink.{AppendsFront, GivesAll}
+use Rattle.bosh_ports.specs.Sink.{AppendsFront}
 use Rattle.bosh_http.proofs.GatheringLemmas.{SoFar, one_part, part_of, front_before, gives_parts}
 use Rattle.bosh_http.proofs.gathering.send_gathered.Goals as goal
 

@@ -1,4 +1,4 @@
-use Rattle.std.proofs.Common.{◌≤◌, ◌-◌, length}
+use Rattle.std.proofs.Common.{◌-◌, length}
 use Rattle.bosh_http.specs.Scanning.{Scans, NoHeadEnds}
 use Rattle.bosh_http.proofs.scan.Scan.is_due.Given as goal
 
