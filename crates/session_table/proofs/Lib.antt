@@ -9,4 +9,4 @@ mod ReplyLemmas
 mod PurseLemmas
 mod PassLemmas
 mod HoldingLemmas
-mod TestOpening
+pub mod TestOpening
