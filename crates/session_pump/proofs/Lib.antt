@@ -1,0 +1,5 @@
+mod TurnedLemmas
+mod MovesLemmas
+mod PassingLemmas
+mod ServingLemmas
+mod GivingLemmas

@@ -1,0 +1,13 @@
+use Rattle.session_pump.specs.Giving.{IsAsked, looked, unasked}
+use Rattle.session_pump.proofs.GivingLemmas.{looks_any}
+use Rattle.session_pump.proofs.TurnedLemmas.{turned_as, turned_none}
+use Rattle.session_pump.proofs.giving.may_take.Goals as goal
+
+pub returns-then-not-owing-clause-asked : goal.returns-then-not-owing-clause-asked
+returns-then-not-owing-clause-asked g c = turned_none _ _ _ c.requires (λ k. unasked)
+
+pub returns-clause-asked : goal.returns-clause-asked
+returns-clause-asked g c = turned_as _ _ _ _ IsAsked (λ k m looks. looked (looks_any looks)) c.in_ok-answer.ensures.looked
+
+pub returns-in_err-answer-clause-asked : goal.returns-in_err-answer-clause-asked
+returns-in_err-answer-clause-asked g c = turned_as _ _ _ _ IsAsked (λ k m looks. looked (looks_any looks)) c.in_err-answer.ensures.looked

@@ -1,0 +1,32 @@
+use Rattle.std.specs.Prelude.{◌≡◌, ◌+◌, ℕ, IsSome, Option, sum_by}
+use Rattle.session_table.specs.Purses.{OthersStay, Turned, held}
+use Rattle.session_pump.specs.Sides.{Moves}
+use Rattle.session_pump.proofs.passing.pass_all.Given as goal
+
+abbrev pub invariant-loop : goal.invariant-loop
+invariant-loop g l = record {
+  next : (goal.iterator-loop g).can_next l.iterator';
+  finite : (goal.iterator-loop g).is_finite l.iterator';
+  held : IsSome (held l.purse.sessions l.number);
+  others : OthersStay l.number l.fn.purse.sessions l.purse.sessions;
+  directory : l.purse.directory ≡ l.fn.purse.directory;
+  moves : (moment : Option ℕ) → Turned l.number l.fn.purse.sessions l.purse.sessions (λ old new. Moves moment
+      (record {
+        known = old;
+        line = l.fn.line;
+        ends = record {
+          told = (goal.Backend-dyn g (l.fn.stand.host.end.vtable, l.fn.stand.host.end.value)).told l.fn.stand.host.end.value;
+          failures = l.fn.stand.failures;
+          faults = ((goal.Backend-dyn g (l.fn.stand.host.end.vtable, l.fn.stand.host.end.value)).counts l.fn.stand.host.end.value).faults + sum_by (λ spare. ((goal.Backend-dyn g (spare.vtable, spare.value)).counts spare.value).faults) l.fn.stand.host.spares.items;
+        };
+      })
+      (record {
+        known = new;
+        line = l.line;
+        ends = record {
+          told = (goal.Backend-dyn g (l.stand.host.end.vtable, l.stand.host.end.value)).told l.stand.host.end.value;
+          failures = l.stand.failures;
+          faults = ((goal.Backend-dyn g (l.stand.host.end.vtable, l.stand.host.end.value)).counts l.stand.host.end.value).faults + sum_by (λ spare. ((goal.Backend-dyn g (spare.vtable, spare.value)).counts spare.value).faults) l.stand.host.spares.items;
+        };
+      }));
+}

@@ -1,0 +1,27 @@
+use Rattle.session_pump.specs.Sides.{none}
+use Rattle.session_pump.proofs.ServingLemmas.{after_still, serves_early, serves_on, serves_untimed}
+use Rattle.session_pump.proofs.TurnedLemmas.{turned_none}
+use Rattle.session_pump.proofs.serving.serve_line.Goals as goal
+
+pub returns-in_err-open_wire-clause-serves : goal.returns-in_err-open_wire-clause-serves
+returns-in_err-open_wire-clause-serves g c =
+    serves_early _ _ _ _ _ _ _ _ c.from_residual.ensures.0
+    (after_still _ _ _ _ _ _ _ _ _ (c.in_err-open_wire.ensures.moves (g.C.Clock.moment c.args.clock.now)) (turned_none _ _ _ c.requires (λ k. none)))
+
+pub returns-in_err-tell_cut-clause-serves : goal.returns-in_err-tell_cut-clause-serves
+returns-in_err-tell_cut-clause-serves g c =
+    serves_early _ _ _ _ _ _ _ _ c.from_residual-in_err-tell_cut.ensures.0
+    (after_still _ _ _ _ _ _ _ _ _ (c.in_ok-open_wire.ensures.moves (g.C.Clock.moment c.args.clock.now)) c.in_err-tell_cut.ensures.moves)
+
+pub returns-in_err-tick-clause-serves : goal.returns-in_err-tick-clause-serves
+returns-in_err-tick-clause-serves g c =
+    serves_untimed _ _ _ _ _ _ _ _ c.in_err-tick.field-0.0 _ c.from_residual-in_err-tick.ensures.0
+    (after_still _ _ _ _ _ _ _ _ _ (c.in_ok-open_wire.ensures.moves (g.C.Clock.moment c.args.clock.now)) c.in_ok-tell_cut.ensures.moves)
+    c.in_err-tick.ensures.ticks
+
+pub returns-clause-serves : goal.returns-clause-serves
+returns-clause-serves g c =
+    serves_on _ _ _ _ _ _ _ _ _ _ _ _ (c.in_ok-tell_cut.ensures.opened c.in_ok-open_wire.ensures.opened)
+    (after_still _ _ _ _ _ _ _ _ _ (c.in_ok-open_wire.ensures.moves (g.C.Clock.moment c.args.clock.now)) c.in_ok-tell_cut.ensures.moves)
+    c.in_ok-tick.ensures.ticks
+    (c.pass_all.ensures.passes (g.C.Clock.moment c.args.clock.now))

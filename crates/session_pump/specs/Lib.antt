@@ -1,0 +1,4 @@
+pub mod Ends
+pub mod Giving
+pub mod Proper
+pub mod Sides

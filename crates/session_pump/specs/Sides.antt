@@ -1,0 +1,123 @@
+-- A session beside its host's back end, as the pump sees both, and the moves that it makes between them.
+use Rattle.std.specs.Prelude.{◌≡◌, ◌≢◌, ℕ, ⊤, List, Option, Some, None, IfSome, Result, Ok, Err}
+use Rattle.std.specs.declared.alloc.AllocError.{AllocError}
+use Rattle.bosh_types.specs.declared.ending.Closing.{Closing}
+use Rattle.bosh_types.specs.declared.ending.Closing.TheVariants.{RemoteConnectionFailed}
+use Rattle.bosh_types.specs.declared.inward.Inward.{Inward}
+use Rattle.parked_gate.specs.Passes.{Calls, Known}
+use Rattle.session_journal.specs.declared.call.Call.{Call}
+use Rattle.session_journal.specs.declared.call.Call.TheVariants as calls
+use Rattle.session_journal.specs.declared.call.Reply.{Reply}
+use Rattle.session_journal.specs.declared.call.Reply.TheVariants as replies
+use Rattle.session_journal.specs.declared.entry.Entry.{Entry}
+use Rattle.session_journal.specs.Seen.{RepliesTo}
+use Rattle.xmpp_backend.specs.Told.{Told, Becomes, opened_too, passed_too, closed_too}
+use Rattle.session_pump.specs.Ends.{Ends, HasFailed, StaysAs}
+use Rattle.session_pump.specs.declared.line.Line.{Line}
+use Rattle.session_pump.specs.declared.line.Stage.TheVariants as stages
+
+-- what the pump's pass of a session knows, its line, and the back ends of its host
+pub record Side : Type 0 where
+  pub known : Known Entry
+  pub line : Line
+  pub ends : Ends
+
+-- the wire was opened on the back end that stands behind the host now
+abbrev pub IsOpen : Side → Type 0
+IsOpen s = s.line.stage ≡ stages.Opened s.ends.failures
+
+-- it was opened on one that has failed since, and its session wasn't told yet
+abbrev pub IsCut : Side → Type 0
+IsCut s = (on : ℕ) × (s.line.stage ≡ stages.Opened on) × (on ≢ s.ends.failures)
+
+-- the pass called its session so, and this was the reply; where there was no memory nothing was entered
+abbrev pub Called : Call → Result Reply AllocError → Known Entry → Known Entry → Type 0
+Called call result old new = Calls (λ e. e.caller) (λ before made. RepliesTo before call result made) old new
+
+-- the moment of a call is the clock's, where that tells it
+abbrev pub IsAt : Option ℕ → ℕ → Type 0
+IsAt moment now = IfSome moment (λ told. now ≡ told)
+
+-- One move of the pump for a session. What is taken of the session is kept, and goes to the back end before more is taken;
+-- where the wire isn't open it is let go. No move is made but these.
+pub data Move (moment : Option ℕ) : Side → Side → Type 0 where
+  ticks : {s : Side} (new : Known Entry) (now : ℕ) (result : Result Reply AllocError)
+      → IsAt moment now → Called (calls.Tick now) result s.known new → Move moment s (record s { known = new })
+  takes : {s : Side} (new : Known Entry) (item : Inward) → s.line.kept ≡ None
+      → Called calls.TakeInward (Ok (replies.TakeInward (Some item))) s.known new
+      → Move moment s (record s { known = new; line = record s.line { kept = Some item } })
+  finds_none : {s : Side} (new : Known Entry) → Called calls.TakeInward (Ok (replies.TakeInward None)) s.known new
+      → Move moment s (record s { known = new })
+  wants_memory : {s : Side} (new : Known Entry) (call : Call) (error : AllocError) → Called call (Err error) s.known new
+      → Move moment s (record s { known = new })
+  passes : {s : Side} (item : Inward) (told : Option Told) → IsOpen s → s.line.kept ≡ Some item
+      → Becomes s.ends.told told (passed_too s.line.wire item)
+      → Move moment s (record s { ends = record s.ends { told = told }; line = record s.line { kept = None } })
+  lets_go : {s : Side} → (IsOpen s → ⊥) → Move moment s (record s { line = record s.line { kept = None } })
+  opens : {s : Side} (told : Option Told) → s.line.stage ≡ stages.Unopened → Becomes s.ends.told told (opened_too s.line.wire)
+      → Move moment s (record s { ends = record s.ends { told = told }; line = record s.line { stage = stages.Opened s.ends.failures } })
+  closes : {s : Side} (told : Option Told) → IsOpen s → Becomes s.ends.told told (closed_too s.line.wire)
+      → Move moment s (record s { ends = record s.ends { told = told }; line = record s.line { stage = stages.Lost } })
+  fails : {s : Side} (ends : Ends) → HasFailed s.ends ends → Move moment s (record s { ends = ends })
+  fails_at : {s : Side} (item : Inward) (ends : Ends) → IsOpen s → s.line.kept ≡ Some item → HasFailed s.ends ends
+      → Move moment s (record s { line = record s.line { kept = None }; ends = ends })
+  does_nothing : {s : Side} (told : Option Told) → StaysAs s.ends.told told → Move moment s (record s { ends = record s.ends { told = told } })
+  fails_to_open : {s : Side} (ends : Ends) → s.line.stage ≡ stages.Unopened → HasFailed s.ends ends
+      → Move moment s (record s { line = record s.line { stage = stages.Opened s.ends.failures }; ends = ends })
+  tells_cut : {s : Side} (new : Known Entry) (now : ℕ) (reply : Reply) → IsCut s → IsAt moment now
+      → Called (calls.BackClosed 0 RemoteConnectionFailed now) (Ok reply) s.known new
+      → Move moment s (record s { known = new; line = record s.line { stage = stages.Lost } })
+
+-- what a call that takes the next item is replied
+abbrev pub taken_as : Result (Option Inward) AllocError → Result Reply AllocError
+taken_as (Ok item) = Ok (replies.TakeInward item)
+taken_as (Err error) = Err error
+
+-- moves one after the other
+pub data Moves (moment : Option ℕ) : Side → Side → Type 0 where
+  none : {s : Side} → Moves moment s s
+  more : {s t u : Side} → Moves moment s t → Move moment t u → Moves moment s u
+
+-- moves until nothing inward of the session was left
+pub record MovesToTheEnd (moment : Option ℕ) (s t : Side) : Type 0 where
+  pub last : Side
+  pub moves : Moves moment s last
+  pub kept : last.line.kept ≡ None
+  pub called : Called calls.TakeInward (Ok (replies.TakeInward None)) last.known t.known
+  pub same : t ≡ record last { known = t.known }
+
+-- until then, or there was no memory
+abbrev pub PassesAll : Option ℕ → Side → Side → Result ⊤ AllocError → Type 0
+PassesAll moment s t (Ok done) = MovesToTheEnd moment s t
+PassesAll moment s t (Err error) = Moves moment s t
+
+-- The wire was opened, or opening it failed, then time passed, and then moves were made until nothing inward was left; or there
+-- was no memory for one of these
+pub record ServesAll (moment : Option ℕ) (s t : Side) : Type 0 where
+  pub first : Side
+  pub opens : Moves moment s first
+  pub opened : first.line.stage ≢ stages.Unopened
+  pub now : ℕ
+  pub at : IsAt moment now
+  pub reply : Reply
+  pub later : Known Entry
+  pub ticks : Called (calls.Tick now) (Ok reply) first.known later
+  pub passes : MovesToTheEnd moment (record first { known = later }) t
+
+abbrev pub Serves : Option ℕ → Side → Side → Result ⊤ AllocError → Type 0
+Serves moment s t (Ok done) = ServesAll moment s t
+Serves moment s t (Err error) = Moves moment s t
+
+-- time passed for the session, or there was no memory
+abbrev pub Ticks : Option ℕ → Result ⊤ AllocError → Known Entry → Known Entry → Type 0
+Ticks moment (Ok done) old new = (now : ℕ) × (reply : Reply) × IsAt moment now × Called (calls.Tick now) (Ok reply) old new
+Ticks moment (Err error) old new = (now : ℕ) × Called (calls.Tick now) (Err error) old new
+
+-- its stream was closed, or there was no memory
+abbrev pub ClosesStream : Option ℕ → Closing → Result ⊤ AllocError → Known Entry → Known Entry → Type 0
+ClosesStream moment closing (Ok done) old new = (now : ℕ) × (reply : Reply) × IsAt moment now × Called (calls.BackClosed 0 closing now) (Ok reply) old new
+ClosesStream moment closing (Err error) old new = (now : ℕ) × Called (calls.BackClosed 0 closing now) (Err error) old new
+
+-- the session was given a stanza, or there was no memory
+abbrev pub GivesStanza : Option ℕ → List ℕ → Result Reply AllocError → Known Entry → Known Entry → Type 0
+GivesStanza moment stanza result old new = (now : ℕ) × IsAt moment now × Called (calls.Back 0 stanza now) result old new

@@ -1,0 +1,155 @@
+// What a back end gave goes to its session.
+ghost use Rattle.std.specs.Prelude.{◌≡◌, ◌≢◌, ◌+◌, ◌&&◌, IsSome, IsTrue, nat_le, nat_lt};
+ghost use Rattle.body_cutter.specs.Cutting.{is_stanza};
+ghost use Rattle.bosh_types.specs.Limits.{most_waiting, waiting_bytes};
+ghost use Rattle.session_core.specs.declared.replies.Taken.{Taken};
+ghost use Rattle.session_core.specs.declared.replies.Taken.TheVariants as takings;
+ghost use Rattle.session_journal.specs.declared.call.Reply.TheVariants as replies;
+ghost use Rattle.session_table.specs.Purses.{OthersStay, Turned, held};
+ghost use Rattle.xmpp_backend.specs.declared.backend.Given.TheVariants as given;
+ghost use Rattle.session_pump.specs.Giving.{Gives, IsAsked};
+
+use crate::line::Owing;
+use crate::serving::close_stream;
+use bosh_ports::{Bell, BellKey};
+use bosh_types::limits::{MOST_WAITING, WAITING_BYTES};
+use bosh_types::{SharedText, StreamNo};
+use server_ports::Clock;
+use session_core::{Taken, Waiting};
+use session_journal::{Answer, Call, Question, Reply};
+use session_table::Purse;
+use std::alloc::AllocError;
+use std::sync::Wait;
+use xmpp_backend::Given;
+
+/// What became of something that a back end gave.
+#[derive(Clone, Copy, Debug, PartialEq, Eq)]
+pub(crate) enum Giving {
+    /// Its session took it, or has ended.
+    Done,
+    /// Its session has no room for it.
+    Full,
+}
+
+/// Gives a session what is for it. The only error is want of memory.
+pub(crate) fn give<R: Wait, C: Clock, B: Bell>(
+    rt: &R,
+    purse: &mut Purse,
+    owing: &Owing,
+    clock: &C,
+    bell: &mut B,
+) -> Result<Giving, AllocError>
+    requires { IsSome (held purse.old.sessions owing.now.number) }
+    ensures gives { Turned owing.now.number purse.old.sessions purse.new.sessions (Gives (C.moment clock.now) owing.now.given result) }
+    ensures others { OthersStay owing.now.number purse.old.sessions purse.new.sessions }
+    ensures directory { purse.new.directory ≡ purse.old.directory }
+    ensures silences { B.silences bell.new ≡ B.silences bell.old }
+{
+    match &owing.given {
+        Given::Stanza(stanza) => give_stanza(rt, purse, owing.number, clock, bell, stanza),
+        Given::Closed(closing) => {
+            match close_stream(rt, purse, owing.number, clock, bell, *closing) {
+                Ok(()) => Ok(Giving::Done),
+                Err(AllocError) => Err(AllocError),
+            }
+        }
+    }
+}
+
+// Gives a session a stanza.
+fn give_stanza<R: Wait, C: Clock, B: Bell>(
+    rt: &R,
+    purse: &mut Purse,
+    number: u64,
+    clock: &C,
+    bell: &mut B,
+    stanza: &SharedText,
+) -> Result<Giving, AllocError>
+    requires held { IsSome (held purse.old.sessions number) }
+    requires stanza { IsTrue (is_stanza stanza.now) }
+    ensures gives { Turned number purse.old.sessions purse.new.sessions (Gives (C.moment clock.now) (given.Stanza stanza.now) result) }
+    ensures others { OthersStay number purse.old.sessions purse.new.sessions }
+    ensures directory { purse.new.directory ≡ purse.old.directory }
+    ensures silences { B.silences bell.new ≡ B.silences bell.old }
+{
+    let Ok(stanza) = stanza.again() else {
+        return Err(AllocError);
+    };
+    let now = clock.now();
+    let stream = StreamNo::unnamed();
+    let call = Call::Back {
+        stream,
+        stanza,
+        now,
+    };
+    match purse.call(rt, number, call) {
+        Ok(reply) => Ok(answered(bell, number, reply)),
+        Err(AllocError) => Err(AllocError),
+    }
+}
+
+// What a session replied to a stanza. Where it took it, those who wait for the session look again.
+fn answered<B: Bell>(bell: &mut B, number: u64, reply: Reply) -> Giving
+    requires { (taken : Taken) × (reply ≡ replies.Back taken) }
+    ensures done { result ≡ Giving.Done → (taken : Taken) × (reply ≡ replies.Back taken) × (taken ≢ takings.Full) }
+    ensures full { result ≡ Giving.Full → reply ≡ replies.Back takings.Full }
+    ensures silences { B.silences bell.new ≡ B.silences bell.old }
+{
+    match reply {
+        Reply::Back(Taken::Full) => Giving::Full,
+        Reply::Back(Taken::Done) => {
+            bell.ring(BellKey(number));
+            Giving::Done
+        }
+        Reply::Back(Taken::Over) => Giving::Done,
+        Reply::Arrive(_) => unreachable!(),
+        Reply::BackClosed(_) => unreachable!(),
+        Reply::Tick(_) => unreachable!(),
+        Reply::TakeInward(_) => unreachable!(),
+    }
+}
+
+/// Whether a session is to be given what is for it: where it had no room for that before it is asked for room first, so that its
+/// journal isn't filled with what it refuses. The only error is want of memory.
+pub(crate) fn may_take<R: Wait>(
+    rt: &R,
+    purse: &mut Purse,
+    owing: &Owing,
+) -> Result<bool, AllocError>
+    requires { IsSome (held purse.old.sessions owing.now.number) }
+    ensures asked { Turned owing.now.number purse.old.sessions purse.new.sessions IsAsked }
+    ensures others { OthersStay owing.now.number purse.old.sessions purse.new.sessions }
+    ensures directory { purse.new.directory ≡ purse.old.directory }
+{
+    if !owing.was_refused {
+        return Ok(true);
+    }
+    let answer = purse.look(rt, owing.number, &Question::Load)?;
+    Ok(says_room(&answer, length_of(&owing.given)))
+}
+
+// How many bytes of stanzas it has.
+fn length_of(given: &Given) -> usize {
+    match given {
+        Given::Stanza(stanza) => stanza.len(),
+        Given::Closed(_) => 0,
+    }
+}
+
+// Whether there is room for so many bytes by what the session answered, or it has ended.
+fn says_room(answer: &Answer, length: usize) -> bool {
+    match answer {
+        Answer::Load { waiting, ending } => ending.is_some() || fits(*waiting, length),
+        Answer::Home(_) => true,
+    }
+}
+
+// Whether one more item of so many bytes may wait beside these.
+fn fits(waiting: Waiting, length: usize) -> bool
+    ensures { result ≡ nat_lt waiting.items most_waiting && nat_le (waiting.bytes + length) waiting_bytes }
+{
+    if waiting.items as usize >= MOST_WAITING {
+        return false;
+    }
+    length <= WAITING_BYTES && waiting.bytes as usize <= WAITING_BYTES - length
+}

@@ -1,0 +1,204 @@
+// The hosts of a server, with what stands behind each.
+ghost use Rattle.std.specs.Prelude.{◌≡◌, ◌≢◌, ◌+◌, ◌<◌, IfNone, IfOk, IfSome, false, length, map, sum_by};
+ghost use Rattle.std.specs.List.{list_any};
+ghost use Rattle.std.specs.Str.{bytes_eq};
+ghost use Rattle.xmpp_backend.specs.Counts.{counted_on};
+ghost use Rattle.xmpp_backend.specs.Told.{GivesStanza, closed_too, opened_too, passed_too};
+ghost use Rattle.session_pump.specs.Ends.{CallsEnd, PollsEnd};
+
+use crate::line::Owing;
+use bosh_types::{CopyIn, HostName, HostNames, Inward, Stanzas, Text, Wire, copy_items};
+use std::alloc::{AllocError, Global};
+use std::mem::{replace, swap};
+use xmpp_backend::{Backend, Passed, Polled};
+
+/// A host: its name, the stanzas that greet each new session, its back end, and those that take its place one after the other
+/// when one fails.
+#[derive(Drop)]
+pub struct Host {
+    pub name: Text,
+    pub greeting: Stanzas,
+    pub end: Box<dyn Backend + Send>,
+    pub spares: Vec<Box<dyn Backend + Send>>,
+}
+
+/// What became of a back end that was to take another's place.
+#[derive(Drop)]
+pub enum Replaced {
+    /// It stands behind the host now, and this one did before.
+    Old(Box<dyn Backend + Send>),
+    /// No host has that name. It is handed back.
+    Unknown(Box<dyn Backend + Send>),
+}
+
+/// A host, and what the pump remembers of it.
+#[derive(Drop)]
+pub struct Stand {
+    pub host: Host,
+    /// How many back ends failed before the one that stands behind it now.
+    pub failures: u64,
+    // How many of its spares were used. A back end that failed stands in the place of the spare that took its own.
+    used: usize,
+    /// What its back end gave, and no session took yet.
+    pub kept: Option<Owing>,
+}
+
+impl Stand {
+    /// Opens a wire to the host at its back end.
+    pub(crate) fn open(&mut self, wire: Wire) -> Passed
+        ensures ends { CallsEnd (opened_too wire) result
+            (record { told = told self.old.host.end; failures = self.old.failures; faults = (counts self.old.host.end).faults + sum_by (λ spare. (counts spare).faults) self.old.host.spares.items })
+            (record { told = told self.new.host.end; failures = self.new.failures; faults = (counts self.new.host.end).faults + sum_by (λ spare. (counts spare).faults) self.new.host.spares.items }) }
+        ensures kept { self.new.kept ≡ self.old.kept }
+        ensures name { self.new.host.name ≡ self.old.host.name }
+    {
+        let passed = self.host.end.open(wire, self.host.name.as_slice());
+        self.exchange_where_failed(passed);
+        passed
+    }
+
+    /// Passes an item on a wire.
+    pub(crate) fn pass(&mut self, wire: Wire, item: &Inward) -> Passed
+        ensures ends { CallsEnd (passed_too wire item.now) result
+            (record { told = told self.old.host.end; failures = self.old.failures; faults = (counts self.old.host.end).faults + sum_by (λ spare. (counts spare).faults) self.old.host.spares.items })
+            (record { told = told self.new.host.end; failures = self.new.failures; faults = (counts self.new.host.end).faults + sum_by (λ spare. (counts spare).faults) self.new.host.spares.items }) }
+        ensures kept { self.new.kept ≡ self.old.kept }
+        ensures name { self.new.host.name ≡ self.old.host.name }
+    {
+        let passed = self.host.end.pass(wire, item);
+        self.exchange_where_failed(passed);
+        passed
+    }
+
+    /// Closes a wire.
+    pub(crate) fn close(&mut self, wire: Wire) -> Passed
+        ensures ends { CallsEnd (closed_too wire) result
+            (record { told = told self.old.host.end; failures = self.old.failures; faults = (counts self.old.host.end).faults + sum_by (λ spare. (counts spare).faults) self.old.host.spares.items })
+            (record { told = told self.new.host.end; failures = self.new.failures; faults = (counts self.new.host.end).faults + sum_by (λ spare. (counts spare).faults) self.new.host.spares.items }) }
+        ensures kept { self.new.kept ≡ self.old.kept }
+        ensures name { self.new.host.name ≡ self.old.host.name }
+    {
+        let passed = self.host.end.close(wire);
+        self.exchange_where_failed(passed);
+        passed
+    }
+
+    /// The next thing that the back end gave.
+    pub(crate) fn poll(&mut self) -> Polled
+        ensures ends { PollsEnd result
+            (record { told = told self.old.host.end; failures = self.old.failures; faults = (counts self.old.host.end).faults + sum_by (λ spare. (counts spare).faults) self.old.host.spares.items })
+            (record { told = told self.new.host.end; failures = self.new.failures; faults = (counts self.new.host.end).faults + sum_by (λ spare. (counts spare).faults) self.new.host.spares.items }) }
+        ensures stanza { GivesStanza result }
+        ensures kept { self.new.kept ≡ self.old.kept }
+        ensures name { self.new.host.name ≡ self.old.host.name }
+    {
+        let polled = self.host.end.poll();
+        if let Polled::Failed = &polled {
+            self.exchange();
+        }
+        polled
+    }
+
+    fn is_named(&self, name: &[u8]) -> bool
+        ensures { result ≡ bytes_eq self.now.host.name name.now }
+    {
+        self.host.name.as_slice() == name
+    }
+
+    fn exchange_where_failed(&mut self, passed: Passed)
+        ensures same { passed ≢ Passed.Failed → self.new ≡ self.old }
+        ensures failed { passed ≡ Passed.Failed → self.new.failures ≡ counted_on self.old.failures }
+        ensures faults { passed ≡ Passed.Failed → (counts self.new.host.end).faults + sum_by (λ spare. (counts spare).faults) self.new.host.spares.items
+            ≡ (counts self.old.host.end).faults + sum_by (λ spare. (counts spare).faults) self.old.host.spares.items }
+        ensures kept { self.new.kept ≡ self.old.kept }
+        ensures name { self.new.host.name ≡ self.old.host.name }
+    {
+        if passed == Passed::Failed {
+            self.exchange();
+        }
+    }
+
+    // The back end failed: the next spare that wasn't used takes its place, where there is one.
+    fn exchange(&mut self)
+        ensures failures { self.new.failures ≡ counted_on self.old.failures }
+        ensures faults { (counts self.new.host.end).faults + sum_by (λ spare. (counts spare).faults) self.new.host.spares.items
+            ≡ (counts self.old.host.end).faults + sum_by (λ spare. (counts spare).faults) self.old.host.spares.items }
+        ensures kept { self.new.kept ≡ self.old.kept }
+        ensures name { self.new.host.name ≡ self.old.host.name }
+    {
+        self.failures = self.failures.saturating_add(1);
+        if let Some(spare) = self.host.spares.get_mut(self.used) {
+            swap(&mut self.host.end, spare);
+            self.used += 1;
+        }
+    }
+}
+
+/// The hosts of a server.
+#[derive(Drop)]
+pub struct Hosts {
+    pub stands: Vec<Stand>,
+}
+
+impl Hosts {
+    /// The only error is want of memory.
+    pub fn new(alloc: Global, hosts: Vec<Host>) -> Result<Hosts, AllocError>
+        ensures hosts { IfOk result (λ made. map (λ stand. stand.host) made.stands.items ≡ hosts.items) }
+    {
+        let mut stands = Vec::with_capacity(alloc, hosts.len())?;
+        for host in hosts {
+            stands.push(Stand {
+                host,
+                failures: 0,
+                used: 0,
+                kept: None,
+            })?;
+        }
+        Ok(Hosts { stands })
+    }
+
+    /// Their names and greetings. The only error is want of memory.
+    pub fn names(&self, alloc: Global) -> Result<HostNames, AllocError>
+        ensures { IfOk result (λ names. names ≡ map (λ stand. record { name = stand.host.name; greeting = stand.host.greeting }) self.now.stands.items) }
+    {
+        let mut names = Vec::with_capacity(alloc, self.stands.len())?;
+        for stand in &self.stands {
+            names.push(HostName {
+                name: stand.host.name.copy_in(alloc)?,
+                greeting: Stanzas::from_vec(copy_items(alloc, stand.host.greeting.as_slice())?),
+            })?;
+        }
+        Ok(HostNames::from_vec(names))
+    }
+
+    /// Puts a back end in the place of the one of this host. The wires that are open on the old one are so no longer, as after a
+    /// failure. It takes no memory.
+    pub fn replace(&mut self, name: &[u8], end: Box<dyn Backend + Send>) -> Replaced
+        ensures unknown { (given : _) → result ≡ Replaced.Unknown given
+            → (given ≡ end) × (self.new.stands ≡ self.old.stands) × (list_any (λ stand. bytes_eq stand.host.name name.now) self.old.stands.items ≡ false) }
+    {
+        let Some(place) = self.place_of(name) else {
+            return Replaced::Unknown(end);
+        };
+        let Some(stand) = self.stands.get_mut(place) else {
+            unreachable!();
+        };
+        stand.failures = stand.failures.saturating_add(1);
+        Replaced::Old(replace(&mut stand.host.end, end))
+    }
+
+    /// The place of the host of this name.
+    pub(crate) fn place_of(&self, name: &[u8]) -> Option<usize>
+        ensures within { IfSome result (λ place. place < length self.now.stands.items) }
+        ensures none { IfNone result (list_any (λ stand. bytes_eq stand.host.name name.now) self.now.stands.items ≡ false) }
+    {
+        let mut place = 0;
+        for stand in &self.stands {
+            if stand.is_named(name) {
+                return Some(place);
+            }
+            place += 1;
+        }
+        None
+    }
+}

@@ -1,0 +1,21 @@
+// The pump of a server: it gives each session's items to the back end of its host and each session what the back ends gave for it,
+// lets time pass for sessions, and removes those that have ended.
+#![tactic(auto)]
+
+mod giving;
+mod hosts;
+mod line;
+mod passing;
+mod polling;
+mod pump;
+mod serving;
+mod session;
+#[cfg(test)]
+mod tests;
+mod turn;
+
+pub use hosts::{Host, Hosts, Replaced, Stand};
+pub use line::{Line, Owing, Stage};
+pub use polling::poll_host;
+pub use pump::Pump;
+pub use serving::serve_line;

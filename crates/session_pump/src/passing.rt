@@ -1,0 +1,113 @@
+// What is inward of a session goes to the back end of its host.
+ghost use Rattle.std.specs.Prelude.{◌≡◌, ◌+◌, ℕ, IsSome, None, OnOk, Option, sum_by};
+ghost use Rattle.parked_gate.specs.Passes.{Known};
+ghost use Rattle.session_journal.specs.declared.call.Call.TheVariants as calls;
+ghost use Rattle.session_journal.specs.declared.call.Reply.TheVariants as replies;
+ghost use Rattle.session_journal.specs.declared.entry.Entry.{Entry};
+ghost use Rattle.session_table.specs.Purses.{OthersStay, Turned, held};
+ghost use Rattle.session_pump.specs.Sides.{Called, Moves, PassesAll, taken_as};
+
+use crate::hosts::Stand;
+use crate::line::Line;
+use bosh_types::Inward;
+use session_journal::{Call, Reply};
+use session_table::Purse;
+use std::alloc::AllocError;
+use std::sync::Wait;
+use xmpp_backend::Passed;
+
+/// Passes the items of a session on, in their order, until none is left. Where the back end isn't open to it they are let go.
+/// The only error is want of memory, and what was taken then and not passed is kept.
+pub(crate) fn pass_all<R: Wait>(
+    rt: &R,
+    purse: &mut Purse,
+    number: u64,
+    line: &mut Line,
+    stand: &mut Stand,
+) -> Result<(), AllocError>
+    requires { IsSome (held purse.old.sessions number) }
+    ensures passes { (moment : Option ℕ) → Turned number purse.old.sessions purse.new.sessions (λ old new. PassesAll moment
+        (record { known = old; line = line.old; ends = record { told = told stand.old.host.end; failures = stand.old.failures; faults = (counts stand.old.host.end).faults + sum_by (λ spare. (counts spare).faults) stand.old.host.spares.items } })
+        (record { known = new; line = line.new; ends = record { told = told stand.new.host.end; failures = stand.new.failures; faults = (counts stand.new.host.end).faults + sum_by (λ spare. (counts spare).faults) stand.new.host.spares.items } })
+        result) }
+    ensures others { OthersStay number purse.old.sessions purse.new.sessions }
+    ensures directory { purse.new.directory ≡ purse.old.directory }
+{
+    for _ in rt.forever() {
+        hand_on(line, stand)?;
+        let Some(item) = next_item(rt, purse, number)? else {
+            return Ok(());
+        };
+        line.kept = Some(item);
+    }
+    unreachable!()
+}
+
+/// Takes the items of a session that has no back end, and lets them go. The only error is want of memory.
+pub(crate) fn drop_all<R: Wait>(rt: &R, purse: &mut Purse, number: u64) -> Result<(), AllocError>
+    requires { IsSome (held purse.old.sessions number) }
+    ensures others { OthersStay number purse.old.sessions purse.new.sessions }
+    ensures directory { purse.new.directory ≡ purse.old.directory }
+    ensures held { IsSome (held purse.new.sessions number) }
+{
+    for _ in rt.forever() {
+        if next_item(rt, purse, number)?.is_none() {
+            return Ok(());
+        }
+    }
+    unreachable!()
+}
+
+// Takes the next item of the session, where there is one.
+fn next_item<R: Wait>(rt: &R, purse: &mut Purse, number: u64) -> Result<Option<Inward>, AllocError>
+    requires { IsSome (held purse.old.sessions number) }
+    ensures took { Turned number purse.old.sessions purse.new.sessions (Called calls.TakeInward (taken_as result)) }
+    ensures others { OthersStay number purse.old.sessions purse.new.sessions }
+    ensures directory { purse.new.directory ≡ purse.old.directory }
+{
+    match purse.call(rt, number, Call::TakeInward) {
+        Ok(reply) => Ok(item_in(reply)),
+        Err(AllocError) => Err(AllocError),
+    }
+}
+
+// Passes what is kept on, where the wire is open, and lets it go where it isn't.
+fn hand_on(line: &mut Line, stand: &mut Stand) -> Result<(), AllocError>
+    ensures moves { (moment : Option ℕ) → (known : Known Entry) → Moves moment
+        (record { known = known; line = line.old; ends = record { told = told stand.old.host.end; failures = stand.old.failures; faults = (counts stand.old.host.end).faults + sum_by (λ spare. (counts spare).faults) stand.old.host.spares.items } })
+        (record { known = known; line = line.new; ends = record { told = told stand.new.host.end; failures = stand.new.failures; faults = (counts stand.new.host.end).faults + sum_by (λ spare. (counts spare).faults) stand.new.host.spares.items } }) }
+    ensures none { OnOk result (line.new.kept ≡ None) }
+{
+    let Some(item) = &line.kept else {
+        return Ok(());
+    };
+    if !line.is_open_on(stand.failures) {
+        line.kept = None;
+        return Ok(());
+    }
+    match stand.pass(line.wire, item) {
+        Passed::Done => {
+            line.kept = None;
+            Ok(())
+        }
+        Passed::Failed => {
+            line.kept = None;
+            Ok(())
+        }
+        Passed::NoMemory => Err(AllocError),
+    }
+}
+
+// The item that a session gave.
+fn item_in(reply: Reply) -> Option<Inward>
+    requires { (item : Option Inward) × (reply ≡ replies.TakeInward item) }
+    ensures { reply ≡ replies.TakeInward result }
+{
+    match reply {
+        Reply::TakeInward(item) => item,
+        Reply::Arrive(_) => unreachable!(),
+        Reply::Back(_) => unreachable!(),
+        Reply::BackClosed(_) => unreachable!(),
+        Reply::Tick(_) => unreachable!(),
+    }
+}

@@ -1,0 +1,172 @@
+// One session in a turn: its wire, its time, and what is inward of it.
+ghost use Rattle.std.specs.Prelude.{◌≡◌, ◌≢◌, ◌+◌, ℕ, IsSome, OnOk, Option, sum_by};
+ghost use Rattle.parked_gate.specs.Passes.{Known};
+ghost use Rattle.session_journal.specs.declared.entry.Entry.{Entry};
+ghost use Rattle.session_table.specs.Purses.{OthersStay, Turned, held};
+ghost use Rattle.session_pump.specs.Sides.{ClosesStream, Moves, Serves, Ticks};
+
+use crate::hosts::Stand;
+use crate::line::{Line, Stage};
+use crate::passing::pass_all;
+use bosh_ports::{Bell, BellKey};
+use bosh_types::{Closing, StreamNo};
+use server_ports::Clock;
+use session_core::Ticked;
+use session_journal::{Call, Reply};
+use session_table::Purse;
+use std::alloc::AllocError;
+use std::sync::Wait;
+use xmpp_backend::Passed;
+
+/// Serves one session of a host: opens its wire where that wasn't done, tells it that its back end failed where it did, lets time
+/// pass, and passes on what is inward. The only error is want of memory.
+pub fn serve_line<R: Wait, C: Clock, B: Bell>(
+    rt: &R,
+    purse: &mut Purse,
+    number: u64,
+    line: &mut Line,
+    stand: &mut Stand,
+    clock: &C,
+    bell: &mut B,
+) -> Result<(), AllocError>
+    requires { IsSome (held purse.old.sessions number) }
+    ensures serves { Turned number purse.old.sessions purse.new.sessions (λ old new. Serves (C.moment clock.now)
+        (record { known = old; line = line.old; ends = record { told = told stand.old.host.end; failures = stand.old.failures; faults = (counts stand.old.host.end).faults + sum_by (λ spare. (counts spare).faults) stand.old.host.spares.items } })
+        (record { known = new; line = line.new; ends = record { told = told stand.new.host.end; failures = stand.new.failures; faults = (counts stand.new.host.end).faults + sum_by (λ spare. (counts spare).faults) stand.new.host.spares.items } })
+        result) }
+    ensures others { OthersStay number purse.old.sessions purse.new.sessions }
+    ensures directory { purse.new.directory ≡ purse.old.directory }
+    ensures silences { B.silences bell.new ≡ B.silences bell.old }
+{
+    open_wire(line, stand)?;
+    tell_cut(rt, purse, number, line, stand, clock, bell)?;
+    tick(rt, purse, number, clock, bell)?;
+    pass_all(rt, purse, number, line, stand)
+}
+
+// Opens the wire of a session, where that wasn't done yet.
+fn open_wire(line: &mut Line, stand: &mut Stand) -> Result<(), AllocError>
+    ensures moves { (moment : Option ℕ) → (known : Known Entry) → Moves moment
+        (record { known = known; line = line.old; ends = record { told = told stand.old.host.end; failures = stand.old.failures; faults = (counts stand.old.host.end).faults + sum_by (λ spare. (counts spare).faults) stand.old.host.spares.items } })
+        (record { known = known; line = line.new; ends = record { told = told stand.new.host.end; failures = stand.new.failures; faults = (counts stand.new.host.end).faults + sum_by (λ spare. (counts spare).faults) stand.new.host.spares.items } }) }
+    ensures opened { OnOk result (line.new.stage ≢ Stage.Unopened) }
+{
+    if !line.is_unopened() {
+        return Ok(());
+    }
+    let failures = stand.failures;
+    match stand.open(line.wire) {
+        Passed::Done => {
+            line.stage = Stage::Opened(failures);
+            Ok(())
+        }
+        Passed::Failed => {
+            line.stage = Stage::Opened(failures);
+            Ok(())
+        }
+        Passed::NoMemory => Err(AllocError),
+    }
+}
+
+/// Tells a session that its back end failed, where it did since the wire was opened. The only error is want of memory.
+pub(crate) fn tell_cut<R: Wait, C: Clock, B: Bell>(
+    rt: &R,
+    purse: &mut Purse,
+    number: u64,
+    line: &mut Line,
+    stand: &Stand,
+    clock: &C,
+    bell: &mut B,
+) -> Result<(), AllocError>
+    requires { IsSome (held purse.old.sessions number) }
+    ensures moves { Turned number purse.old.sessions purse.new.sessions (λ old new. Moves (C.moment clock.now)
+        (record { known = old; line = line.old; ends = record { told = told stand.now.host.end; failures = stand.now.failures; faults = (counts stand.now.host.end).faults + sum_by (λ spare. (counts spare).faults) stand.now.host.spares.items } })
+        (record { known = new; line = line.new; ends = record { told = told stand.now.host.end; failures = stand.now.failures; faults = (counts stand.now.host.end).faults + sum_by (λ spare. (counts spare).faults) stand.now.host.spares.items } })) }
+    ensures opened { line.old.stage ≢ Stage.Unopened → line.new.stage ≢ Stage.Unopened }
+    ensures others { OthersStay number purse.old.sessions purse.new.sessions }
+    ensures directory { purse.new.directory ≡ purse.old.directory }
+    ensures silences { B.silences bell.new ≡ B.silences bell.old }
+{
+    if !line.is_cut_from(stand.failures) {
+        return Ok(());
+    }
+    match close_stream(
+        rt,
+        purse,
+        number,
+        clock,
+        bell,
+        Closing::RemoteConnectionFailed,
+    ) {
+        Ok(()) => {
+            line.stage = Stage::Lost;
+            Ok(())
+        }
+        Err(AllocError) => Err(AllocError),
+    }
+}
+
+/// Lets time pass for a session, and rings for those who wait for it where that changed something.
+pub(crate) fn tick<R: Wait, C: Clock, B: Bell>(
+    rt: &R,
+    purse: &mut Purse,
+    number: u64,
+    clock: &C,
+    bell: &mut B,
+) -> Result<(), AllocError>
+    requires { IsSome (held purse.old.sessions number) }
+    ensures ticks { Turned number purse.old.sessions purse.new.sessions (Ticks (C.moment clock.now) result) }
+    ensures others { OthersStay number purse.old.sessions purse.new.sessions }
+    ensures directory { purse.new.directory ≡ purse.old.directory }
+    ensures silences { B.silences bell.new ≡ B.silences bell.old }
+{
+    let now = clock.now();
+    match purse.call(rt, number, Call::Tick { now }) {
+        Ok(reply) => {
+            ring_where_changed(bell, number, &reply);
+            Ok(())
+        }
+        Err(AllocError) => Err(AllocError),
+    }
+}
+
+// Rings for a session in which time changed something.
+fn ring_where_changed<B: Bell>(bell: &mut B, number: u64, reply: &Reply)
+    ensures { B.silences bell.new ≡ B.silences bell.old }
+{
+    if let Reply::Tick(Ticked::Changed) = reply {
+        bell.ring(BellKey(number));
+    }
+}
+
+/// Tells a session that its stream is closed. The only error is want of memory.
+pub(crate) fn close_stream<R: Wait, C: Clock, B: Bell>(
+    rt: &R,
+    purse: &mut Purse,
+    number: u64,
+    clock: &C,
+    bell: &mut B,
+    closing: Closing,
+) -> Result<(), AllocError>
+    requires { IsSome (held purse.old.sessions number) }
+    ensures closes { Turned number purse.old.sessions purse.new.sessions (ClosesStream (C.moment clock.now) closing result) }
+    ensures others { OthersStay number purse.old.sessions purse.new.sessions }
+    ensures directory { purse.new.directory ≡ purse.old.directory }
+    ensures silences { B.silences bell.new ≡ B.silences bell.old }
+{
+    let now = clock.now();
+    let stream = StreamNo::unnamed();
+    let call = Call::BackClosed {
+        stream,
+        closing,
+        now,
+    };
+    match purse.call(rt, number, call) {
+        Ok(reply) => {
+            bell.ring(BellKey(number));
+            drop(reply);
+            Ok(())
+        }
+        Err(AllocError) => Err(AllocError),
+    }
+}
