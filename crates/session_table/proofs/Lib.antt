@@ -10,3 +10,4 @@ mod PurseLemmas
 mod PassLemmas
 mod HoldingLemmas
 pub mod TestOpening
+pub mod Crossing

@@ -15,6 +15,7 @@ use std::alloc::{AllocError, Global};
 use std::test::Fail;
 
 mod purses;
+mod threads;
 
 const CREATION: &[u8] =
     b"<body rid='1000' to='example.org' wait='60' hold='1' ver='1.6' xmlns='http://jabber.org/protocol/httpbind'/>";

@@ -61,7 +61,7 @@ fn holds(purse: &Purse, number: u64) -> bool
 }
 
 /// The opening number of the session that is opened.
-fn open<R: Wait>(
+pub(super) fn open<R: Wait>(
     rt: &R,
     alloc: Global,
     directory: &Gate<Directory>,
