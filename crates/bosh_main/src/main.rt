@@ -1,19 +1,41 @@
-// The program: it hands its words and the real streams to the top call.
+// The program: it hands its words and the real streams to the top calls.
 #![tactic(auto)]
 
 #[cfg(test)]
 mod limit_tests;
+#[cfg(test)]
+mod loopback_tests;
+mod options;
 mod run;
+#[cfg(test)]
+mod serve_tests;
+mod served;
 #[cfg(test)]
 mod tests;
 
-use crate::run::{run_local, status_without_words};
-use bosh_ports::{ReadSource, WriteSink};
+use crate::run::{NO_MEMORY, run_local, status_without_words};
+use crate::served::run_served;
+use bosh_ports::{ReadSource, RealBell, Sink, WriteSink};
+use bosh_server::Outside;
+use bosh_types::{Stanzas, Text};
+use server_ports::{RealClock, RealNames, TcpNetwork, ThreadSpawner, system_seed};
+use session_pump::Host;
+use std::alloc::{AllocError, Global};
+use std::net::{Net, TcpListener, TcpStream};
 use std::process::ExitCode;
+use std::rt::{Clock, Files};
+use std::sync::Wait;
+use std::thread::Threads;
 use std::{env, io};
+use xmpp_backend::{Backend, Echo, Room};
 
 fn main(rt: HostRuntime) -> ExitCode {
     let status = match words(&rt) {
+        Ok(words) if is_served(&words) => {
+            let mut sink = WriteSink::new(io::writer(&rt));
+            let mut errors = WriteSink::new(rt.stderr());
+            serve_for_real(&rt, rt.alloc(), &words, &mut sink, &mut errors).unwrap_or(NO_MEMORY)
+        }
         Ok(words) => {
             let mut source = ReadSource::new(rt.reader());
             let mut sink = WriteSink::new(io::writer(&rt));
@@ -31,4 +53,86 @@ fn words(rt: &HostRuntime) -> io::Result<Vec<String>> {
         words.push(word)?;
     }
     Ok(words)
+}
+
+/// Whether the first word is a command over the network.
+fn is_served(words: &[String]) -> bool {
+    match words {
+        [first, ..] => first.as_str() == "serve" || first.as_str() == "client",
+        _ => false,
+    }
+}
+
+/// Serves the hosts of the program over the real network, with the real clock, bell, threads and names.
+fn serve_for_real<R, K, E>(
+    rt: &R,
+    alloc: Global,
+    words: &[String],
+    sink: &mut K,
+    errors: &mut E,
+) -> Result<u8, AllocError>
+where
+    R: Wait
+        + Threads
+        + Files
+        + Clock
+        + Net<Listener = TcpListener, Stream = TcpStream>
+        + Copy
+        + Send
+        + Drop
+        + 'static,
+    K: Sink,
+    E: Sink,
+{
+    let Ok(seed) = system_seed(rt) else {
+        return Ok(NO_MEMORY);
+    };
+    let hosts = vec![in alloc;
+        host(
+            alloc,
+            "echo.localhost",
+            Box::new(alloc, Echo::new(alloc))?,
+            Box::new(alloc, Echo::new(alloc))?
+        )?,
+        host(
+            alloc,
+            "room.localhost",
+            Box::new(alloc, Room::new(alloc))?,
+            Box::new(alloc, Room::new(alloc))?
+        )?,
+    ]?;
+    let bell = RealBell::new(alloc, *rt)?;
+    let mut outside = Outside {
+        net: TcpNetwork::new(*rt),
+        clock: RealClock::new(*rt),
+        bell,
+        spawner: ThreadSpawner::new(alloc),
+        names: RealNames::new(alloc, seed),
+    };
+    let status = run_served(rt, alloc, words, sink, errors, &mut outside, hosts);
+    let Outside {
+        net: _net,
+        clock: _clock,
+        bell: _bell,
+        spawner,
+        names: _names,
+    } = outside;
+    spawner.join_all(rt);
+    Ok(status)
+}
+
+/// A host with this name, which greets with the features of a stream.
+fn host(
+    alloc: Global,
+    name: &str,
+    end: Box<dyn Backend + Send>,
+    spare: Box<dyn Backend + Send>,
+) -> Result<Host, AllocError> {
+    let features = Text::from_vec(b"<stream:features/>".to_vec(alloc)?);
+    Ok(Host {
+        name: Text::from_vec(name.as_bytes().to_vec(alloc)?),
+        greeting: Stanzas::from_vec(vec![in alloc; features]?),
+        end,
+        spares: vec![in alloc; spare]?,
+    })
 }

@@ -1,0 +1,41 @@
+-- What the parser of words says of the options.
+use Rattle.std.proofs.Common.{◌≡◌, ◌≢◌, ℕ, List, [], ◌∷◌, Option, Some, None, Result, Ok, Err, IfOk, true, ap, sym, refl, ◌∙◌, inl, inr, codes}
+use Rattle.clap.specs.Words.{App, HasKind, Kinds, Row, Text, fault_of, first_of, first_value, is_simple, is_simple_and_free, kind_of, matches_of, rows_of}
+use Rattle.clap.specs.declared.error.Error.{Error}
+use Rattle.clap.specs.declared.error.kind.ErrorKind.TheVariants.{OutOfMemory}
+use Rattle.clap.specs.declared.parser.matches.Found.{Found}
+use Rattle.clap.proofs.OnLiterals.{clap_on_literals}
+use Rattle.clap.proofs.WalkLemmas.{first_value-rows}
+use Rattle.bosh_main.specs.declared.options.ServeOptions.{ServeOptions}
+use Rattle.bosh_main.specs.declared.options.Wanted.{Wanted}
+use Rattle.bosh_main.specs.Options.{number_in, options_by, options_from, options_of, options_wanted, serve_app}
+
+pub serve_is_simple : is_simple serve_app ≡ true
+unfolding clap_on_literals
+serve_is_simple = refl
+
+pub serve_is_free : is_simple_and_free serve_app ≡ true
+unfolding clap_on_literals
+serve_is_free = refl
+
+-- without a fault, the options are those of the rows
+pub by_rows : (f : Found) (kinds : Kinds) (rows : List Row) → kinds ≡ [] → rows_of f ≡ rows → options_of (λ id. first_value f id) ≡ options_by kinds rows
+by_rows f kinds rows none are =
+    let reads : (id : Text) → first_value f id ≡ first_of id rows = λ id. first_value-rows f id ∙ ap (first_of id) are in
+    let port = codes "port" in
+    let workers = codes "workers" in
+    let connections = codes "connections" in
+    ap (λ p. options_from (number_in 1 65535 p) (number_in 1 64 (first_value f workers)) (number_in 0 1048576 (first_value f connections))) (reads port)
+    ∙ ap (λ w. options_from (number_in 1 65535 (first_of port rows)) (number_in 1 64 w) (number_in 0 1048576 (first_value f connections))) (reads workers)
+    ∙ ap (λ c. options_from (number_in 1 65535 (first_of port rows)) (number_in 1 64 (first_of workers rows)) (number_in 0 1048576 c)) (reads connections)
+    ∙ sym (ap (λ k. options_by k rows) none)
+
+-- where the parser finds a fault, there are no options
+pub by_fault : (kinds : Kinds) (rows : List Row) (error : Error) → HasKind kinds error → kind_of error ≢ OutOfMemory → options_by kinds rows ≡ None
+by_fault [] rows error (inl memory) mistake = absurd (mistake memory)
+by_fault [] rows error (inr none) mistake = absurd none
+by_fault (kind ∷ kinds) rows error has mistake = refl
+
+pub none_wanted : {E : Type 0} (result : Result Wanted E) (P : Type 0) (options : Option ServeOptions) → IfOk result (λ wanted. options_wanted wanted ≡ None) → IfOk result (λ _. P) → (P → options ≡ None) → IfOk result (λ wanted. options_wanted wanted ≡ options)
+none_wanted (Ok wanted) P options none mistake by = none ∙ sym (by mistake)
+none_wanted (Err e) P options none mistake by = tt

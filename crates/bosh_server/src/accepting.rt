@@ -1,0 +1,44 @@
+// Links are accepted and handed to the workers.
+ghost use Rattle.std.specs.Prelude.{◌≡◌, ◌≢◌, ◌≤◌};
+ghost use Rattle.bosh_server.specs.Runs.{RunsBy};
+
+use crate::plan::Ran;
+use crate::queue::Queue;
+use server_ports::{Accepted, Network};
+use std::sync::Wait;
+
+/// Accepts links until so many have come, or without end where that is 0.
+pub(crate) fn accept_all<R: Wait, N: Network>(
+    rt: &R,
+    net: &mut N,
+    queue: &Queue<N::Link>,
+    connections: u32,
+) -> Ran
+where
+    N::Link: Drop,
+    ensures runs { RunsBy connections (N.counts net.old) (N.counts net.new) result }
+    ensures accepts { result ≢ Ran.SpawnFault }
+    ensures never_falls { (N.counts net.old).faults ≤ (N.counts net.new).faults }
+{
+    let mut accepted: u32 = 0;
+    for _ in rt.forever() {
+        if connections != 0 && accepted == connections {
+            return Ran::Done {
+                connections: accepted,
+            };
+        }
+        match net.accept() {
+            Accepted::Link(link) => {
+                queue.put(rt, link);
+                accepted = accepted.saturating_add(1);
+            }
+            Accepted::Stopped => {
+                return Ran::Done {
+                    connections: accepted,
+                };
+            }
+            Accepted::Failed => return Ran::NetFault,
+        }
+    }
+    unreachable!()
+}

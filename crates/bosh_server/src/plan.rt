@@ -1,0 +1,19 @@
+/// How a server is to run.
+#[derive(Clone, Copy, Debug, PartialEq, Eq)]
+pub struct ServePlan {
+    /// How many connections are served at once, at most. 0 counts as 1.
+    pub workers: u32,
+    /// After how many links the server ends. 0 is without end.
+    pub connections: u32,
+}
+
+/// How a server ended.
+#[derive(Clone, Copy, Debug, PartialEq, Eq)]
+pub enum Ran {
+    /// The network stopped, or as many links as were planned came. So many were accepted, and each was served to its end.
+    Done { connections: u32 },
+    /// The network failed.
+    NetFault,
+    /// A job could not be started.
+    SpawnFault,
+}

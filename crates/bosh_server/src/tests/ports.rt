@@ -1,0 +1,184 @@
+// A network in memory that shows what its links are given while they are served, and a bell that doesn't wait long.
+ghost use Rattle.std.specs.Prelude.{◌≡◌, None, ⊤};
+
+use bosh_ports::{Bell, BellKey, Gave, Got, Link, QuietSource, Source, Woken};
+use server_ports::{Accepted, Dialled, Network, Opened, Shared};
+use std::alloc::AllocError;
+use std::collections::VecDeque;
+use std::rt::Clock;
+use std::sync::{Arc, Mutex, Wait};
+use std::thread;
+use std::time::Duration;
+
+/// What a link was given so far, for all to see.
+pub(crate) type Given = Arc<Mutex<Vec<u8>>>;
+
+/// How often someone pauses, at most.
+const PAUSES: u32 = 1000;
+
+/// A link that gives its bytes and shows what it is given. Where it comes after another one, its first take pauses until that
+/// one was given something.
+#[derive(Drop)]
+pub(crate) struct ShownLink<R: Wait + Clock + Copy + Drop> {
+    pub(crate) rt: R,
+    pub(crate) source: QuietSource,
+    pub(crate) given: Given,
+    pub(crate) after: Option<Given>,
+    pub(crate) faults: u64,
+}
+
+impl<R: Wait + Clock + Copy + Drop> ShownLink<R> {
+    fn pause(&mut self)
+        ensures { self.new.faults ≡ self.old.faults }
+    {
+        let Some(first) = self.after.take() else {
+            return;
+        };
+        for _ in 0..PAUSES {
+            if !first.lock(&self.rt).is_empty() {
+                return;
+            }
+            thread::sleep(&self.rt, Duration::from_millis(1));
+        }
+    }
+}
+
+impl<R: Wait + Clock + Copy + Drop> Link for ShownLink<R> {
+    ghost left = { λ _. None };
+
+    ghost given = { λ _. None };
+
+    ghost closed = { λ _. None };
+
+    ghost faults = { λ l. l.faults };
+
+    fn take(&mut self, into: &mut [u8]) -> Got {
+        self.pause();
+        self.source.take(into)
+    }
+
+    fn give(&mut self, bytes: &[u8]) -> Gave {
+        if self.given.lock(&self.rt).extend_from_slice(bytes).is_err() {
+            self.faults = self.faults.saturating_add(1);
+            return Gave::Failed;
+        }
+        Gave::Wrote(bytes.len())
+    }
+
+    fn close(&mut self) {}
+}
+
+/// Gives its links, and stops where none are left. Nobody can be dialled.
+#[derive(Drop)]
+pub(crate) struct ShownNetwork<R: Wait + Clock + Copy + Drop> {
+    pub(crate) links: VecDeque<ShownLink<R>>,
+    pub(crate) faults: u64,
+    pub(crate) accepted: u64,
+    pub(crate) stops: u64,
+}
+
+impl<R: Wait + Clock + Copy + Drop> ShownNetwork<R> {
+    pub(crate) fn new(links: Vec<ShownLink<R>>) -> ShownNetwork<R> {
+        ShownNetwork {
+            links: VecDeque::from_vec(links),
+            faults: 0,
+            accepted: 0,
+            stops: 0,
+        }
+    }
+}
+
+impl<R: Wait + Clock + Copy + Drop> Network for ShownNetwork<R> {
+    ghost use Rattle.server_ports.specs.Counts.{Counts, HasFailed, RisesWith, added, no_counts};
+    ghost use Rattle.server_ports.specs.Events.{Event, Begins, Retires, Joins, IsWithout, IsUngiven};
+    ghost use Rattle.server_ports.specs.Network.{ListenCounts, MatchShared, MatchAccepted, AcceptCounts, MatchDialled, DialCounts};
+
+    type Link = ShownLink<R>;
+
+    ghost counts = { λ n. record { faults = n.faults; accepted = n.accepted; dialled = 0; stops = n.stops } };
+
+    ghost events = { λ _. None };
+
+    fn listen(&mut self, _port: u16) -> Opened {
+        Opened::Ready
+    }
+
+    fn share(&mut self) -> Shared<ShownNetwork<R>> {
+        self.faults = self.faults.saturating_add(1);
+        Shared::Failed
+    }
+
+    fn accept(&mut self) -> Accepted<ShownLink<R>> {
+        match self.links.pop_front() {
+            Some(link) => {
+                let mut link = link;
+                link.faults = 0;
+                self.accepted = self.accepted.saturating_add(1);
+                Accepted::Link(link)
+            }
+            None => {
+                self.stops = self.stops.saturating_add(1);
+                Accepted::Stopped
+            }
+        }
+    }
+
+    fn dial(&mut self, _port: u16) -> Dialled<ShownLink<R>> {
+        self.faults = self.faults.saturating_add(1);
+        Dialled::Failed
+    }
+
+    fn retire(&mut self, link: ShownLink<R>) {
+        if link.faults > 0 {
+            self.faults = self.faults.saturating_add(1);
+        }
+    }
+
+    fn back(&mut self, share: ShownNetwork<R>) {
+        if share.faults > 0 {
+            self.faults = self.faults.saturating_add(1);
+        }
+    }
+}
+
+/// Each wait is a pause, and those after the thousandth are silent.
+#[derive(Drop)]
+pub(crate) struct PausingBell<R: Clock + Copy + Drop> {
+    pub(crate) rt: R,
+    pub(crate) waits: u32,
+    pub(crate) silences: u64,
+}
+
+impl<R: Clock + Copy + Drop> PausingBell<R> {
+    pub(crate) fn new(rt: R) -> PausingBell<R>
+        ensures { result.silences ≡ 0 }
+    {
+        PausingBell {
+            rt,
+            waits: 0,
+            silences: 0,
+        }
+    }
+}
+
+impl<R: Clock + Copy + Drop> Bell for PausingBell<R> {
+    ghost silences = { λ b. b.silences };
+
+    fn tune(&mut self, _key: BellKey) {}
+
+    fn wait(&mut self) -> Woken {
+        thread::sleep(&self.rt, Duration::from_millis(1));
+        if self.waits < PAUSES {
+            self.waits += 1;
+            return Woken::Rung;
+        }
+        self.silences = self.silences.saturating_add(1);
+        Woken::Silent
+    }
+
+    fn ring(&mut self, _key: BellKey) {}
+
+    fn share(&self) -> Result<PausingBell<R>, AllocError> {
+        Ok(PausingBell::new(self.rt))
+    }
+}
