@@ -18,10 +18,10 @@ use Rattle.session_laws.specs.Growing.{with_later}
 use Rattle.session_laws.specs.Laws.{KeptLaws}
 use Rattle.bosh_client.specs.declared.setup.ClientSetup.{ClientSetup}
 use Rattle.bosh_client.specs.AnswerReading.{answer_of}
-use Rattle.bosh_client.specs.PlainClient.{deliverable}
-use Rattle.bosh_client.specs.Promises.{Carries, HasForm, IsNamed}
+use Rattle.bosh_client.specs.PlainClient.{PlainClient, deliverable}
+use Rattle.bosh_client.specs.Promises.{Begins, Carries, HasForm, IsNamed}
 use Rattle.bosh_client.specs.ReadBack.{IsInForm, told_of}
-use Rattle.bosh_client.specs.Runs.{Call, IsAllowed, client_after}
+use Rattle.bosh_client.specs.Runs.{Call, IsAllowed, after, client_after}
 use Rattle.bosh_client.specs.Setup.{is_setup}
 use Rattle.bosh_client.specs.StandsFor.{AreFrom}
 
@@ -49,3 +49,4 @@ pub record Below : Type 0 where
       → All (λ answer. answer_of answer.1.body ≡ Ok answer.1.tells) (client_after setup calls).answers
   pub handed : (setup : ClientSetup) (calls : List Call) → 1 ≤ setup.first
       → (client_after setup calls).handed_out ≤ length (deliverable (client_after setup calls))
+  pub grows : (c : PlainClient) (calls : List Call) → Begins (deliverable c) (deliverable (after c calls))

@@ -40,26 +40,28 @@ called_client setup c call allowed run = record {
 pub record Queues (c d : PlainClient) : Type 0 where
   pub requests_are : d.requests ≡ c.requests
   pub answers_are : d.answers ≡ c.answers
+  pub handed_is : d.handed_out ≡ c.handed_out
+  pub setup_is : d.setup ≡ c.setup
 
 same : (c : PlainClient) → Queues c c
-same c = record { requests_are = refl; answers_are = refl }
+same c = record { requests_are = refl; answers_are = refl; handed_is = refl; setup_is = refl }
 
 pub put_queues : (c : PlainClient) (stanza : List ℕ) → Queues c (put c stanza).0
 put_queues c stanza =
     let Q : PlainClient × Queued → Type 0 = λ p. Queues c p.0 in
-    split Q (is_over c) (c, queueings.Over) _ (λ _. same c) (λ _. split Q (is_full c) (c, queueings.Full) (accept c (outgoing.Stanza stanza)) (λ _. same c) (λ _. record { requests_are = refl; answers_are = refl }))
+    split Q (is_over c) (c, queueings.Over) _ (λ _. same c) (λ _. split Q (is_full c) (c, queueings.Full) (accept c (outgoing.Stanza stanza)) (λ _. same c) (λ _. record { requests_are = refl; answers_are = refl; handed_is = refl; setup_is = refl }))
 
 pub restart_queues : (c : PlainClient) → Queues c (restart c).0
-restart_queues c = split (λ (p : PlainClient × Queued). Queues c p.0) (is_over c) (c, queueings.Over) (accept c outgoing.Restart) (λ _. same c) (λ _. record { requests_are = refl; answers_are = refl })
+restart_queues c = split (λ (p : PlainClient × Queued). Queues c p.0) (is_over c) (c, queueings.Over) (accept c outgoing.Restart) (λ _. same c) (λ _. record { requests_are = refl; answers_are = refl; handed_is = refl; setup_is = refl })
 
 pub terminate_queues : (c : PlainClient) → Queues c (terminate c).0
-terminate_queues c = split (λ (p : PlainClient × Queued). Queues c p.0) (is_over c) (c, queueings.Over) (accept c outgoing.Terminate) (λ _. same c) (λ _. record { requests_are = refl; answers_are = refl })
+terminate_queues c = split (λ (p : PlainClient × Queued). Queues c p.0) (is_over c) (c, queueings.Over) (accept c outgoing.Terminate) (λ _. same c) (λ _. record { requests_are = refl; answers_are = refl; handed_is = refl; setup_is = refl })
 
 pub pause_queues : (c : PlainClient) (seconds : ℕ) → Queues c (pause c seconds).0
 pause_queues c seconds =
     let Q : PlainClient × Queued → Type 0 = λ p. Queues c p.0 in
     split Q (is_over c) (c, queueings.Over) _ (λ _. same c)
-    (λ _. split Q (allows_pause (agreed c) seconds) (accept c (outgoing.Pause seconds)) (c, queueings.TooLong) (λ _. record { requests_are = refl; answers_are = refl }) (λ _. same c))
+    (λ _. split Q (allows_pause (agreed c) seconds) (accept c (outgoing.Pause seconds)) (c, queueings.TooLong) (λ _. record { requests_are = refl; answers_are = refl; handed_is = refl; setup_is = refl }) (λ _. same c))
 
 -- A request is made, or none.
 

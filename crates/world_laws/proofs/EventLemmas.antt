@@ -121,7 +121,7 @@ module _ (below : Below) (setup : ClientSetup) where
         early = h.early;
       }
 
-  handed_within : (c : PlainClient) → 1 ≤ setup.first → IsRunClient setup c → c.handed_out ≤ length (deliverable c)
+  pub handed_within : (c : PlainClient) → 1 ≤ setup.first → IsRunClient setup c → c.handed_out ≤ length (deliverable c)
   handed_within c some run = subst (λ (d : PlainClient). d.handed_out ≤ length (deliverable d)) (sym run.is) (below.handed setup run.calls some)
 
   return_sound : (w : PlainWorld) → IsSound setup w → (index rid : ℕ) (body : List ℕ) → slice_get w.written index ≡ Some (rid, body) → IsSound setup (returned w rid (answer w.client rid body w.moment)).after
@@ -161,7 +161,7 @@ module _ (below : Below) (setup : ClientSetup) where
     early = omega (arith, h.early, before);
   }
 
-  at_sound : (w : PlainWorld) (moment : ℕ) → moment < 2 ^ 64 → IsSound setup w → IsSound setup (at w moment)
+  pub at_sound : (w : PlainWorld) (moment : ℕ) → moment < 2 ^ 64 → IsSound setup w → IsSound setup (at w moment)
   at_sound w moment word h = record {
     begins = h.begins;
     client = h.client;
@@ -217,7 +217,7 @@ module _ (below : Below) (setup : ClientSetup) where
         subst (λ (c : PlainClient). All (λ (request : Made). HasForm setup request.parts) c.requests) (sym run.is)
         (below.forms setup run.calls h.begins.client (h.begins.first).0 run.allowed (subst IsNamed run.is (named_by w.manager refl)))
 
-    opening_allowed : (body : List ℕ) (request : Request) (creation : Creation) → IsReadFrom body request → request.kind ≡ kinds.Creation creation → IsOpening (opening w request body creation)
+    pub opening_allowed : (body : List ℕ) (request : Request) (creation : Creation) → IsReadFrom body request → request.kind ≡ kinds.Creation creation → IsOpening (opening w request body creation)
     opening_allowed body request creation read kind = record {
       read = read;
       creation = (creation, kind, refl);

@@ -45,7 +45,7 @@ module _ (below : Below) where
       by (Some entered) is = below.state_is j (told_by entered) ∙ sym ((below.journals j made).entered call entered is)
 
   module _ (sent : List (ℕ × List ℕ)) (moment : ℕ) where
-    call_made : (j : Journal) (call : Call) → IsAllowed call → IsJournal j → IsJournal (after_call j call)
+    pub call_made : (j : Journal) (call : Call) → IsAllowed call → IsJournal j → IsJournal (after_call j call)
     call_made j call allowed made = by (entered_by (state_of j) call) refl
       where
         by : (e : Option Entered) → entered_by (state_of j) call ≡ e → IsJournal (with_entered j e)

@@ -14,6 +14,8 @@ pub mod ProperLemmas
 pub mod ReadingLemmas
 pub mod RequestLemmas
 pub mod Rows
+pub mod SeenLemmas
 pub mod ShapeLemmas
+pub mod ShownLemmas
 pub mod TicketLemmas
 pub mod TurnLemmas

@@ -1,8 +1,10 @@
+use Rattle.std.proofs.Common.{refl}
 use Rattle.world_laws.specs.World.{new_world}
 use Rattle.world_laws.proofs.Below.{Below}
 use Rattle.world_laws.proofs.EventLemmas.{after_sound, new_sound}
 use Rattle.world_laws.proofs.HandedLemmas.{handed_begins}
 use Rattle.world_laws.proofs.InwardLemmas.{inward_begins}
+use Rattle.world_laws.proofs.ShownLemmas.{all_shown}
 use Rattle.world_laws.proofs.laws.every_world_keeps_both_prefixes.Goals as goal
 
 pub returns : goal.returns
@@ -22,6 +24,7 @@ returns c =
       carries = c.requests_carry_what_they_took.ensures;
       tells = c.answers_tell_their_bodies.ensures;
       handed = c.payloads_are_handed_out_in_order.ensures.within;
+      grows = c.payloads_are_handed_out_in_order.ensures.grows;
     } in
     record {
       sound = λ host greeting setup events begins allowed.
@@ -29,4 +32,6 @@ returns c =
       prefixes = λ host greeting setup events begins allowed.
           let sound = after_sound below setup (new_world host greeting setup) (new_sound host greeting setup begins) events allowed in
           record { inward_is = inward_begins below setup _ sound; handed_is = handed_begins below setup _ sound };
+      shown = λ host greeting setup events begins allowed.
+          all_shown below setup (new_world host greeting setup) (new_sound host greeting setup begins) refl refl events allowed;
     }
