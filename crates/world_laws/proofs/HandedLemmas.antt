@@ -97,10 +97,10 @@ no_end None is = refl
 no_end (Some x) is = absurd (cc)
 
 module _ (below : Below) (setup : ClientSetup) (w : PlainWorld) (h : IsSound setup w) (m : PlainManager) (is : w.manager ≡ Some m) where
-  abbrev s : PlainSession
+  abbrev pub s : PlainSession
   s = session m
 
-  made : IsJournal m.journal
+  pub made : IsJournal m.journal
   made = (sound below setup w h m is).made
 
   -- Numbers.
@@ -120,7 +120,7 @@ module _ (below : Below) (setup : ClientSetup) (w : PlainWorld) (h : IsSound set
 
   -- Each answer reads back.
 
-  answer_read : (k : ℕ) (answer : Answered) → slice_get (answers s) k ≡ Some answer → IsRead answer.bytes (items_in answer.front)
+  pub answer_read : (k : ℕ) (answer : Answered) → slice_get (answers s) k ≡ Some answer → IsRead answer.bytes (items_in answer.front)
   answer_read zero answer at =
       let same : first_answer m.journal.opening ≡ answer = sym (below.journals m.journal made).created ∙ some_is s.created answer at in
       subst (λ (a : Answered). IsRead a.bytes (items_in a.front)) same

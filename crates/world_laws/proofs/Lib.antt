@@ -19,3 +19,4 @@ pub mod ShapeLemmas
 pub mod ShownLemmas
 pub mod TicketLemmas
 pub mod TurnLemmas
+pub mod UnbrokenLemmas

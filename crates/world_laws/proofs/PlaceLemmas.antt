@@ -1,6 +1,7 @@
 -- Things that are listed with numbers one after the other.
-use Rattle.std.proofs.Common.{◌≡◌, ℕ, zero, suc, ◌+◌, ◌==◌, cond, List, [], ◌∷◌, map, slice_get, refl, ◌∙◌, ap, subst, arith}
+use Rattle.std.proofs.Common.{◌≡◌, ℕ, zero, suc, ◌+◌, ◌==◌, Bool, true, false, cond, List, [], ◌∷◌, map, slice_get, refl, ◌∙◌, ap, subst, arith}
 use Rattle.std.specs.Prelude.{None, Some, Option, All}
+use Rattle.std.proofs.lemmas.Bool.{eqb-true}
 use Rattle.std.proofs.lemmas.Bool.Decides.{nat_tests}
 use Rattle.std.proofs.lemmas.List.Elements.{All-head, All-tail}
 use Rattle.bosh_types.specs.ById.{at_id}
@@ -45,3 +46,16 @@ module _ {X Y : Type 0} (f : X → ℕ × Y) where
       let next : first + suc k ≡ first + 1 + k = omega arith in
       elsewhere (f y).0 first k (f y).1 (at_id (map f xs) (first + suc k)) (ids 0 y refl)
       ∙ ap (at_id (map f xs)) next ∙ past_place (first + 1) xs (others first y xs ids) k is
+
+  -- what is found stands somewhere
+  pub found_place : (xs : List X) (rid : ℕ) (y : Y) → at_id (map f xs) rid ≡ Some y → (k : ℕ) × (x : X) × (slice_get xs k ≡ Some x) × ((f x).0 ≡ rid) × ((f x).1 ≡ y)
+  found_place [] rid y is = absurd (cc)
+  found_place (x ∷ xs) rid y is = by ((f x).0 == rid) refl is (found_place xs rid y)
+    where
+      by : (b : Bool) → ((f x).0 == rid) ≡ b → cond b (Some (f x).1) (at_id (map f xs) rid) ≡ Some y
+          → (at_id (map f xs) rid ≡ Some y → (k : ℕ) × (z : X) × (slice_get xs k ≡ Some z) × ((f z).0 ≡ rid) × ((f z).1 ≡ y))
+          → (k : ℕ) × (z : X) × (slice_get (x ∷ xs) k ≡ Some z) × ((f z).0 ≡ rid) × ((f z).1 ≡ y)
+      by true same is later = (0, x, refl, eqb-true (f x).0 rid same, some_is (f x).1 y is)
+      by false same is later =
+          let of = later is in
+          (suc of.0, of.1, of.2, of.3, of.4)

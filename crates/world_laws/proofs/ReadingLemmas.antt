@@ -33,7 +33,7 @@ use Rattle.session_laws.proofs.Tests.{both_true, split}
 use Rattle.bosh_client.specs.declared.setup.ClientSetup.{ClientSetup}
 use Rattle.bosh_client.specs.declared.told.Told.{Told}
 use Rattle.bosh_client.specs.AnswerReading.{answer_of}
-use Rattle.bosh_client.specs.ReadBack.{IsInForm, end_in}
+use Rattle.bosh_client.specs.ReadBack.{IsInForm, end_in, told_of}
 use Rattle.bosh_client.specs.Setup.{is_setup}
 use Rattle.world_laws.specs.Sound.{IsOpenedBy}
 use Rattle.world_laws.proofs.AnswerSizes.{answer_fits}
@@ -198,3 +198,13 @@ module _ (below : Below) where
       let told = tells_same (answer_text (terminal condition)) (terminal condition) tells reads refl (below.answer_read (terminal condition) (terminal_is condition) (terminal_form condition)) in
       let end : end_in Terminate condition ≡ None = sym (ap (λ (t : Told). t.end) told) ∙ on in
       cc
+
+  -- whatever a session writes tells the client something
+  pub read_tells : (bytes : List ℕ) (items : List Outward) → IsRead bytes items → (tells : Told) × (answer_of bytes ≡ Ok tells)
+  read_tells bytes items r = (told_of r.parts, ap answer_of r.bytes_are ∙ below.answer_read r.parts r.is r.form)
+
+  pub word_tells : (answered : ℕ) (ending : Ending) (id : ℕ) → (tells : Told) × (answer_of (last_word answered ending id) ≡ Ok tells)
+  word_tells answered ending id = elim (word_only answered ending id) [
+    | inl is ↦ (told_of nothing, ap (λ (p : AnswerParts). answer_of (answer_text p)) is ∙ below.answer_read nothing nothing_is nothing_form)
+    | inr is ↦ (told_of (terminal is.0), ap (λ (p : AnswerParts). answer_of (answer_text p)) is.1 ∙ below.answer_read (terminal is.0) (terminal_is is.0) (terminal_form is.0))
+  ]

@@ -9,7 +9,10 @@ use Rattle.session_core.specs.Passed.{given_in}
 use Rattle.session_core.specs.State.{inward}
 use Rattle.bosh_client.specs.declared.outgoing.Outgoing.{Outgoing}
 use Rattle.bosh_client.specs.declared.outgoing.Outgoing.TheVariants as outgoing
-use Rattle.bosh_client.specs.PlainClient.{items_made, was_handed}
+use Rattle.bosh_client.specs.declared.replies.Answered.TheVariants as answerings
+use Rattle.bosh_client.specs.declared.replies.Why.{Why}
+use Rattle.bosh_client.specs.Machine.{answer}
+use Rattle.bosh_client.specs.PlainClient.{PlainClient, items_made, was_handed}
 use Rattle.bosh_client.specs.Promises.{Begins}
 use Rattle.world_laws.specs.declared.seen.SeenItem.{SeenItem}
 use Rattle.world_laws.specs.declared.seen.SeenItem.TheVariants as items_seen
@@ -82,3 +85,7 @@ pub record ShowsAll (w : PlainWorld) (items : List SeenItem) : Type 0 where
 pub record KeepsBothPrefixes (w : PlainWorld) : Type 0 where
   pub inward_is : Begins (went_inward w) (was_made w)
   pub handed_is : Begins (was_handed w.client) (was_given w)
+
+-- the client takes this answer for one, whether or not it had one before
+abbrev pub IsUnbroken : PlainClient → ℕ × List ℕ → Type 0
+IsUnbroken c answered = (now : ℕ) (why : Why) → (answer c answered.0 answered.1 now).1 ≡ answerings.Broken why → ⊥

@@ -1,7 +1,7 @@
 ghost use Rattle.std.specs.Prelude.{All, ℕ, List};
 ghost use Rattle.bosh_client.specs.declared.setup.ClientSetup.{ClientSetup};
 ghost use Rattle.world_laws.specs.declared.event.WorldEvent.{WorldEvent};
-ghost use Rattle.world_laws.specs.Promises.{KeepsBothPrefixes, ShowsAll, all_seen};
+ghost use Rattle.world_laws.specs.Promises.{IsUnbroken, KeepsBothPrefixes, ShowsAll, all_seen};
 ghost use Rattle.world_laws.specs.Setup.{IsAllowed, IsWorldSetup};
 ghost use Rattle.world_laws.specs.Sound.{IsSound};
 ghost use Rattle.world_laws.specs.Steps.{after, report};
@@ -19,6 +19,7 @@ use session_laws::{calls_make_longer_journals, every_journal_keeps_the_laws};
 /// at the manager is a beginning of what the client made, and what the client handed out is a beginning of what the server
 /// gave. For the world is sound then: whatever arrived is the body of its id, and whatever may come back is an answer to its.
 /// All of it was seen: what is seen to be passed on is what went inward, and what is seen to be handed out was handed out.
+/// And no answer that may come back is broken: the client takes each for an answer, whether or not it had one before.
 pub fn every_world_keeps_both_prefixes()
     ensures sound { (host : List ℕ) (greeting : List (List ℕ)) (setup : ClientSetup) (events : List WorldEvent)
         → IsWorldSetup host greeting setup → All IsAllowed events → IsSound setup (after (new_world host greeting setup) events) }
@@ -27,6 +28,9 @@ pub fn every_world_keeps_both_prefixes()
     ensures shown { (host : List ℕ) (greeting : List (List ℕ)) (setup : ClientSetup) (events : List WorldEvent)
         → IsWorldSetup host greeting setup → All IsAllowed events
         → ShowsAll (after (new_world host greeting setup) events) (all_seen (report (new_world host greeting setup) events)) }
+    ensures unbroken { (host : List ℕ) (greeting : List (List ℕ)) (setup : ClientSetup) (events : List WorldEvent)
+        → IsWorldSetup host greeting setup → All IsAllowed events
+        → All (IsUnbroken (after (new_world host greeting setup) events).client) (after (new_world host greeting setup) events).written }
 {
     every_journal_keeps_the_laws();
     calls_make_longer_journals();

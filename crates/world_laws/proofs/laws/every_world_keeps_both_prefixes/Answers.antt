@@ -5,6 +5,7 @@ use Rattle.world_laws.proofs.EventLemmas.{after_sound, new_sound}
 use Rattle.world_laws.proofs.HandedLemmas.{handed_begins}
 use Rattle.world_laws.proofs.InwardLemmas.{inward_begins}
 use Rattle.world_laws.proofs.ShownLemmas.{all_shown}
+use Rattle.world_laws.proofs.UnbrokenLemmas.{every_unbroken}
 use Rattle.world_laws.proofs.laws.every_world_keeps_both_prefixes.Goals as goal
 
 pub returns : goal.returns
@@ -34,4 +35,6 @@ returns c =
           record { inward_is = inward_begins below setup _ sound; handed_is = handed_begins below setup _ sound };
       shown = λ host greeting setup events begins allowed.
           all_shown below setup (new_world host greeting setup) (new_sound host greeting setup begins) refl refl events allowed;
+      unbroken = λ host greeting setup events begins allowed.
+          every_unbroken below setup _ (after_sound below setup (new_world host greeting setup) (new_sound host greeting setup begins) events allowed);
     }
