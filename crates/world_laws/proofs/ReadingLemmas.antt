@@ -1,0 +1,210 @@
+-- What the client reads in the answers of a session: the stanzas that they took, or nothing.
+use Rattle.std.proofs.Common.{◌≡◌, ℕ, ◌+◌, ◌<◌, ◌≤◌, ◌^◌, ◌==◌, true, not, List, [], ◌∷◌, length, map, inl, inr, ◌⊎◌, refl, sym, ◌∙◌, ap, arith, length-append}
+use Rattle.std.specs.Prelude.{None, Some, Option, Ok, IfSome, All, nat_le}
+use Rattle.std.specs.List.{list_any}
+use Rattle.std.proofs.lemmas.Bool.{leb-true}
+use Rattle.std.proofs.lemmas.List.Elements.{All-cons, All-head, All-nil, All-tail}
+use Rattle.std.proofs.lemmas.List.Sums.{sum_by-cons}
+use Rattle.bosh_types.specs.Limits.{longest_stanza}
+use Rattle.bosh_types.specs.Rid.{IsRid, greatest_rid}
+use Rattle.bosh_types.specs.declared.condition.Condition.{Condition}
+use Rattle.bosh_types.specs.declared.ending.Closing.{Closing}
+use Rattle.bosh_types.specs.declared.ending.Closing.TheVariants as closings
+use Rattle.bosh_types.specs.declared.ending.Ending.{Ending}
+use Rattle.bosh_types.specs.declared.ending.Ending.TheVariants as endings
+use Rattle.body_cutter.specs.Built.{IsElementWithin}
+use Rattle.body_writer.specs.declared.answer.AnswerKind.TheVariants.{Usual, Terminate}
+use Rattle.body_writer.specs.declared.answer.AnswerParts.{AnswerParts}
+use Rattle.body_writer.specs.Answer.{answer_text}
+use Rattle.body_writer.specs.Attribute.{joined}
+use Rattle.body_writer.specs.ReadBack.{IsAnswer, IsWord}
+use Rattle.session_core.specs.declared.outward.Front.{Front}
+use Rattle.session_core.specs.declared.outward.Front.TheVariants.{OfClosing, OfStanzas}
+use Rattle.session_core.specs.declared.outward.Outward.{Outward}
+use Rattle.session_core.specs.declared.outward.Outward.TheVariants.{Close, Stanza}
+use Rattle.session_core.specs.Answers.{fit_one_answer}
+use Rattle.session_core.specs.Copy.{unnamed}
+use Rattle.session_core.specs.Endings.{closing_condition, last_word, nothing, other_request, terminal, word_at_closing, word_for, word_if_breaker}
+use Rattle.session_core.specs.Machine.{Opening, created_parts, first_answer}
+use Rattle.session_core.specs.Journal.{IsOpening}
+use Rattle.session_core.specs.Outward.{is_close, items_in, size_of, size_of_all, stanzas_in}
+use Rattle.session_core.specs.State.{Answered}
+use Rattle.session_laws.proofs.Tests.{both_true, split}
+use Rattle.bosh_client.specs.declared.setup.ClientSetup.{ClientSetup}
+use Rattle.bosh_client.specs.declared.told.Told.{Told}
+use Rattle.bosh_client.specs.AnswerReading.{answer_of}
+use Rattle.bosh_client.specs.ReadBack.{IsInForm, end_in, told_of}
+use Rattle.bosh_client.specs.Setup.{is_setup}
+use Rattle.world_laws.specs.Sound.{IsOpenedBy}
+use Rattle.world_laws.proofs.AnswerSizes.{answer_fits}
+use Rattle.world_laws.proofs.Below.{Below}
+use Rattle.world_laws.proofs.NameLemmas.{created_form, created_is, element, tells_same, terminal_form, terminal_is}
+use Rattle.world_laws.proofs.ProperLemmas.{IsProper}
+use Rattle.world_laws.proofs.ShapeLemmas.{Carrying, IsShaped, ShapedBy}
+
+-- the answer was written of these parts, which read back, and where it doesn't end the client its payloads are what it took
+pub record IsRead (bytes : List ℕ) (items : List Outward) : Type 0 where
+  pub parts : AnswerParts
+  pub bytes_are : bytes ≡ answer_text parts
+  pub is : IsAnswer parts
+  pub form : IsInForm parts
+  pub payloads_are : end_in parts.kind parts.condition ≡ None → parts.payloads ≡ stanzas_in items
+
+-- What an answer carries.
+
+stanzas_long : (items : List Outward) → length (joined (stanzas_in items)) ≡ size_of_all items
+stanzas_long [] = refl
+stanzas_long (Stanza stream bytes ∷ items) =
+    omega (arith, length-append bytes (joined (stanzas_in items)), stanzas_long items, sum_by-cons size_of (Stanza stream bytes) items)
+stanzas_long (Close stream closing ∷ items) = omega (arith, stanzas_long items, sum_by-cons size_of (Close stream closing) items)
+
+stanzas_few : (items : List Outward) → length (stanzas_in items) ≤ length items
+stanzas_few [] = omega arith
+stanzas_few (Stanza stream bytes ∷ items) = omega (arith, stanzas_few items)
+stanzas_few (Close stream closing ∷ items) = omega (arith, stanzas_few items)
+
+stanza_elements : Below → (items : List Outward) → All IsProper items → All (IsElementWithin 32 64) (stanzas_in items)
+stanza_elements below [] all = All-nil (IsElementWithin 32 64)
+stanza_elements below (Stanza stream bytes ∷ items) all =
+    All-cons (IsElementWithin 32 64) bytes (stanzas_in items) (element below bytes (All-head IsProper (Stanza stream bytes) items all))
+    (stanza_elements below items (All-tail IsProper (Stanza stream bytes) items all))
+stanza_elements below (Close stream closing ∷ items) all = stanza_elements below items (All-tail IsProper (Close stream closing) items all)
+
+short_items : (items : List Outward) → fit_one_answer items ≡ true → size_of_all items ≤ longest_stanza
+short_items items fits = leb-true (size_of_all items) longest_stanza (both_true (not (list_any is_close items)) (nat_le (size_of_all items) longest_stanza) fits).1
+
+-- Each answer reads back.
+
+module _ (below : Below) where
+  carried_read : (first last answered moment : ℕ) (items : List Outward) (bytes : List ℕ) → 1 ≤ first → last ≤ greatest_rid → answered ≤ greatest_rid → moment < 2 ^ 64 → All IsProper items
+      → Carrying first last answered moment items bytes → IsRead bytes items
+  carried_read first last answered moment items bytes some few given early proper c =
+      let parts : AnswerParts = record { created = None; kind = Usual; condition = None; ack = c.ack; report = c.report; payloads = stanzas_in items } in
+      let size = short_items items c.fits in
+      let ack = ack_word c.ack c.acks in
+      let report = report_words c.report c.reports in
+      record {
+        parts = parts;
+        bytes_are = c.bytes_are;
+        is = record {
+          created = tt;
+          ack = ack;
+          report = report;
+          payloads = (stanza_elements below items proper, omega (arith, stanzas_few items, c.few));
+          fits = answer_fits parts (record { created = tt; ack = ack; report = report; payloads = omega (arith, stanzas_long items, size) });
+        };
+        form = record { requests = tt; polling = tt; maxpause = tt; ack = ack_rid c.ack c.acks };
+        payloads_are = λ goes_on. refl;
+      }
+    where
+      ack_word : (ack : Option ℕ) → IfSome ack (λ rid. (first ≤ rid) × (rid ≤ last)) → IfSome ack IsWord
+      ack_word None is = tt
+      ack_word (Some rid) is = omega (arith, is.1, few)
+
+      ack_rid : (ack : Option ℕ) → IfSome ack (λ rid. (first ≤ rid) × (rid ≤ last)) → IfSome ack IsRid
+      ack_rid None is = tt
+      ack_rid (Some rid) is = (omega (arith, is.0, some), omega (arith, is.1, few))
+
+      report_words : (report : Option (ℕ × ℕ)) → IfSome report (λ r. (r.0 ≤ answered) × (r.1 ≤ moment)) → IfSome report (λ r. IsWord r.0 × IsWord r.1)
+      report_words None is = tt
+      report_words (Some r) is = (omega (arith, is.0, given), omega (arith, is.1, early))
+
+  pub shaped_read : (first last answered : ℕ) (answer : Answered) → 1 ≤ first → last ≤ greatest_rid → answered ≤ greatest_rid → answer.moment < 2 ^ 64 → All IsProper (items_in answer.front)
+      → IsShaped first last answered answer → IsRead answer.bytes (items_in answer.front)
+  shaped_read first last answered answer some few given early proper shaped = by answer.front proper shaped
+    where
+      no_end : (condition : Option Condition) → end_in Terminate condition ≡ None → ⊥
+      no_end condition is = cc
+
+      by : (front : Front) → All IsProper (items_in front) → ShapedBy first last answered answer.moment answer.bytes front → IsRead answer.bytes (items_in front)
+      by (OfStanzas items) proper shaped = carried_read first last answered answer.moment items answer.bytes some few given early proper shaped
+      by (OfClosing stream closing) proper shaped = record {
+        parts = terminal (closing_condition closing);
+        bytes_are = shaped;
+        is = terminal_is (closing_condition closing);
+        form = terminal_form (closing_condition closing);
+        payloads_are = λ goes_on. absurd (no_end (closing_condition closing) goes_on);
+      }
+
+  greeting_stanzas : (greeting : List (List ℕ)) → greeting ≡ stanzas_in (map (Stanza unnamed) greeting)
+  greeting_stanzas [] = refl
+  greeting_stanzas (bytes ∷ greeting) = ap (λ (l : List (List ℕ)). bytes ∷ l) (greeting_stanzas greeting)
+
+  -- the creation's too
+  pub created_read : (setup : ClientSetup) → is_setup setup ≡ true → IsRid setup.first → (o : Opening) → IsOpening o → IsOpenedBy setup o
+      → IsRead (first_answer o).bytes (items_in (first_answer o).front)
+  created_read setup valid first o is by_client = record {
+    parts = created_parts o;
+    bytes_are = refl;
+    is = created_is below setup valid first o is by_client;
+    form = created_form below setup valid first o is by_client;
+    payloads_are = λ goes_on. greeting_stanzas o.greeting;
+  }
+
+  -- what the client reads there
+  pub read_payloads : (bytes : List ℕ) (items : List Outward) → IsRead bytes items → (tells : Told) → answer_of bytes ≡ Ok tells → tells.end ≡ None → tells.payloads ≡ stanzas_in items
+  read_payloads bytes items r tells reads on =
+      let told = tells_same bytes r.parts tells reads r.bytes_are (below.answer_read r.parts r.is r.form) in
+      ap (λ (t : Told). t.payloads) told ∙ r.payloads_are (sym (ap (λ (t : Told). t.end) told) ∙ on)
+
+  -- Last words carry nothing.
+
+  abbrev IsWordOnly : AnswerParts → Type 0
+  IsWordOnly parts = (parts ≡ nothing) ⊎ ((condition : Option Condition) × (parts ≡ terminal condition))
+
+  closing_word : (closing : Closing) → IsWordOnly (word_at_closing closing)
+  closing_word closings.Plain = inl refl
+  closing_word closings.RemoteConnectionFailed = inr (_, refl)
+  closing_word closings.RemoteStreamError = inr (_, refl)
+  closing_word closings.SystemShutdown = inr (_, refl)
+
+  breaker_word : (breaker id : ℕ) (condition : Condition) → IsWordOnly (word_if_breaker breaker id condition)
+  breaker_word breaker id condition = split IsWordOnly (id == breaker) (terminal (Some condition)) other_request (λ _. inr (Some condition, refl)) (λ _. inr (_, refl))
+
+  word_only : (answered : ℕ) (ending : Ending) (id : ℕ) → IsWordOnly (word_for answered ending id)
+  word_only answered (endings.Terminated rid) id = split IsWordOnly (id == answered + 1) (terminal None) nothing (λ _. inr (None, refl)) (λ _. inl refl)
+  word_only answered (endings.Stale rid lowest) id = inr (_, refl)
+  word_only answered (endings.Above rid last requests) id = inr (_, refl)
+  word_only answered (endings.WrongKey rid) id = breaker_word rid id _
+  word_only answered (endings.UnknownStream rid) id = breaker_word rid id _
+  word_only answered (endings.PauseTooLong rid pause maxpause) id = breaker_word rid id _
+  word_only answered (endings.Overactive rid apart) id = breaker_word rid id _
+  word_only answered (endings.Silent since now) id = inr (_, refl)
+  word_only answered (endings.Closed closing rid) id = closing_word closing
+  word_only answered (endings.JournalFull counted cost) id = inr (_, refl)
+
+  nothing_is : IsAnswer nothing
+  nothing_is = record {
+    created = tt;
+    ack = tt;
+    report = tt;
+    payloads = (All-nil (IsElementWithin 32 64), omega arith);
+    fits = answer_fits nothing (record { created = tt; ack = tt; report = tt; payloads = omega arith });
+  }
+
+  nothing_form : IsInForm nothing
+  nothing_form = record { requests = tt; polling = tt; maxpause = tt; ack = tt }
+
+  pub word_payloads : (answered : ℕ) (ending : Ending) (id : ℕ) (tells : Told) → answer_of (last_word answered ending id) ≡ Ok tells → tells.payloads ≡ []
+  word_payloads answered ending id tells reads = elim (word_only answered ending id) [
+    | inl is ↦ ap (λ (t : Told). t.payloads) (tells_same (last_word answered ending id) nothing tells reads (ap answer_text is) (below.answer_read nothing nothing_is nothing_form))
+    | inr is ↦ ap (λ (t : Told). t.payloads)
+        (tells_same (last_word answered ending id) (terminal is.0) tells reads (ap answer_text is.1) (below.answer_read (terminal is.0) (terminal_is is.0) (terminal_form is.0)))
+  ]
+
+  -- a terminal answer ends the client
+  pub terminal_ends : (condition : Option Condition) (tells : Told) → answer_of (answer_text (terminal condition)) ≡ Ok tells → tells.end ≡ None → ⊥
+  terminal_ends condition tells reads on =
+      let told = tells_same (answer_text (terminal condition)) (terminal condition) tells reads refl (below.answer_read (terminal condition) (terminal_is condition) (terminal_form condition)) in
+      let end : end_in Terminate condition ≡ None = sym (ap (λ (t : Told). t.end) told) ∙ on in
+      cc
+
+  -- whatever a session writes tells the client something
+  pub read_tells : (bytes : List ℕ) (items : List Outward) → IsRead bytes items → (tells : Told) × (answer_of bytes ≡ Ok tells)
+  read_tells bytes items r = (told_of r.parts, ap answer_of r.bytes_are ∙ below.answer_read r.parts r.is r.form)
+
+  pub word_tells : (answered : ℕ) (ending : Ending) (id : ℕ) → (tells : Told) × (answer_of (last_word answered ending id) ≡ Ok tells)
+  word_tells answered ending id = elim (word_only answered ending id) [
+    | inl is ↦ (told_of nothing, ap (λ (p : AnswerParts). answer_of (answer_text p)) is ∙ below.answer_read nothing nothing_is nothing_form)
+    | inr is ↦ (told_of (terminal is.0), ap (λ (p : AnswerParts). answer_of (answer_text p)) is.1 ∙ below.answer_read (terminal is.0) (terminal_is is.0) (terminal_form is.0))
+  ]

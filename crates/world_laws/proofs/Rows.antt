@@ -1,0 +1,118 @@
+-- The definitions of a world compute: events with what is seen of them.
+use Rattle.std.proofs.Common.{◌≡◌, ℕ, ◌∷◌, [], ◌++◌, List, refl, true, false}
+use Rattle.std.specs.Prelude.{Some, codes, ⊤}
+use Rattle.bosh_types.specs.declared.condition.Condition.TheVariants.{ItemNotFound}
+use Rattle.bosh_types.specs.declared.ending.Closing.TheVariants.{Plain}
+use Rattle.bosh_types.specs.declared.ending.Ending.TheVariants.{Stale}
+use Rattle.bosh_types.specs.declared.inward.Inward.TheVariants as inwards
+use Rattle.body_cutter.proofs.Rows.{cuts_compute}
+use Rattle.session_attrs.specs.Attributes.{is_named, value_of}
+use Rattle.session_attrs.specs.Forms.{is_httpbind, number_of, pause_of, version_of, wish_of, ack_of, terminate_of, flag_of}
+use Rattle.session_attrs.specs.Reading.{rid_in, creation_in, asked_in, request_with, request_of}
+use Rattle.session_core.proofs.RowTools.{bodies_compute, keys_compute}
+use Rattle.bosh_client.proofs.ClientRows.{clients_compute}
+use Rattle.world_laws.specs.declared.event.WorldEvent.{WorldEvent}
+use Rattle.world_laws.specs.declared.event.WorldEvent.TheVariants as events
+use Rattle.world_laws.specs.declared.seen.SeenItem.{SeenItem}
+use Rattle.world_laws.specs.declared.seen.SeenItem.TheVariants as seen
+use Rattle.world_laws.specs.declared.seen.Word.TheVariants as words
+use Rattle.world_laws.specs.Steps.{after, report}
+use Rattle.world_laws.specs.Sums.{sums_of}
+use Rattle.world_laws.specs.World.{PlainWorld, new_world}
+
+unfoldable worlds_compute : ⊤
+unfolding cuts_compute bodies_compute keys_compute clients_compute is_named value_of is_httpbind number_of pause_of version_of wish_of ack_of terminate_of flag_of rid_in creation_in asked_in request_with request_of
+worlds_compute = tt
+
+abbrev host : List ℕ
+host = codes "example.org"
+
+-- as scripts begin one: the first id, and whether the client asks for acknowledgements
+abbrev world_of : ℕ → PlainWorld
+world_of first = new_world host (codes "<stream:features/>" ∷ []) (record { first = first; to = host; wait = 60; hold = 1; ack = true; seed = codes "seed"; keys = 0 })
+
+abbrev httpbind : List ℕ
+httpbind = codes "xmlns='http://jabber.org/protocol/httpbind'"
+
+abbrev body : List ℕ → List ℕ
+body rest = codes "<body " ++ httpbind ++ rest
+
+abbrev stream : List ℕ
+stream = codes " xmlns:stream='http://etherx.jabber.org/streams'>"
+
+abbrev carrying : List ℕ → List ℕ
+carrying stanza = body (stream ++ stanza ++ codes "</body>")
+
+abbrev inward : List ℕ → SeenItem
+inward stanza = seen.In (inwards.Item 0 stanza)
+
+-- no id is left for what is queued
+spent_ids :
+    report (new_world host (codes "<stream:features/>" ∷ []) (record { first = 9007199254740990; to = host; wait = 60; hold = 1; ack = false; seed = codes "seed"; keys = 0 }))
+    (events.Send ∷ events.Carry 9007199254740990 ∷ events.Return 1 ∷ events.Put (codes "<a/>") ∷ events.Send ∷ events.Put (codes "<b/>") ∷ events.Send ∷ [])
+    ≡ (seen.Req 9007199254740990 (body (codes " xmlns:xmpp='urn:xmpp:xbosh' rid='9007199254740990' to='example.org' xml:lang='en' wait='60' hold='1' ver='1.11' content='text/xml; charset=utf-8' xmpp:version='1.0'/>")) ∷ [])
+    ∷ (seen.Ans 1 9007199254740990 (body (codes " xmlns:xmpp='urn:xmpp:xbosh' xmlns:stream='http://etherx.jabber.org/streams' sid='s1' wait='60' requests='2' inactivity='30' polling='5' maxpause='120' hold='1' ver='1.11' from='example.org' ack='9007199254740990' xmpp:version='1.0' xmpp:restartlogic='true'><stream:features/></body>")) ∷ [])
+    ∷ (seen.Got (codes "<stream:features/>") ∷ []) ∷ []
+    ∷ (seen.Req 9007199254740991 (body (codes " rid='9007199254740991' sid='s1'><a/></body>")) ∷ [])
+    ∷ [] ∷ (seen.Spent ∷ []) ∷ []
+unfolding worlds_compute
+spent_ids = refl
+
+abbrev login : List WorldEvent
+login =
+    events.Send ∷ events.Carry 1000 ∷ events.Return 1 ∷ events.Put (codes "<auth/>") ∷ events.Send ∷ events.Carry 1001 ∷ events.Give (codes "<success/>") ∷ events.Return 2
+    ∷ events.Restart ∷ events.Send ∷ events.Carry 1002 ∷ events.Give (codes "<stream:features/>") ∷ events.Carry 1002 ∷ events.Return 4
+    ∷ events.Put (codes "<message id='1'/>") ∷ events.Send ∷ events.Carry 1003 ∷ events.Carry 1003 ∷ events.At 5000 ∷ events.Give (codes "<message id='2'/>")
+    ∷ events.At 5500 ∷ events.Put (codes "<message id='3'/>") ∷ events.Send ∷ events.At 6000 ∷ events.Carry 1004 ∷ events.Return 6 ∷ events.Carry 1003 ∷ events.Return 7
+    ∷ events.Carry 1001 ∷ []
+
+-- a login with a restart: a lost answer is given again, a copy supersedes one that waits, and an early answer is kept back;
+-- then a copy that is too old ends the session
+login_seen :
+    report (world_of 1000) login
+    ≡ (seen.Req 1000 (body (codes " xmlns:xmpp='urn:xmpp:xbosh' rid='1000' to='example.org' xml:lang='en' wait='60' hold='1' ver='1.11' content='text/xml; charset=utf-8' ack='1' xmpp:version='1.0'/>")) ∷ [])
+    ∷ (seen.Ans 1 1000 (body (codes " xmlns:xmpp='urn:xmpp:xbosh' xmlns:stream='http://etherx.jabber.org/streams' sid='s1' wait='60' requests='2' inactivity='30' polling='5' maxpause='120' hold='1' ver='1.11' from='example.org' ack='1000' xmpp:version='1.0' xmpp:restartlogic='true'><stream:features/></body>")) ∷ [])
+    ∷ (seen.Got (codes "<stream:features/>") ∷ []) ∷ []
+    ∷ (seen.Req 1001 (body (codes " rid='1001' sid='s1'><auth/></body>")) ∷ [])
+    ∷ (inward (codes "<auth/>") ∷ [])
+    ∷ (seen.Ans 2 1001 (carrying (codes "<success/>")) ∷ [])
+    ∷ (seen.Got (codes "<success/>") ∷ []) ∷ []
+    ∷ (seen.Req 1002 (body (codes " xmlns:xmpp='urn:xmpp:xbosh' rid='1002' sid='s1' xmpp:restart='true'/>")) ∷ [])
+    ∷ (seen.In (inwards.Restart 0) ∷ [])
+    ∷ (seen.Ans 3 1002 (carrying (codes "<stream:features/>")) ∷ [])
+    ∷ (seen.Ans 4 1002 (carrying (codes "<stream:features/>")) ∷ [])
+    ∷ (seen.Got (codes "<stream:features/>") ∷ []) ∷ []
+    ∷ (seen.Req 1003 (body (codes " rid='1003' sid='s1'><message id='1'/></body>")) ∷ [])
+    ∷ (inward (codes "<message id='1'/>") ∷ [])
+    ∷ (seen.Gone 1003 ∷ []) ∷ []
+    ∷ (seen.Ans 5 1003 (carrying (codes "<message id='2'/>")) ∷ []) ∷ [] ∷ []
+    ∷ (seen.Req 1004 (body (codes " rid='1004' sid='s1' ack='1002'><message id='3'/></body>")) ∷ []) ∷ []
+    ∷ (inward (codes "<message id='3'/>") ∷ seen.Ans 6 1004 (body (codes " report='1003' time='1000'/>")) ∷ []) ∷ []
+    ∷ (seen.Ans 7 1003 (carrying (codes "<message id='2'/>")) ∷ [])
+    ∷ (seen.Got (codes "<message id='2'/>") ∷ [])
+    ∷ (seen.Ans 8 1001 (body (codes " type='terminate' condition='item-not-found'/>")) ∷ seen.Over (Stale 1001 1003) ∷ []) ∷ []
+unfolding worlds_compute
+login_seen = refl
+
+login_sums : sums_of (after (world_of 1000) login) ≡ record { put = 3; queued = 0; inward = 3; given = 4; got = 4 }
+unfolding worlds_compute
+login_sums = refl
+
+-- after the ending a copy is told so, one of the creation changes nothing, the ending is seen once, and the terminal answer
+-- ends the client
+after_the_end :
+    report (after (world_of 1000) login)
+    (events.Carry 1000 ∷ events.Carry 1004 ∷ events.Give (codes "<a/>") ∷ events.Return 8 ∷ events.Put (codes "<b/>") ∷ events.Send ∷ events.Carry 1005 ∷ events.Return 9 ∷ events.Return 10 ∷ [])
+    ≡ (seen.Dup 1000 ∷ []) ∷ (seen.Ans 9 1004 (body (codes " type='terminate' condition='item-not-found'/>")) ∷ [])
+    ∷ (seen.RefusedOver words.Give ∷ []) ∷ (seen.Stale 1001 ∷ []) ∷ [] ∷ (seen.Req 1005 (body (codes " rid='1005' sid='s1'><b/></body>")) ∷ [])
+    ∷ (seen.Ans 10 1005 (body (codes " type='terminate' condition='item-not-found'/>")) ∷ []) ∷ (seen.Stale 1004 ∷ []) ∷ (seen.Ended (Some ItemNotFound) ∷ []) ∷ []
+unfolding worlds_compute
+after_the_end = refl
+
+-- before the creation came there is no session: its copies are lost, and nothing is taken from the server
+before_the_creation :
+    report (world_of 5) (events.Carry 5 ∷ events.Give (codes "<a/>") ∷ events.Shut Plain ∷ events.Return 1 ∷ events.Pause 5 ∷ events.At 10 ∷ events.Stop ∷ events.Put (codes "<a/>") ∷ [])
+    ≡ (seen.NoCopy ∷ []) ∷ (seen.RefusedOver words.Give ∷ []) ∷ (seen.RefusedOver words.Shut ∷ []) ∷ (seen.NoCopy ∷ []) ∷ (seen.RefusedLong ∷ []) ∷ []
+    ∷ [] ∷ (seen.RefusedOver words.Put ∷ []) ∷ []
+unfolding worlds_compute
+before_the_creation = refl

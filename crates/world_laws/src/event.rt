@@ -1,0 +1,26 @@
+use bosh_types::{Closing, Moment, Rid, Text};
+
+/// What happens in a world: at the client, at the manager, or between the two.
+#[derive(Debug, Drop)]
+pub enum WorldEvent {
+    /// It is this moment, or as late as it is.
+    At(Moment),
+    /// The client is to send a stanza.
+    Put(Text),
+    /// The client is to begin its stream anew.
+    Restart,
+    /// The client is to pause for so many seconds.
+    Pause(u32),
+    /// The client is to end the session.
+    Stop,
+    /// The client makes its next request, if one is due.
+    Send,
+    /// A copy of the request with this id arrives at the manager.
+    Carry(Rid),
+    /// The server gives a stanza.
+    Give(Text),
+    /// The server closes the stream.
+    Shut(Closing),
+    /// The answer with this number, from 1, arrives at the client.
+    Return(u64),
+}

@@ -1,0 +1,45 @@
+ghost use Rattle.std.specs.Prelude.{All, ℕ, List};
+ghost use Rattle.bosh_client.specs.declared.setup.ClientSetup.{ClientSetup};
+ghost use Rattle.world_laws.specs.declared.event.WorldEvent.{WorldEvent};
+ghost use Rattle.world_laws.specs.Promises.{IsUnbroken, KeepsBothPrefixes, ShowsAll, all_seen};
+ghost use Rattle.world_laws.specs.Setup.{IsAllowed, IsWorldSetup};
+ghost use Rattle.world_laws.specs.Sound.{IsSound};
+ghost use Rattle.world_laws.specs.Steps.{after, report};
+ghost use Rattle.world_laws.specs.World.{new_world};
+
+use body_cutter::texts_are_cut_by_the_grammar;
+use bosh_client::{
+    answers_tell_their_bodies, payloads_are_handed_out_in_order, requests_carry_what_they_took,
+    requests_have_the_form_that_reads_back, what_is_put_is_made_once, written_answers_read_back,
+};
+use session_core::written_requests_read_back;
+use session_laws::{calls_make_longer_journals, every_journal_keeps_the_laws};
+
+/// After any events, in whatever order the network brings what was ever sent, and however often or never: what went inward
+/// at the manager is a beginning of what the client made, and what the client handed out is a beginning of what the server
+/// gave. For the world is sound then: whatever arrived is the body of its id, and whatever may come back is an answer to its.
+/// All of it was seen: what is seen to be passed on is what went inward, and what is seen to be handed out was handed out.
+/// And no answer that may come back is broken: the client takes each for an answer, whether or not it had one before.
+pub fn every_world_keeps_both_prefixes()
+    ensures sound { (host : List ℕ) (greeting : List (List ℕ)) (setup : ClientSetup) (events : List WorldEvent)
+        → IsWorldSetup host greeting setup → All IsAllowed events → IsSound setup (after (new_world host greeting setup) events) }
+    ensures prefixes { (host : List ℕ) (greeting : List (List ℕ)) (setup : ClientSetup) (events : List WorldEvent)
+        → IsWorldSetup host greeting setup → All IsAllowed events → KeepsBothPrefixes (after (new_world host greeting setup) events) }
+    ensures shown { (host : List ℕ) (greeting : List (List ℕ)) (setup : ClientSetup) (events : List WorldEvent)
+        → IsWorldSetup host greeting setup → All IsAllowed events
+        → ShowsAll (after (new_world host greeting setup) events) (all_seen (report (new_world host greeting setup) events)) }
+    ensures unbroken { (host : List ℕ) (greeting : List (List ℕ)) (setup : ClientSetup) (events : List WorldEvent)
+        → IsWorldSetup host greeting setup → All IsAllowed events
+        → All (IsUnbroken (after (new_world host greeting setup) events).client) (after (new_world host greeting setup) events).written }
+{
+    every_journal_keeps_the_laws();
+    calls_make_longer_journals();
+    texts_are_cut_by_the_grammar();
+    written_requests_read_back();
+    written_answers_read_back();
+    what_is_put_is_made_once();
+    requests_have_the_form_that_reads_back();
+    requests_carry_what_they_took();
+    answers_tell_their_bodies();
+    payloads_are_handed_out_in_order();
+}
