@@ -1,27 +1,36 @@
 -- What becomes of what is given to a session, and moves with it.
-use Rattle.std.proofs.Common.{◌≡◌, ◌≢◌, ◌/◌, ℕ, List, Option, Some, None, Result, Ok, Err, refl, sym, subst, ap, ◌∙◌}
+use Rattle.std.proofs.Common.{◌≡◌, ◌≢◌, ◌/◌, ◌+◌, ℕ, List, Option, Some, None, Result, Ok, Err, refl, sym, subst, ap, ◌∙◌, false, true≢false}
+use Rattle.std.specs.Bool.{⊤}
+use Rattle.std.specs.Result.{IsErr}
 use Rattle.std.specs.declared.alloc.AllocError.{AllocError}
 use Rattle.bosh_types.specs.declared.ending.Closing.{Closing}
 use Rattle.parked_gate.specs.Passes.{Known, Looks}
 use Rattle.session_core.specs.declared.replies.Taken.{Taken}
 use Rattle.session_core.specs.declared.replies.Taken.TheVariants as takings
+use Rattle.session_core.specs.declared.replies.Waiting.{Waiting}
+use Rattle.session_journal.specs.declared.asking.Answer.{Answer}
+use Rattle.session_journal.specs.declared.asking.Answer.TheVariants as answers
+use Rattle.session_journal.specs.declared.asking.Question.TheVariants as questions
+use Rattle.session_journal.specs.Seen.{Answers}
 use Rattle.session_journal.specs.declared.call.Call.{Call}
 use Rattle.session_journal.specs.declared.call.Call.TheVariants as calls
 use Rattle.session_journal.specs.declared.call.Reply.{Reply}
 use Rattle.session_journal.specs.declared.call.Reply.TheVariants as replies
 use Rattle.session_journal.specs.declared.entry.Entry.{Entry}
 use Rattle.session_table.specs.Purses.{OthersStay, Sessions, Turned, held}
-use Rattle.xmpp_backend.specs.Told.{Told, WasOpened, given_too}
+use Rattle.xmpp_backend.specs.Counts.{counted_on}
+use Rattle.xmpp_backend.specs.Told.{given_too}
 use Rattle.xmpp_backend.specs.declared.backend.Given.{Given}
 use Rattle.xmpp_backend.specs.declared.backend.Given.TheVariants as given
-use Rattle.session_pump.specs.Ends.{Changes, Ends, HasFailed}
-use Rattle.session_pump.specs.Giving.{GiveMove, GiveMoves, Gives, HostSide, IsAsked, Refuses, Takes, Tried, asks, called, fails, finds_nothing, gives, is_refused, lets_go, more, none, polls, untried, wants_memory}
+use Rattle.session_pump.specs.Ends.{Changes, Ends, GivesOn, HasFailed, Shifts}
+use Rattle.session_pump.specs.Giving.{FindsNoRoom, GiveMoves, Gives, GivesOnce, GivesTimes, HadNoRoom, HostSide, IsAsked, LacksRoom, PollGave, PollsHost, PollsOut, Refuses, Tried, again, asks, called, does_nothing, fails, finds_nothing, gave_much, gives, had_no_room, had_nothing, has_failed, has_room, is_full, is_refused, lacks_room, lets_go, more, most_polls, moves, never, none, polls, wants_memory}
 use Rattle.session_pump.specs.Sides.{Called, ClosesStream, IsAt}
 use Rattle.bosh_types.specs.Limits.{most_streams}
 use Rattle.session_pump.specs.declared.line.Owing.{Owing}
 use Rattle.session_pump.specs.declared.giving.Giving.{Giving}
 use Rattle.session_pump.specs.declared.giving.Giving.TheVariants as givings
-use Rattle.session_pump.proofs.TurnedLemmas.{turned_as, turned_then}
+use Rattle.session_pump.proofs.MovesLemmas.{ends_are}
+use Rattle.session_pump.proofs.TurnedLemmas.{turned_as}
 
 says_so : (moment : Option ℕ) (now : ℕ) (text : List ℕ) (giving : Giving) (reply : Reply) (k m : Known Entry)
     → (giving ≡ givings.Done → (taken : Taken) × (reply ≡ replies.Back taken) × (taken ≢ takings.Full)) → (giving ≡ givings.Full → reply ≡ replies.Back takings.Full)
@@ -99,29 +108,166 @@ pub is_wanted : {moment : Option ℕ} (kept : Option Owing) (owing : Owing) (end
 is_wanted kept owing ends s t u is asked stay turned others =
     gives_then (is_asked kept owing ends s t is asked stay) (more none (wants_memory owing.number u turned others))
 
-ends_are : (change : Told → Told) (e f : Ends) → Changes change e f → record e { told = f.told } ≡ f
-ends_are change e f changes =
-    ap (λ (n : ℕ). record { told = f.told; failures = n; faults = e.faults }) (sym changes.failures)
-    ∙ ap (λ (n : ℕ). record { told = f.told; failures = f.failures; faults = n }) (sym changes.faults)
+polled_as : (kept : Option Owing) (owing : Owing) (e f : Ends) (s : Sessions) → record e { told = f.told; answers = counted_on e.answers } ≡ f
+    → host (Some owing) f s ≡ record (host kept e s) { kept = Some owing; ends = record e { told = f.told; answers = counted_on e.answers } }
+polled_as kept owing e f s same = ap (λ (ends : Ends). host (Some owing) ends s) (sym same)
 
 -- the back end gave something on a wire that was opened
-pub is_polled : {moment : Option ℕ} (kept : Option Owing) (owing : Owing) (wire : ℕ) (what : Given) (e f : Ends) (s : Sessions) → kept ≡ None
-    → owing.number ≡ wire / most_streams → owing.given ≡ what → WasOpened e.told wire × Changes (given_too wire what) e f
-    → GiveMoves moment (host kept e s) (host (Some owing) f s)
-is_polled {moment} kept owing wire what e f s empty number same found =
-    let changes = subst (λ g. Changes (given_too wire g) e f) (sym same) found.1 in
-    subst (λ (ends : Ends). GiveMoves moment (host kept e s) (host (Some owing) ends s)) (ends_are (given_too wire owing.given) e f changes)
-    (more none (polls owing wire f.told empty number found.0 changes.told))
+pub has_polled : (kept kept' : Option Owing) (owing : Owing) (wire : ℕ) (what : Given) (e f : Ends) (s : Sessions) → kept ≡ None → kept' ≡ Some owing
+    → owing.number ≡ wire / most_streams → owing.given ≡ what → GivesOn wire what e f
+    → PollGave (host kept e s) (host kept' f s)
+has_polled kept kept' owing wire what e f s empty is number same found =
+    let shifts = subst (λ g. Shifts (given_too wire g) (λ count. count) counted_on e f) (sym same) found.1 in
+    record {
+      owing = owing;
+      wire = wire;
+      told = f.told;
+      empty = empty;
+      number = number;
+      opened = found.0;
+      given = shifts.told;
+      is = ap (λ (k : Option Owing). host k f s) is ∙ polled_as kept owing e f s (ends_are (given_too wire owing.given) (λ count. count) counted_on e f shifts);
+    }
+
+-- that is a move
+pub poll_moves : {moment : Option ℕ} {h i : HostSide} → PollGave h i → GiveMoves moment h i
+poll_moves gave = more none (polls gave)
+
+idled_as : (R : HostSide → Type 0) (kept kept' : Option Owing) (e f : Ends) (s : Sessions) → kept' ≡ kept → Shifts (λ told. told) counted_on (λ count. count) e f
+    → R (host kept (record e { told = f.told; idle = counted_on e.idle }) s) → R (host kept' f s)
+idled_as R kept kept' e f s same shifts is =
+    subst (λ (k : Option Owing). R (host k f s)) (sym same)
+    (subst (λ (ends : Ends). R (host kept ends s)) (ends_are (λ told. told) counted_on (λ count. count) e f shifts) is)
 
 -- it had nothing to give
-pub is_idle : {moment : Option ℕ} (kept kept' : Option Owing) (e f : Ends) (s : Sessions) → kept' ≡ kept → Changes (λ told. told) e f
+pub is_idle : (moment : Option ℕ) (kept kept' : Option Owing) (e f : Ends) (s : Sessions) → kept ≡ None → kept' ≡ kept → Shifts (λ told. told) counted_on (λ count. count) e f
+    → PollsOut moment (host kept e s) (host kept' f s)
+is_idle moment kept kept' e f s empty same shifts =
+    idled_as (PollsOut moment (host kept e s)) kept kept' e f s same shifts (had_nothing f.told none empty shifts.told)
+
+pub idle_moves : (moment : Option ℕ) (kept kept' : Option Owing) (e f : Ends) (s : Sessions) → kept ≡ None → kept' ≡ kept → Shifts (λ told. told) counted_on (λ count. count) e f
     → GiveMoves moment (host kept e s) (host kept' f s)
-is_idle {moment} kept kept' e f s same changes =
+idle_moves moment kept kept' e f s empty same shifts =
+    idled_as (GiveMoves moment (host kept e s)) kept kept' e f s same shifts (more none (finds_nothing f.told empty shifts.told))
+
+-- there was no memory for a poll
+pub polls_not : {moment : Option ℕ} (kept kept' : Option Owing) (e f : Ends) (s : Sessions) → kept' ≡ kept → Changes (λ told. told) e f
+    → GiveMoves moment (host kept e s) (host kept' f s)
+polls_not {moment} kept kept' e f s same changes =
     subst (λ (k : Option Owing). GiveMoves moment (host kept e s) (host k f s)) (sym same)
-    (subst (λ (ends : Ends). GiveMoves moment (host kept e s) (host kept ends s)) (ends_are (λ told. told) e f changes)
-    (more none (finds_nothing f.told changes.told)))
+    (subst (λ (ends : Ends). GiveMoves moment (host kept e s) (host kept ends s)) (ends_are (λ told. told) (λ count. count) (λ count. count) e f changes)
+    (more none (does_nothing f.told changes.told)))
 
 -- it failed
-pub has_failed : {moment : Option ℕ} (kept kept' : Option Owing) (e f : Ends) (s : Sessions) → kept' ≡ kept → HasFailed e f → GiveMoves moment (host kept e s) (host kept' f s)
-has_failed {moment} kept kept' e f s same failed =
-    subst (λ (k : Option Owing). GiveMoves moment (host kept e s) (host k f s)) (sym same) (more none (fails f failed))
+pub failed_so : (moment : Option ℕ) (kept kept' : Option Owing) (e f : Ends) (s : Sessions) → kept ≡ None → kept' ≡ kept → HasFailed e f
+    → PollsOut moment (host kept e s) (host kept' f s)
+failed_so moment kept kept' e f s empty same failed =
+    subst (λ (k : Option Owing). PollsOut moment (host kept e s) (host k f s)) (sym same) (has_failed f none empty failed)
+
+pub failure_moves : (moment : Option ℕ) (kept kept' : Option Owing) (e f : Ends) (s : Sessions) → kept ≡ None → kept' ≡ kept → HasFailed e f
+    → GiveMoves moment (host kept e s) (host kept' f s)
+failure_moves moment kept kept' e f s empty same failed =
+    subst (λ (k : Option Owing). GiveMoves moment (host kept e s) (host k f s)) (sym same) (more none (fails f empty failed))
+
+pub times_moves : {moment : Option ℕ} {count : ℕ} {h i : HostSide} → GivesTimes moment count h i → GiveMoves moment h i
+times_moves never = none
+times_moves (moves rest move) = more (times_moves rest) move
+times_moves (again rest gave) = more (times_moves rest) (polls gave)
+
+-- moves go on
+pub times_then : {moment : Option ℕ} {count : ℕ} {h i j : HostSide} → GivesTimes moment count h i → GiveMoves moment i j → GivesTimes moment count h j
+times_then first none = first
+times_then first (more rest last) = moves (times_then first rest) last
+
+-- it gave something once more
+pub gave_again : {moment : Option ℕ} {count : ℕ} {h i j : HostSide} → GivesTimes moment count h i → GivesOnce moment i j → GivesTimes moment (count + 1) h j
+gave_again first once = again (times_then first once.1) once.2
+
+times_after : {moment : Option ℕ} {count : ℕ} {h i j : HostSide} → GiveMoves moment h i → GivesTimes moment count i j → GivesTimes moment count h j
+times_after first never = times_then never first
+times_after first (moves rest move) = moves (times_after first rest) move
+times_after first (again rest gave) = again (times_after first rest) gave
+
+no_room_after : {moment : Option ℕ} {h i j : HostSide} → GiveMoves moment h i → HadNoRoom moment i j → HadNoRoom moment h j
+no_room_after first full = record {
+  before = full.before;
+  moves = gives_then first full.moves;
+  owing = full.owing;
+  later = full.later;
+  sessions = full.sessions;
+  kept = full.kept;
+  number = full.number;
+  given = full.given;
+  found = full.found;
+  others = full.others;
+  is = full.is;
+}
+
+-- it is at its end after more moves too
+pub over_after : {moment : Option ℕ} {h i j : HostSide} → GiveMoves moment h i → PollsOut moment i j → PollsOut moment h j
+over_after first (had_nothing told rest empty stays) = had_nothing told (gives_then first rest) empty stays
+over_after first (has_failed ends rest empty failed) = has_failed ends (gives_then first rest) empty failed
+over_after first (had_no_room full) = had_no_room (no_room_after first full)
+over_after first (gave_much times rest) = gave_much (times_after first times) rest
+
+refuses_so : {moment : Option ℕ} {what : Given} {k m : Known Entry} → Refuses moment what k m → FindsNoRoom moment what k m
+refuses_so refuses = is_full refuses
+
+-- there is no room for what is kept, by what the session answered
+pub has_no_room : {moment : Option ℕ} (kept : Option Owing) (owing : Owing) (ends : Ends) (s t : Sessions) → kept ≡ Some owing
+    → Turned owing.number s t (Looks (LacksRoom owing.given)) → OthersStay owing.number s t → HadNoRoom moment (host kept ends s) (host (Some owing) ends t)
+has_no_room {moment} kept owing ends s t is looked others = record {
+  before = host kept ends s;
+  moves = none;
+  owing = owing;
+  later = owing;
+  sessions = t;
+  kept = is;
+  number = refl;
+  given = refl;
+  found = turned_as owing.number s t (Looks (LacksRoom owing.given)) (FindsNoRoom moment owing.given) (λ k m looks. lacks_room looks) looked;
+  others = others;
+  is = refl;
+}
+
+-- its session refused it
+pub was_refused : {moment : Option ℕ} (kept : Option Owing) (owing later : Owing) (ends : Ends) (s t u : Sessions) (giving : Giving) → kept ≡ Some owing → giving ≡ givings.Full
+    → later.number ≡ owing.number → later.given ≡ owing.given → Turned owing.number s t IsAsked → OthersStay owing.number s t
+    → Turned owing.number t u (Gives moment owing.given (Ok giving)) → OthersStay owing.number t u → HadNoRoom moment (host kept ends s) (host (Some later) ends u)
+was_refused {moment} kept owing later ends s t u giving is full number same asked stay turned others = record {
+  before = host (Some owing) ends t;
+  moves = is_asked kept owing ends s t is asked stay;
+  owing = owing;
+  later = later;
+  sessions = u;
+  kept = refl;
+  number = number;
+  given = same;
+  found = turned_as owing.number t u (Refuses moment owing.given) (FindsNoRoom moment owing.given) (λ k m refuses. refuses_so refuses)
+      (subst (λ g. Turned owing.number t u (Gives moment owing.given (Ok g))) full turned);
+  others = others;
+  is = refl;
+}
+
+pub looks_as : {P Q : List Entry → Type 0} {k m : Known Entry} → ((log : List Entry) → P log → Q log) → Looks P k m → Looks Q k m
+looks_as {k = k} {m = m} by looks = record { begins = looks.begins; says = by m.seen looks.says; mine = looks.mine; earlier = looks.earlier; learnt = looks.learnt }
+
+pub ok_same : {X E : Type 0} (x y : X) → ◌≡◌ {A = Result X E} (Ok x) (Ok y) → x ≡ y
+ok_same x y is = cc
+
+-- the session answered that so much waits
+pub lacks_so : (number : ℕ) (a b : Sessions) (what : Given) (answer : Answer)
+    → (waiting : Waiting) × (answer ≡ answers.Load waiting None) × (has_room waiting what ≡ false)
+    → Turned number a b (Looks (λ log. Answers log questions.Load (Ok answer))) → Turned number a b (Looks (LacksRoom what))
+lacks_so number a b what answer found turned =
+    turned_as number a b (Looks (λ log. Answers log questions.Load (Ok answer))) (Looks (LacksRoom what))
+    (λ k m looks. looks_as (λ log says. (found.0, subst (λ (x : Answer). Answers log questions.Load (Ok x)) found.1 says, found.2)) looks)
+    turned
+
+-- there was no memory for it
+pub polls_err : {moment : Option ℕ} {h j : HostSide} (result : Result ⊤ AllocError) → IsErr result → GiveMoves moment h j → PollsHost moment h j result
+polls_err (Ok done) err made = absurd (true≢false (sym err))
+polls_err (Err error) err made = made
+
+pub gave_so_often : {moment : Option ℕ} (count : ℕ) (h j : HostSide) → count ≡ most_polls → GivesTimes moment count h j → GivesTimes moment most_polls h j
+gave_so_often {moment} count h j same times = subst (λ (n : ℕ). GivesTimes moment n h j) same times

@@ -3,3 +3,4 @@ mod MovesLemmas
 mod PassingLemmas
 mod ServingLemmas
 mod GivingLemmas
+mod PlaceLemmas

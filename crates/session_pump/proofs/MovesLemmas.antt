@@ -1,14 +1,12 @@
 -- Moves of the pump, one after the other.
-use Rattle.std.proofs.Common.{◌≡◌, ◌≢◌, ℕ, Option, Some, None, Result, Ok, Err, refl, sym, ap, subst, ◌∙◌}
-use Rattle.std.specs.declared.alloc.AllocError.{AllocError}
+use Rattle.std.proofs.Common.{◌≡◌, ℕ, Option, Some, None, sym, ap, subst, ◌∙◌}
 use Rattle.bosh_types.specs.declared.inward.Inward.{Inward}
 use Rattle.parked_gate.specs.Passes.{Known}
 use Rattle.session_journal.specs.declared.entry.Entry.{Entry}
-use Rattle.xmpp_backend.specs.Told.{Told, opened_too, passed_too, closed_too}
-use Rattle.session_pump.specs.Ends.{Changes, Ends, HasFailed, StaysAs}
-use Rattle.session_pump.specs.Sides.{IsOpen, Move, Moves, MovesToTheEnd, PassesAll, Serves, Side, closes, does_nothing, fails, fails_at, fails_to_open, lets_go, more, none, opens, passes}
+use Rattle.xmpp_backend.specs.Told.{Told, opened_too, passed_too}
+use Rattle.session_pump.specs.Ends.{Changes, Ends, HasFailed, Shifts}
+use Rattle.session_pump.specs.Sides.{Move, Moves, MovesToTheEnd, Side, does_nothing, fails_at, fails_to_open, lets_go, more, none, opens, passes}
 use Rattle.session_pump.specs.declared.line.Line.{Line}
-use Rattle.session_pump.specs.declared.line.Stage.{Stage}
 use Rattle.session_pump.specs.declared.line.Stage.TheVariants as stages
 
 pub moves_then : {moment : Option ℕ} {s t u : Side} → Moves moment s t → Moves moment t u → Moves moment s u
@@ -23,10 +21,13 @@ pub end_after : {moment : Option ℕ} {s t u : Side} → Moves moment s t → Mo
 end_after first rest = record { last = rest.last; moves = moves_then first rest.moves; kept = rest.kept; called = rest.called; same = rest.same }
 
 -- the back ends are as before but for what is told
-ends_are : (change : Told → Told) (e f : Ends) → Changes change e f → record e { told = f.told } ≡ f
-ends_are change e f changes =
-    ap (λ (n : ℕ). record { told = f.told; failures = n; faults = e.faults }) (sym changes.failures)
-    ∙ ap (λ (n : ℕ). record { told = f.told; failures = f.failures; faults = n }) (sym changes.faults)
+pub ends_are : (change : Told → Told) (idle answers : ℕ → ℕ) (e f : Ends) → Shifts change idle answers e f
+    → record e { told = f.told; idle = idle e.idle; answers = answers e.answers } ≡ f
+ends_are change idle answers e f shifts =
+    ap (λ (n : ℕ). record { told = f.told; idle = n; answers = answers e.answers; failures = e.failures; faults = e.faults }) (sym shifts.idled)
+    ∙ ap (λ (n : ℕ). record { told = f.told; idle = f.idle; answers = n; failures = e.failures; faults = e.faults }) (sym shifts.answered)
+    ∙ ap (λ (n : ℕ). record { told = f.told; idle = f.idle; answers = f.answers; failures = n; faults = e.faults }) (sym shifts.failures)
+    ∙ ap (λ (n : ℕ). record { told = f.told; idle = f.idle; answers = f.answers; failures = f.failures; faults = n }) (sym shifts.faults)
 
 -- nothing was kept
 pub nothing_kept : (line : Line) → line.kept ≡ None → record line { kept = None } ≡ line
@@ -41,7 +42,7 @@ pub passed_on : {moment : Option ℕ} {known : Known Entry} (line : Line) (e f :
     → Moves moment (record { known = known; line = line; ends = e }) (record { known = known; line = record line { kept = None }; ends = f })
 passed_on {moment} {known} line e f item is kept changes =
     subst (λ (ends : Ends). Moves moment (record { known = known; line = line; ends = e }) (record { known = known; line = record line { kept = None }; ends = ends }))
-    (ends_are (passed_too line.wire item) e f changes)
+    (ends_are (passed_too line.wire item) (λ count. count) (λ count. count) e f changes)
     (one_move (passes item f.told is kept changes.told))
 
 -- the wire isn't open, and what is kept is let go
@@ -55,7 +56,7 @@ pub did_nothing : {moment : Option ℕ} {known : Known Entry} (line after : Line
 did_nothing {moment} {known} line after e f same changes =
     subst (λ (l : Line). Moves moment (record { known = known; line = line; ends = e }) (record { known = known; line = l; ends = f })) same
     (subst (λ (ends : Ends). Moves moment (record { known = known; line = line; ends = e }) (record { known = known; line = line; ends = ends }))
-    (ends_are (λ told. told) e f changes)
+    (ends_are (λ told. told) (λ count. count) (λ count. count) e f changes)
     (one_move (does_nothing f.told changes.told)))
 
 -- the back end failed at it: another one stands there, and the item is lost
@@ -69,7 +70,7 @@ pub opened_on : {moment : Option ℕ} {known : Known Entry} (line : Line) (e f :
     → Moves moment (record { known = known; line = line; ends = e }) (record { known = known; line = record line { stage = stages.Opened e.failures }; ends = f })
 opened_on {moment} {known} line e f is changes =
     subst (λ (ends : Ends). Moves moment (record { known = known; line = line; ends = e }) (record { known = known; line = record line { stage = stages.Opened e.failures }; ends = ends }))
-    (ends_are (opened_too line.wire) e f changes)
+    (ends_are (opened_too line.wire) (λ count. count) (λ count. count) e f changes)
     (one_move (opens f.told is changes.told))
 
 -- it couldn't be opened

@@ -1,5 +1,5 @@
 -- What is known of a session that was served.
-use Rattle.std.proofs.Common.{◌≡◌, ◌≢◌, ℕ, Option, Some, None, Result, Ok, Err, refl, sym, subst, true≢false}
+use Rattle.std.proofs.Common.{◌≡◌, ◌≢◌, ℕ, Option, Result, Ok, Err, sym, subst, true≢false}
 use Rattle.std.specs.Bool.{⊤}
 use Rattle.std.specs.Result.{IsErr}
 use Rattle.std.specs.declared.alloc.AllocError.{AllocError}
@@ -11,7 +11,7 @@ use Rattle.session_journal.specs.declared.call.Reply.{Reply}
 use Rattle.session_journal.specs.declared.entry.Entry.{Entry}
 use Rattle.session_table.specs.Purses.{Sessions, Turned}
 use Rattle.session_pump.specs.Ends.{Ends}
-use Rattle.session_pump.specs.Sides.{Called, ClosesStream, IsAt, Move, Moves, MovesToTheEnd, PassesAll, Serves, Side, Ticks, none, more, tells_cut, ticks, wants_memory}
+use Rattle.session_pump.specs.Sides.{Called, ClosesStream, IsAt, Moves, PassesAll, Serves, Side, Ticks, more, tells_cut, ticks, wants_memory}
 use Rattle.session_pump.specs.declared.line.Line.{Line}
 use Rattle.session_pump.specs.declared.line.Stage.TheVariants as stages
 use Rattle.session_pump.proofs.MovesLemmas.{moves_then, one_move}

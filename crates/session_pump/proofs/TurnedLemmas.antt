@@ -5,7 +5,7 @@ use Rattle.parked_gate.specs.Passes.{Known, known}
 use Rattle.session_journal.specs.declared.entry.Entry as journal
 use Rattle.session_table.specs.declared.handle.SessionHandle.{SessionHandle}
 use Rattle.session_table.specs.Handles.{IsOfSame}
-use Rattle.session_table.specs.Purses.{OthersStay, Sessions, Turned, held}
+use Rattle.session_table.specs.Purses.{Sessions, Turned, held}
 
 some_same : {X : Type 0} (x y : X) → Some x ≡ Some y → x ≡ y
 some_same x y is = cc

@@ -1,4 +1,5 @@
 pub mod Ends
 pub mod Giving
+pub mod Places
 pub mod Proper
 pub mod Sides

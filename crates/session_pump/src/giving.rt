@@ -1,13 +1,16 @@
 // What a back end gave goes to its session.
-ghost use Rattle.std.specs.Prelude.{◌≡◌, ◌≢◌, ◌+◌, ◌&&◌, IsSome, IsTrue, nat_le, nat_lt};
+ghost use Rattle.std.specs.Prelude.{◌≡◌, ◌≢◌, ◌+◌, ◌&&◌, IsSome, IsTrue, None, Ok, false, nat_le, nat_lt};
 ghost use Rattle.body_cutter.specs.Cutting.{is_stanza};
 ghost use Rattle.bosh_types.specs.Limits.{most_waiting, waiting_bytes};
+ghost use Rattle.parked_gate.specs.Passes.{Looks};
 ghost use Rattle.session_core.specs.declared.replies.Taken.{Taken};
 ghost use Rattle.session_core.specs.declared.replies.Taken.TheVariants as takings;
+ghost use Rattle.session_core.specs.declared.replies.Waiting.{Waiting};
+ghost use Rattle.session_journal.specs.declared.asking.Answer.TheVariants as answers;
 ghost use Rattle.session_journal.specs.declared.call.Reply.TheVariants as replies;
 ghost use Rattle.session_table.specs.Purses.{OthersStay, Turned, held};
 ghost use Rattle.xmpp_backend.specs.declared.backend.Given.TheVariants as given;
-ghost use Rattle.session_pump.specs.Giving.{Gives, IsAsked};
+ghost use Rattle.session_pump.specs.Giving.{Gives, IsAsked, LacksRoom, has_room, size_of};
 
 use crate::line::Owing;
 use crate::serving::close_stream;
@@ -118,6 +121,7 @@ pub(crate) fn may_take<R: Wait>(
 ) -> Result<bool, AllocError>
     requires { IsSome (held purse.old.sessions owing.now.number) }
     ensures asked { Turned owing.now.number purse.old.sessions purse.new.sessions IsAsked }
+    ensures full { result ≡ Ok false → Turned owing.now.number purse.old.sessions purse.new.sessions (Looks (LacksRoom owing.now.given)) }
     ensures others { OthersStay owing.now.number purse.old.sessions purse.new.sessions }
     ensures directory { purse.new.directory ≡ purse.old.directory }
 {
@@ -125,22 +129,31 @@ pub(crate) fn may_take<R: Wait>(
         return Ok(true);
     }
     let answer = purse.look(rt, owing.number, &Question::Load)?;
-    Ok(says_room(&answer, length_of(&owing.given)))
+    Ok(says_room(&answer, &owing.given))
 }
 
-// How many bytes of stanzas it has.
-fn length_of(given: &Given) -> usize {
-    match given {
-        Given::Stanza(stanza) => stanza.len(),
-        Given::Closed(_) => 0,
+// Whether there is room for what is given by what the session answered, or it has ended.
+fn says_room(answer: &Answer, given: &Given) -> bool
+    ensures { result ≡ false → (waiting : Waiting) × (answer.now ≡ answers.Load waiting None) × (has_room waiting given.now ≡ false) }
+{
+    match answer {
+        Answer::Load { waiting, ending } => {
+            if ending.is_some() {
+                return true;
+            }
+            fits(*waiting, length_of(given))
+        }
+        Answer::Home(_) => true,
     }
 }
 
-// Whether there is room for so many bytes by what the session answered, or it has ended.
-fn says_room(answer: &Answer, length: usize) -> bool {
-    match answer {
-        Answer::Load { waiting, ending } => ending.is_some() || fits(*waiting, length),
-        Answer::Home(_) => true,
+// How many bytes of stanzas it has.
+fn length_of(given: &Given) -> usize
+    ensures { result ≡ size_of given.now }
+{
+    match given {
+        Given::Stanza(stanza) => stanza.len(),
+        Given::Closed(_) => 0,
     }
 }
 

@@ -4,7 +4,8 @@ ghost use Rattle.std.specs.List.{list_any};
 ghost use Rattle.std.specs.Str.{bytes_eq};
 ghost use Rattle.xmpp_backend.specs.Counts.{counted_on};
 ghost use Rattle.xmpp_backend.specs.Told.{GivesStanza, closed_too, opened_too, passed_too};
-ghost use Rattle.session_pump.specs.Ends.{CallsEnd, PollsEnd};
+ghost use Rattle.session_pump.specs.Ends.{CallsEnd, PollsEnd, ends_of};
+ghost use Rattle.session_pump.specs.Places.{ChangesFirst, IsFirstPlace};
 
 use crate::line::Owing;
 use bosh_types::{CopyIn, HostName, HostNames, Inward, Stanzas, Text, Wire, copy_items};
@@ -47,8 +48,8 @@ impl Stand {
     /// Opens a wire to the host at its back end.
     pub(crate) fn open(&mut self, wire: Wire) -> Passed
         ensures ends { CallsEnd (opened_too wire) result
-            (record { told = told self.old.host.end; failures = self.old.failures; faults = (counts self.old.host.end).faults + sum_by (λ spare. (counts spare).faults) self.old.host.spares.items })
-            (record { told = told self.new.host.end; failures = self.new.failures; faults = (counts self.new.host.end).faults + sum_by (λ spare. (counts spare).faults) self.new.host.spares.items }) }
+            (ends_of (told self.old.host.end) (counts self.old.host.end) self.old.failures (sum_by (λ spare. (counts spare).faults) self.old.host.spares.items))
+            (ends_of (told self.new.host.end) (counts self.new.host.end) self.new.failures (sum_by (λ spare. (counts spare).faults) self.new.host.spares.items)) }
         ensures kept { self.new.kept ≡ self.old.kept }
         ensures name { self.new.host.name ≡ self.old.host.name }
     {
@@ -60,8 +61,8 @@ impl Stand {
     /// Passes an item on a wire.
     pub(crate) fn pass(&mut self, wire: Wire, item: &Inward) -> Passed
         ensures ends { CallsEnd (passed_too wire item.now) result
-            (record { told = told self.old.host.end; failures = self.old.failures; faults = (counts self.old.host.end).faults + sum_by (λ spare. (counts spare).faults) self.old.host.spares.items })
-            (record { told = told self.new.host.end; failures = self.new.failures; faults = (counts self.new.host.end).faults + sum_by (λ spare. (counts spare).faults) self.new.host.spares.items }) }
+            (ends_of (told self.old.host.end) (counts self.old.host.end) self.old.failures (sum_by (λ spare. (counts spare).faults) self.old.host.spares.items))
+            (ends_of (told self.new.host.end) (counts self.new.host.end) self.new.failures (sum_by (λ spare. (counts spare).faults) self.new.host.spares.items)) }
         ensures kept { self.new.kept ≡ self.old.kept }
         ensures name { self.new.host.name ≡ self.old.host.name }
     {
@@ -73,8 +74,8 @@ impl Stand {
     /// Closes a wire.
     pub(crate) fn close(&mut self, wire: Wire) -> Passed
         ensures ends { CallsEnd (closed_too wire) result
-            (record { told = told self.old.host.end; failures = self.old.failures; faults = (counts self.old.host.end).faults + sum_by (λ spare. (counts spare).faults) self.old.host.spares.items })
-            (record { told = told self.new.host.end; failures = self.new.failures; faults = (counts self.new.host.end).faults + sum_by (λ spare. (counts spare).faults) self.new.host.spares.items }) }
+            (ends_of (told self.old.host.end) (counts self.old.host.end) self.old.failures (sum_by (λ spare. (counts spare).faults) self.old.host.spares.items))
+            (ends_of (told self.new.host.end) (counts self.new.host.end) self.new.failures (sum_by (λ spare. (counts spare).faults) self.new.host.spares.items)) }
         ensures kept { self.new.kept ≡ self.old.kept }
         ensures name { self.new.host.name ≡ self.old.host.name }
     {
@@ -86,8 +87,8 @@ impl Stand {
     /// The next thing that the back end gave.
     pub(crate) fn poll(&mut self) -> Polled
         ensures ends { PollsEnd result
-            (record { told = told self.old.host.end; failures = self.old.failures; faults = (counts self.old.host.end).faults + sum_by (λ spare. (counts spare).faults) self.old.host.spares.items })
-            (record { told = told self.new.host.end; failures = self.new.failures; faults = (counts self.new.host.end).faults + sum_by (λ spare. (counts spare).faults) self.new.host.spares.items }) }
+            (ends_of (told self.old.host.end) (counts self.old.host.end) self.old.failures (sum_by (λ spare. (counts spare).faults) self.old.host.spares.items))
+            (ends_of (told self.new.host.end) (counts self.new.host.end) self.new.failures (sum_by (λ spare. (counts spare).faults) self.new.host.spares.items)) }
         ensures stanza { GivesStanza result }
         ensures kept { self.new.kept ≡ self.old.kept }
         ensures name { self.new.host.name ≡ self.old.host.name }
@@ -118,6 +119,21 @@ impl Stand {
         }
     }
 
+    fn count_failure(&mut self)
+        ensures { self.new ≡ record self.old { failures = counted_on self.old.failures } }
+    {
+        self.failures = self.failures.saturating_add(1);
+    }
+
+    // Another back end takes the place of this one, which is handed back.
+    fn replace_end(&mut self, end: Box<dyn Backend + Send>) -> Box<dyn Backend + Send>
+        ensures old { result ≡ self.old.host.end }
+        ensures new { self.new ≡ record self.old { host = record self.old.host { end = end }; failures = counted_on self.old.failures } }
+    {
+        self.count_failure();
+        replace(&mut self.host.end, end)
+    }
+
     // The back end failed: the next spare that wasn't used takes its place, where there is one.
     fn exchange(&mut self)
         ensures failures { self.new.failures ≡ counted_on self.old.failures }
@@ -126,7 +142,7 @@ impl Stand {
         ensures kept { self.new.kept ≡ self.old.kept }
         ensures name { self.new.host.name ≡ self.old.host.name }
     {
-        self.failures = self.failures.saturating_add(1);
+        self.count_failure();
         if let Some(spare) = self.host.spares.get_mut(self.used) {
             swap(&mut self.host.end, spare);
             self.used += 1;
@@ -176,6 +192,9 @@ impl Hosts {
     pub fn replace(&mut self, name: &[u8], end: Box<dyn Backend + Send>) -> Replaced
         ensures unknown { (given : _) → result ≡ Replaced.Unknown given
             → (given ≡ end) × (self.new.stands ≡ self.old.stands) × (list_any (λ stand. bytes_eq stand.host.name name.now) self.old.stands.items ≡ false) }
+        ensures old { (given : _) → result ≡ Replaced.Old given
+            → (was : _) × (given ≡ was.host.end) × ChangesFirst (λ stand. bytes_eq stand.host.name name.now)
+            was (record was { host = record was.host { end = end }; failures = counted_on was.failures }) self.old.stands.items self.new.stands.items }
     {
         let Some(place) = self.place_of(name) else {
             return Replaced::Unknown(end);
@@ -183,13 +202,13 @@ impl Hosts {
         let Some(stand) = self.stands.get_mut(place) else {
             unreachable!();
         };
-        stand.failures = stand.failures.saturating_add(1);
-        Replaced::Old(replace(&mut stand.host.end, end))
+        Replaced::Old(stand.replace_end(end))
     }
 
     /// The place of the host of this name.
     pub(crate) fn place_of(&self, name: &[u8]) -> Option<usize>
         ensures within { IfSome result (λ place. place < length self.now.stands.items) }
+        ensures first { IfSome result (λ place. IsFirstPlace (λ stand. bytes_eq stand.host.name name.now) self.now.stands.items place) }
         ensures none { IfNone result (list_any (λ stand. bytes_eq stand.host.name name.now) self.now.stands.items ≡ false) }
     {
         let mut place = 0;

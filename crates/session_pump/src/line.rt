@@ -80,6 +80,7 @@ impl Line {
     /// Whether the wire was opened on another back end, and its session wasn't told yet that that failed.
     pub(crate) fn is_cut_from(&self, failures: u64) -> bool
         ensures cut { result ≡ true → (on : ℕ) × (self.now.stage ≡ Stage.Opened on) × (on ≢ failures) }
+        ensures uncut { result ≡ false → (on : ℕ) → self.now.stage ≡ Stage.Opened on → on ≡ failures }
     {
         match self.stage {
             Stage::Opened(on) => on != failures,

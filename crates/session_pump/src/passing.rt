@@ -5,6 +5,7 @@ ghost use Rattle.session_journal.specs.declared.call.Call.TheVariants as calls;
 ghost use Rattle.session_journal.specs.declared.call.Reply.TheVariants as replies;
 ghost use Rattle.session_journal.specs.declared.entry.Entry.{Entry};
 ghost use Rattle.session_table.specs.Purses.{OthersStay, Turned, held};
+ghost use Rattle.session_pump.specs.Ends.{ends_of};
 ghost use Rattle.session_pump.specs.Sides.{Called, Moves, PassesAll, taken_as};
 
 use crate::hosts::Stand;
@@ -27,8 +28,8 @@ pub(crate) fn pass_all<R: Wait>(
 ) -> Result<(), AllocError>
     requires { IsSome (held purse.old.sessions number) }
     ensures passes { (moment : Option ℕ) → Turned number purse.old.sessions purse.new.sessions (λ old new. PassesAll moment
-        (record { known = old; line = line.old; ends = record { told = told stand.old.host.end; failures = stand.old.failures; faults = (counts stand.old.host.end).faults + sum_by (λ spare. (counts spare).faults) stand.old.host.spares.items } })
-        (record { known = new; line = line.new; ends = record { told = told stand.new.host.end; failures = stand.new.failures; faults = (counts stand.new.host.end).faults + sum_by (λ spare. (counts spare).faults) stand.new.host.spares.items } })
+        (record { known = old; line = line.old; ends = ends_of (told stand.old.host.end) (counts stand.old.host.end) stand.old.failures (sum_by (λ spare. (counts spare).faults) stand.old.host.spares.items) })
+        (record { known = new; line = line.new; ends = ends_of (told stand.new.host.end) (counts stand.new.host.end) stand.new.failures (sum_by (λ spare. (counts spare).faults) stand.new.host.spares.items) })
         result) }
     ensures others { OthersStay number purse.old.sessions purse.new.sessions }
     ensures directory { purse.new.directory ≡ purse.old.directory }
@@ -74,8 +75,8 @@ fn next_item<R: Wait>(rt: &R, purse: &mut Purse, number: u64) -> Result<Option<I
 // Passes what is kept on, where the wire is open, and lets it go where it isn't.
 fn hand_on(line: &mut Line, stand: &mut Stand) -> Result<(), AllocError>
     ensures moves { (moment : Option ℕ) → (known : Known Entry) → Moves moment
-        (record { known = known; line = line.old; ends = record { told = told stand.old.host.end; failures = stand.old.failures; faults = (counts stand.old.host.end).faults + sum_by (λ spare. (counts spare).faults) stand.old.host.spares.items } })
-        (record { known = known; line = line.new; ends = record { told = told stand.new.host.end; failures = stand.new.failures; faults = (counts stand.new.host.end).faults + sum_by (λ spare. (counts spare).faults) stand.new.host.spares.items } }) }
+        (record { known = known; line = line.old; ends = ends_of (told stand.old.host.end) (counts stand.old.host.end) stand.old.failures (sum_by (λ spare. (counts spare).faults) stand.old.host.spares.items) })
+        (record { known = known; line = line.new; ends = ends_of (told stand.new.host.end) (counts stand.new.host.end) stand.new.failures (sum_by (λ spare. (counts spare).faults) stand.new.host.spares.items) }) }
     ensures none { OnOk result (line.new.kept ≡ None) }
 {
     let Some(item) = &line.kept else {

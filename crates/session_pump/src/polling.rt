@@ -1,9 +1,9 @@
 // What the back ends give is polled and given to the sessions.
-ghost use Rattle.std.specs.Prelude.{◌≡◌, ◌+◌, ◌/◌, ℕ, IsTrue, None, Ok, Option, false, sum_by};
+ghost use Rattle.std.specs.Prelude.{◌≡◌, ◌+◌, ◌/◌, ℕ, IsTrue, None, Ok, Option, false, sum_by, true};
 ghost use Rattle.bosh_types.specs.Limits.{most_streams};
 ghost use Rattle.session_table.specs.Purses.{Sessions};
-ghost use Rattle.session_pump.specs.Ends.{Ends};
-ghost use Rattle.session_pump.specs.Giving.{GiveMoves};
+ghost use Rattle.session_pump.specs.Ends.{Ends, ends_of};
+ghost use Rattle.session_pump.specs.Giving.{GiveMoves, GivesOnce, HadNoRoom, PollGave, PollsHost, PollsOut, most_polls};
 ghost use Rattle.session_pump.specs.Proper.{is_proper};
 
 use crate::giving::{Giving, give, may_take};
@@ -21,8 +21,8 @@ use xmpp_backend::{Given, Polled};
 /// How often a host is polled in one turn at most.
 const MOST_POLLS: u32 = 4096;
 
-/// Gives the sessions of a host what its back end gave for them, until that has nothing or fails, or a session has no room. The
-/// only error is want of memory, and then the next turn goes on from there.
+/// Gives the sessions of a host what its back end gave for them, until that has nothing or fails, or a session has no room, or
+/// that gave something 4096 times. The only error is want of memory, and then the next turn goes on from there.
 pub fn poll_host<R: Wait, C: Clock, B: Bell>(
     rt: &R,
     purse: &mut Purse,
@@ -31,8 +31,12 @@ pub fn poll_host<R: Wait, C: Clock, B: Bell>(
     bell: &mut B,
 ) -> Result<(), AllocError>
     ensures gives { GiveMoves (C.moment clock.now)
-        (record { kept = stand.old.kept; ends = record { told = told stand.old.host.end; failures = stand.old.failures; faults = (counts stand.old.host.end).faults + sum_by (λ spare. (counts spare).faults) stand.old.host.spares.items }; sessions = purse.old.sessions })
-        (record { kept = stand.new.kept; ends = record { told = told stand.new.host.end; failures = stand.new.failures; faults = (counts stand.new.host.end).faults + sum_by (λ spare. (counts spare).faults) stand.new.host.spares.items }; sessions = purse.new.sessions }) }
+        (record { kept = stand.old.kept; ends = ends_of (told stand.old.host.end) (counts stand.old.host.end) stand.old.failures (sum_by (λ spare. (counts spare).faults) stand.old.host.spares.items); sessions = purse.old.sessions })
+        (record { kept = stand.new.kept; ends = ends_of (told stand.new.host.end) (counts stand.new.host.end) stand.new.failures (sum_by (λ spare. (counts spare).faults) stand.new.host.spares.items); sessions = purse.new.sessions }) }
+    ensures polls { PollsHost (C.moment clock.now)
+        (record { kept = stand.old.kept; ends = ends_of (told stand.old.host.end) (counts stand.old.host.end) stand.old.failures (sum_by (λ spare. (counts spare).faults) stand.old.host.spares.items); sessions = purse.old.sessions })
+        (record { kept = stand.new.kept; ends = ends_of (told stand.new.host.end) (counts stand.new.host.end) stand.new.failures (sum_by (λ spare. (counts spare).faults) stand.new.host.spares.items); sessions = purse.new.sessions })
+        result }
     ensures name { stand.new.host.name ≡ stand.old.host.name }
     ensures directory { purse.new.directory ≡ purse.old.directory }
     ensures silences { B.silences bell.new ≡ B.silences bell.old }
@@ -55,8 +59,14 @@ fn give_and_poll<R: Wait, C: Clock, B: Bell>(
     bell: &mut B,
 ) -> Result<bool, AllocError>
     ensures gives { GiveMoves (C.moment clock.now)
-        (record { kept = stand.old.kept; ends = record { told = told stand.old.host.end; failures = stand.old.failures; faults = (counts stand.old.host.end).faults + sum_by (λ spare. (counts spare).faults) stand.old.host.spares.items }; sessions = purse.old.sessions })
-        (record { kept = stand.new.kept; ends = record { told = told stand.new.host.end; failures = stand.new.failures; faults = (counts stand.new.host.end).faults + sum_by (λ spare. (counts spare).faults) stand.new.host.spares.items }; sessions = purse.new.sessions }) }
+        (record { kept = stand.old.kept; ends = ends_of (told stand.old.host.end) (counts stand.old.host.end) stand.old.failures (sum_by (λ spare. (counts spare).faults) stand.old.host.spares.items); sessions = purse.old.sessions })
+        (record { kept = stand.new.kept; ends = ends_of (told stand.new.host.end) (counts stand.new.host.end) stand.new.failures (sum_by (λ spare. (counts spare).faults) stand.new.host.spares.items); sessions = purse.new.sessions }) }
+    ensures over { result ≡ Ok false → PollsOut (C.moment clock.now)
+        (record { kept = stand.old.kept; ends = ends_of (told stand.old.host.end) (counts stand.old.host.end) stand.old.failures (sum_by (λ spare. (counts spare).faults) stand.old.host.spares.items); sessions = purse.old.sessions })
+        (record { kept = stand.new.kept; ends = ends_of (told stand.new.host.end) (counts stand.new.host.end) stand.new.failures (sum_by (λ spare. (counts spare).faults) stand.new.host.spares.items); sessions = purse.new.sessions }) }
+    ensures on { result ≡ Ok true → GivesOnce (C.moment clock.now)
+        (record { kept = stand.old.kept; ends = ends_of (told stand.old.host.end) (counts stand.old.host.end) stand.old.failures (sum_by (λ spare. (counts spare).faults) stand.old.host.spares.items); sessions = purse.old.sessions })
+        (record { kept = stand.new.kept; ends = ends_of (told stand.new.host.end) (counts stand.new.host.end) stand.new.failures (sum_by (λ spare. (counts spare).faults) stand.new.host.spares.items); sessions = purse.new.sessions }) }
     ensures name { stand.new.host.name ≡ stand.old.host.name }
     ensures directory { purse.new.directory ≡ purse.old.directory }
     ensures silences { B.silences bell.new ≡ B.silences bell.old }
@@ -69,7 +79,8 @@ fn give_and_poll<R: Wait, C: Clock, B: Bell>(
 }
 
 fn is_full(giving: Giving) -> bool
-    ensures { result ≡ false → giving ≡ Giving.Done }
+    ensures done { result ≡ false → giving ≡ Giving.Done }
+    ensures full { result ≡ true → giving ≡ Giving.Full }
 {
     match giving {
         Giving::Done => false,
@@ -89,6 +100,9 @@ fn give_kept<R: Wait, C: Clock, B: Bell>(
         (record { kept = kept.old; ends = ends; sessions = purse.old.sessions })
         (record { kept = kept.new; ends = ends; sessions = purse.new.sessions }) }
     ensures done { result ≡ Ok Giving.Done → kept.new ≡ None }
+    ensures full { result ≡ Ok Giving.Full → (ends : Ends) → HadNoRoom (C.moment clock.now)
+        (record { kept = kept.old; ends = ends; sessions = purse.old.sessions })
+        (record { kept = kept.new; ends = ends; sessions = purse.new.sessions }) }
     ensures directory { purse.new.directory ≡ purse.old.directory }
     ensures silences { B.silences bell.new ≡ B.silences bell.old }
 {
@@ -119,8 +133,14 @@ fn give_kept<R: Wait, C: Clock, B: Bell>(
 fn poll(stand: &mut Stand) -> Result<bool, AllocError>
     requires { stand.old.kept ≡ None }
     ensures polls { (moment : Option ℕ) → (sessions : Sessions) → GiveMoves moment
-        (record { kept = stand.old.kept; ends = record { told = told stand.old.host.end; failures = stand.old.failures; faults = (counts stand.old.host.end).faults + sum_by (λ spare. (counts spare).faults) stand.old.host.spares.items }; sessions = sessions })
-        (record { kept = stand.new.kept; ends = record { told = told stand.new.host.end; failures = stand.new.failures; faults = (counts stand.new.host.end).faults + sum_by (λ spare. (counts spare).faults) stand.new.host.spares.items }; sessions = sessions }) }
+        (record { kept = stand.old.kept; ends = ends_of (told stand.old.host.end) (counts stand.old.host.end) stand.old.failures (sum_by (λ spare. (counts spare).faults) stand.old.host.spares.items); sessions = sessions })
+        (record { kept = stand.new.kept; ends = ends_of (told stand.new.host.end) (counts stand.new.host.end) stand.new.failures (sum_by (λ spare. (counts spare).faults) stand.new.host.spares.items); sessions = sessions }) }
+    ensures over { result ≡ Ok false → (moment : Option ℕ) → (sessions : Sessions) → PollsOut moment
+        (record { kept = stand.old.kept; ends = ends_of (told stand.old.host.end) (counts stand.old.host.end) stand.old.failures (sum_by (λ spare. (counts spare).faults) stand.old.host.spares.items); sessions = sessions })
+        (record { kept = stand.new.kept; ends = ends_of (told stand.new.host.end) (counts stand.new.host.end) stand.new.failures (sum_by (λ spare. (counts spare).faults) stand.new.host.spares.items); sessions = sessions }) }
+    ensures gave { result ≡ Ok true → (sessions : Sessions) → PollGave
+        (record { kept = stand.old.kept; ends = ends_of (told stand.old.host.end) (counts stand.old.host.end) stand.old.failures (sum_by (λ spare. (counts spare).faults) stand.old.host.spares.items); sessions = sessions })
+        (record { kept = stand.new.kept; ends = ends_of (told stand.new.host.end) (counts stand.new.host.end) stand.new.failures (sum_by (λ spare. (counts spare).faults) stand.new.host.spares.items); sessions = sessions }) }
     ensures name { stand.new.host.name ≡ stand.old.host.name }
 {
     match stand.poll() {

@@ -3,6 +3,7 @@ ghost use Rattle.std.specs.Prelude.{◌≡◌, ◌≢◌, ◌+◌, ℕ, IsSome, 
 ghost use Rattle.parked_gate.specs.Passes.{Known};
 ghost use Rattle.session_journal.specs.declared.entry.Entry.{Entry};
 ghost use Rattle.session_table.specs.Purses.{OthersStay, Turned, held};
+ghost use Rattle.session_pump.specs.Ends.{ends_of};
 ghost use Rattle.session_pump.specs.Sides.{ClosesStream, Moves, Serves, Ticks};
 
 use crate::hosts::Stand;
@@ -31,8 +32,8 @@ pub fn serve_line<R: Wait, C: Clock, B: Bell>(
 ) -> Result<(), AllocError>
     requires { IsSome (held purse.old.sessions number) }
     ensures serves { Turned number purse.old.sessions purse.new.sessions (λ old new. Serves (C.moment clock.now)
-        (record { known = old; line = line.old; ends = record { told = told stand.old.host.end; failures = stand.old.failures; faults = (counts stand.old.host.end).faults + sum_by (λ spare. (counts spare).faults) stand.old.host.spares.items } })
-        (record { known = new; line = line.new; ends = record { told = told stand.new.host.end; failures = stand.new.failures; faults = (counts stand.new.host.end).faults + sum_by (λ spare. (counts spare).faults) stand.new.host.spares.items } })
+        (record { known = old; line = line.old; ends = ends_of (told stand.old.host.end) (counts stand.old.host.end) stand.old.failures (sum_by (λ spare. (counts spare).faults) stand.old.host.spares.items) })
+        (record { known = new; line = line.new; ends = ends_of (told stand.new.host.end) (counts stand.new.host.end) stand.new.failures (sum_by (λ spare. (counts spare).faults) stand.new.host.spares.items) })
         result) }
     ensures others { OthersStay number purse.old.sessions purse.new.sessions }
     ensures directory { purse.new.directory ≡ purse.old.directory }
@@ -47,8 +48,8 @@ pub fn serve_line<R: Wait, C: Clock, B: Bell>(
 // Opens the wire of a session, where that wasn't done yet.
 fn open_wire(line: &mut Line, stand: &mut Stand) -> Result<(), AllocError>
     ensures moves { (moment : Option ℕ) → (known : Known Entry) → Moves moment
-        (record { known = known; line = line.old; ends = record { told = told stand.old.host.end; failures = stand.old.failures; faults = (counts stand.old.host.end).faults + sum_by (λ spare. (counts spare).faults) stand.old.host.spares.items } })
-        (record { known = known; line = line.new; ends = record { told = told stand.new.host.end; failures = stand.new.failures; faults = (counts stand.new.host.end).faults + sum_by (λ spare. (counts spare).faults) stand.new.host.spares.items } }) }
+        (record { known = known; line = line.old; ends = ends_of (told stand.old.host.end) (counts stand.old.host.end) stand.old.failures (sum_by (λ spare. (counts spare).faults) stand.old.host.spares.items) })
+        (record { known = known; line = line.new; ends = ends_of (told stand.new.host.end) (counts stand.new.host.end) stand.new.failures (sum_by (λ spare. (counts spare).faults) stand.new.host.spares.items) }) }
     ensures opened { OnOk result (line.new.stage ≢ Stage.Unopened) }
 {
     if !line.is_unopened() {
@@ -80,8 +81,8 @@ pub(crate) fn tell_cut<R: Wait, C: Clock, B: Bell>(
 ) -> Result<(), AllocError>
     requires { IsSome (held purse.old.sessions number) }
     ensures moves { Turned number purse.old.sessions purse.new.sessions (λ old new. Moves (C.moment clock.now)
-        (record { known = old; line = line.old; ends = record { told = told stand.now.host.end; failures = stand.now.failures; faults = (counts stand.now.host.end).faults + sum_by (λ spare. (counts spare).faults) stand.now.host.spares.items } })
-        (record { known = new; line = line.new; ends = record { told = told stand.now.host.end; failures = stand.now.failures; faults = (counts stand.now.host.end).faults + sum_by (λ spare. (counts spare).faults) stand.now.host.spares.items } })) }
+        (record { known = old; line = line.old; ends = ends_of (told stand.now.host.end) (counts stand.now.host.end) stand.now.failures (sum_by (λ spare. (counts spare).faults) stand.now.host.spares.items) })
+        (record { known = new; line = line.new; ends = ends_of (told stand.now.host.end) (counts stand.now.host.end) stand.now.failures (sum_by (λ spare. (counts spare).faults) stand.now.host.spares.items) })) }
     ensures opened { line.old.stage ≢ Stage.Unopened → line.new.stage ≢ Stage.Unopened }
     ensures others { OthersStay number purse.old.sessions purse.new.sessions }
     ensures directory { purse.new.directory ≡ purse.old.directory }

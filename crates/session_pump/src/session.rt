@@ -5,7 +5,7 @@ ghost use Rattle.session_table.specs.Purses.{OthersStay, held};
 
 use crate::hosts::Stand;
 use crate::line::{Line, Stage};
-use crate::passing::drop_all;
+use crate::passing::{drop_all, pass_all};
 use crate::pump::Pump;
 use crate::serving::{serve_line, tell_cut, tick};
 use bosh_ports::Bell;
@@ -42,6 +42,7 @@ impl Pump {
         if !has_ended(rt, &mut self.purse, number)? {
             return Ok(());
         }
+        self.pass_rest(rt, number)?;
         self.remove(rt, directory, number, &session.sid)
     }
 
@@ -94,6 +95,23 @@ impl Pump {
             return serve_alone(rt, &mut self.purse, number, clock, bell);
         };
         serve_line(rt, &mut self.purse, number, line, stand, clock, bell)
+    }
+
+    // Passes on what came before a session ended, and after its items were passed on.
+    fn pass_rest<R: Wait>(&mut self, rt: &R, number: u64) -> Result<(), AllocError>
+        requires { IsSome (held self.old.purse.sessions number) }
+        ensures { self.new.purse.directory ≡ self.old.purse.directory }
+    {
+        let Some(line) = self.lines.get_mut(&number) else {
+            return drop_all(rt, &mut self.purse, number);
+        };
+        let Some(place) = line.host else {
+            return drop_all(rt, &mut self.purse, number);
+        };
+        let Some(stand) = self.hosts.stands.get_mut(place) else {
+            return drop_all(rt, &mut self.purse, number);
+        };
+        pass_all(rt, &mut self.purse, number, line, stand)
     }
 
     /// Tells a session that its back end failed, where it did. The only error is want of memory.

@@ -16,12 +16,12 @@ use parked_gate::Gate;
 use server_ports::StillClock;
 use session_attrs::{Kind, Request, read_request};
 use session_core::Arrived;
-use session_journal::{Call, Found, Reply};
+use session_journal::{Answer, Call, Found, Question, Reply};
 use session_table::{Directory, NewSession, Opening, Purse};
 use std::alloc::{AllocError, Global};
 use std::sync::Wait;
 use std::test::Fail;
-use xmpp_backend::{Backend, BackendCall, Echo, Failing, Scripted};
+use xmpp_backend::{Backend, BackendCall, Echo, Failing, Scripted, are_answers};
 
 const CREATION: &[u8] =
     b"<body rid='1000' to='example.org' wait='60' hold='1' ver='1.6' xmlns='http://jabber.org/protocol/httpbind'/>";
@@ -30,6 +30,11 @@ const STANZA: &[u8] =
     b"<body rid='1001' sid='s1' xmlns='http://jabber.org/protocol/httpbind'><message/></body>";
 
 const EMPTY: &[u8] = b"<body rid='1001' sid='s1' xmlns='http://jabber.org/protocol/httpbind'/>";
+
+const ITEM: &[u8] =
+    b"<body rid='1001' sid='s1' xmlns='http://jabber.org/protocol/httpbind'><a/></body>";
+
+const NEXT: &[u8] = b"<body rid='1002' sid='s1' xmlns='http://jabber.org/protocol/httpbind'/>";
 
 const LAST: &[u8] =
     b"<body rid='1001' sid='s1' type='terminate' xmlns='http://jabber.org/protocol/httpbind'/>";
@@ -136,6 +141,17 @@ fn arrival(alloc: Global, body: &[u8], at: u64) -> Result<Call, &'static str>
     })
 }
 
+/// How many payloads the body has that answers a request at once.
+fn payloads_in(alloc: Global, reply: &Reply) -> Option<usize> {
+    let Reply::Arrive(Arrived::Answer(body)) = reply else {
+        return None;
+    };
+    match cut(alloc, body.as_slice()) {
+        Ok(parts) => Some(parts.children.as_slice().len()),
+        Err(_) => None,
+    }
+}
+
 /// The ticket of a request that waits.
 fn ticket_of(reply: &Reply) -> Option<Ticket> {
     let Reply::Arrive(arrived) = reply else {
@@ -207,19 +223,14 @@ fn open<R: Wait>(rt: &R, scene: &mut Scene) -> Result<(), &'static str> {
     }
 }
 
-/// The first session is called through the worker. The ticket, where the request waits.
-fn arrive<R: Wait>(
-    rt: &R,
-    scene: &mut Scene,
-    body: &[u8],
-    at: u64,
-) -> Result<Option<Ticket>, &'static str> {
+/// What the first session replies to a request that comes through the worker.
+fn arrive<R: Wait>(rt: &R, scene: &mut Scene, body: &[u8], at: u64) -> Result<Reply, &'static str> {
     let call = arrival(scene.alloc, body, at)?;
     if !holds(&scene.worker, 1) {
         return Err("no session");
     }
     match scene.worker.call(rt, 1, call) {
-        Ok(reply) => Ok(ticket_of(&reply)),
+        Ok(reply) => Ok(reply),
         Err(AllocError) => Err("no memory"),
     }
 }
@@ -251,6 +262,46 @@ fn collected<R: Wait>(rt: &R, scene: &mut Scene, ticket: Ticket) -> Option<Share
     }
 }
 
+/// How many items wait in the first session to be given to the client.
+fn waiting<R: Wait>(rt: &R, scene: &mut Scene) -> Option<u32> {
+    if !holds(&scene.worker, 1) {
+        return None;
+    }
+    match scene.worker.look(rt, 1, &Question::Load) {
+        Ok(Answer::Load { waiting, .. }) => Some(waiting.items),
+        _ => None,
+    }
+}
+
+/// Whether the pump keeps something that the first host's back end gave.
+fn keeps_something(scene: &Scene) -> bool {
+    match scene.pump.hosts.stands.first() {
+        Some(stand) => stand.kept.is_some(),
+        None => false,
+    }
+}
+
+/// A back end that gives so many times the same stanza for the first item that it is passed.
+fn giving(alloc: Global, count: usize) -> Result<Scripted, &'static str> {
+    let Ok(answers) = one_answer(alloc, count) else {
+        return Err("no memory");
+    };
+    let Ok(true) = are_answers(alloc, answers.as_slice()) else {
+        return Err("no stanzas");
+    };
+    Ok(Scripted::new(alloc, answers, Vec::new(alloc)))
+}
+
+fn one_answer(alloc: Global, count: usize) -> Result<Vec<Stanzas>, AllocError> {
+    let mut stanzas = Vec::new(alloc);
+    for _ in 0..count {
+        stanzas.push(text(alloc, b"<x/>")?)?;
+    }
+    let mut answers = Vec::new(alloc);
+    answers.push(Stanzas::from_vec(stanzas))?;
+    Ok(answers)
+}
+
 /// Whether the request of this body waits until a turn at a moment, and is answered then with these last bytes.
 fn is_answered_by_turn<R: Wait>(
     rt: &R,
@@ -260,7 +311,7 @@ fn is_answered_by_turn<R: Wait>(
     end: &[u8],
 ) -> Result<bool, &'static str> {
     open(rt, scene)?;
-    let Some(ticket) = arrive(rt, scene, body, 0)? else {
+    let Some(ticket) = ticket_of(&arrive(rt, scene, body, 0)?) else {
         return Ok(false);
     };
     if collected(rt, scene, ticket).is_some() {
@@ -306,7 +357,7 @@ fn a_session_that_has_ended_is_removed(rt: HostRuntime) -> Result<(), Fail> {
     let mut scene = set_up(&rt, alloc, host)?;
     open(&rt, &mut scene)?;
     assert_eq!(rt; turn(&rt, &mut scene, 0)?, 1);
-    assert!(rt; arrive(&rt, &mut scene, LAST, 0)?.is_none());
+    assert!(rt; ticket_of(&arrive(&rt, &mut scene, LAST, 0)?).is_none());
     assert_eq!(rt; turn(&rt, &mut scene, 0)?, 0);
     Ok(())
 }
@@ -326,5 +377,23 @@ fn a_session_is_told_that_its_back_end_failed(rt: HostRuntime) -> Result<(), Fai
     let mut scene = set_up(&rt, alloc, host)?;
     let end = b" type='terminate' condition='remote-connection-failed'/>";
     assert!(rt; is_answered_by_turn(&rt, &mut scene, STANZA, 0, end)?);
+    Ok(())
+}
+
+#[test]
+fn what_a_session_has_no_room_for_is_kept(rt: HostRuntime) -> Result<(), Fail> {
+    let alloc = rt.alloc();
+    let end = giving(alloc, 1026)?;
+    let host = host(alloc, Box::new(alloc, end)?, Vec::new(alloc))?;
+    let mut scene = set_up(&rt, alloc, host)?;
+    let end = b" xmlns:stream='http://etherx.jabber.org/streams'><x/></body>";
+    assert!(rt; is_answered_by_turn(&rt, &mut scene, ITEM, 0, end)?);
+    assert_eq!(rt; waiting(&rt, &mut scene), Some(1024));
+    assert!(rt; keeps_something(&scene));
+    let reply = arrive(&rt, &mut scene, NEXT, 0)?;
+    assert_eq!(rt; payloads_in(alloc, &reply), Some(1024));
+    assert_eq!(rt; turn(&rt, &mut scene, 0)?, 1);
+    assert_eq!(rt; waiting(&rt, &mut scene), Some(1));
+    assert!(rt; !keeps_something(&scene));
     Ok(())
 }

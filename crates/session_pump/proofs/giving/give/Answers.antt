@@ -1,4 +1,4 @@
-use Rattle.std.proofs.Common.{Ok, Err, subst, sym}
+use Rattle.std.proofs.Common.{Ok, subst, sym}
 use Rattle.session_table.specs.Purses.{Turned}
 use Rattle.session_pump.specs.Giving.{Gives}
 use Rattle.session_pump.specs.declared.giving.Giving.TheVariants as givings

@@ -1,5 +1,5 @@
 use Rattle.session_pump.specs.Giving.{IsAsked, looked, unasked}
-use Rattle.session_pump.proofs.GivingLemmas.{looks_any}
+use Rattle.session_pump.proofs.GivingLemmas.{lacks_so, looks_any, ok_same}
 use Rattle.session_pump.proofs.TurnedLemmas.{turned_as, turned_none}
 use Rattle.session_pump.proofs.giving.may_take.Goals as goal
 
@@ -11,3 +11,6 @@ returns-clause-asked g c = turned_as _ _ _ _ IsAsked (λ k m looks. looked (look
 
 pub returns-in_err-answer-clause-asked : goal.returns-in_err-answer-clause-asked
 returns-in_err-answer-clause-asked g c = turned_as _ _ _ _ IsAsked (λ k m looks. looked (looks_any looks)) c.in_err-answer.ensures.looked
+
+pub returns-clause-full : goal.returns-clause-full
+returns-clause-full g c is = lacks_so _ _ _ _ _ (c.says_room.ensures (ok_same _ _ is)) c.in_ok-answer.ensures.looked

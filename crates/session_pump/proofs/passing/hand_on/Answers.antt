@@ -1,4 +1,4 @@
-use Rattle.std.proofs.Common.{rules, refl}
+use Rattle.std.proofs.Common.{rules}
 use Rattle.session_pump.proofs.MovesLemmas.{did_nothing, failed_at, let_go, passed_on}
 use Rattle.session_pump.specs.Sides.{none}
 use Rattle.session_pump.proofs.passing.hand_on.Goals as goal

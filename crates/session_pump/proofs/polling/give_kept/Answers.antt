@@ -1,6 +1,6 @@
 use Rattle.std.proofs.Common.{refl, rules}
 use Rattle.session_pump.specs.Giving.{none}
-use Rattle.session_pump.proofs.GivingLemmas.{is_asked, is_full_for, is_gone, is_taken, is_wanted}
+use Rattle.session_pump.proofs.GivingLemmas.{has_no_room, is_asked, is_full_for, is_gone, is_taken, is_wanted, was_refused}
 use Rattle.session_pump.proofs.polling.give_kept.Goals as goal
 
 pub returns-in_default-clause-gives : goal.returns-in_default-clause-gives
@@ -29,3 +29,11 @@ pub returns-in-Err-clause-gives : goal.returns-in-Err-clause-gives
 returns-in-Err-clause-gives g c ends =
     is_wanted _ c.in-Some.owing _ _ _ _ c.in-Some.is c.in_ok-may_take.ensures.asked c.in_ok-may_take.ensures.others
     c.in-Err.ensures.gives c.in-Err.ensures.others
+
+pub returns-then-not-branch-clause-full : goal.returns-then-not-branch-clause-full
+returns-then-not-branch-clause-full g c is ends = has_no_room _ c.in-Some.owing _ _ _ c.in-Some.is (c.in_ok-may_take.ensures.full (search rules)) c.in_ok-may_take.ensures.others
+
+pub returns-in-Ok-Full-clause-full : goal.returns-in-Ok-Full-clause-full
+returns-in-Ok-Full-clause-full g c is ends =
+    was_refused _ c.in-Some.owing _ _ _ _ _ _ c.in-Some.is c.in-Ok-Full.field-0-is refl refl c.in_ok-may_take.ensures.asked c.in_ok-may_take.ensures.others
+    c.in-Ok-Full.ensures.gives c.in-Ok-Full.ensures.others

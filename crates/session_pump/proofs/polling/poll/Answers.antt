@@ -1,18 +1,32 @@
-use Rattle.session_pump.proofs.GivingLemmas.{has_failed, is_idle, is_polled}
+use Rattle.session_pump.proofs.GivingLemmas.{failed_so, failure_moves, has_polled, idle_moves, is_idle, poll_moves, polls_not}
+use Rattle.std.proofs.Common.{refl}
 use Rattle.session_pump.proofs.polling.poll.Goals as goal
 
 pub returns-in-Out-clause-polls : goal.returns-in-Out-clause-polls
-returns-in-Out-clause-polls g c moment sessions = is_polled _ _ c.in-Out.wire _ _ _ _ c.requires c.owing.ensures.number c.owing.ensures.given c.in-Out.ensures.ends
+returns-in-Out-clause-polls g c moment sessions = poll_moves (has_polled _ _ _ c.in-Out.wire _ _ _ sessions c.requires refl c.owing.ensures.number c.owing.ensures.given c.in-Out.ensures.ends)
+
+pub returns-in-Out-clause-gave : goal.returns-in-Out-clause-gave
+returns-in-Out-clause-gave g c is sessions = has_polled _ _ _ c.in-Out.wire _ _ _ sessions c.requires refl c.owing.ensures.number c.owing.ensures.given c.in-Out.ensures.ends
 
 pub returns-in-Closed-clause-polls : goal.returns-in-Closed-clause-polls
 returns-in-Closed-clause-polls g c moment sessions =
-    is_polled _ _ c.in-Closed.wire _ _ _ _ c.requires c.owing-in-Closed.ensures.number c.owing-in-Closed.ensures.given c.in-Closed.ensures.ends
+    poll_moves (has_polled _ _ _ c.in-Closed.wire _ _ _ sessions c.requires refl c.owing-in-Closed.ensures.number c.owing-in-Closed.ensures.given c.in-Closed.ensures.ends)
+
+pub returns-in-Closed-clause-gave : goal.returns-in-Closed-clause-gave
+returns-in-Closed-clause-gave g c is sessions =
+    has_polled _ _ _ c.in-Closed.wire _ _ _ sessions c.requires refl c.owing-in-Closed.ensures.number c.owing-in-Closed.ensures.given c.in-Closed.ensures.ends
 
 pub returns-in-Nothing-clause-polls : goal.returns-in-Nothing-clause-polls
-returns-in-Nothing-clause-polls g c moment sessions = is_idle _ _ _ _ _ c.in-Nothing.ensures.kept c.in-Nothing.ensures.ends
+returns-in-Nothing-clause-polls g c moment sessions = idle_moves moment _ _ _ _ sessions c.requires c.in-Nothing.ensures.kept c.in-Nothing.ensures.ends
+
+pub returns-in-Nothing-clause-over : goal.returns-in-Nothing-clause-over
+returns-in-Nothing-clause-over g c is moment sessions = is_idle moment _ _ _ _ sessions c.requires c.in-Nothing.ensures.kept c.in-Nothing.ensures.ends
 
 pub returns-in-Failed-clause-polls : goal.returns-in-Failed-clause-polls
-returns-in-Failed-clause-polls g c moment sessions = has_failed _ _ _ _ _ c.in-Failed.ensures.kept c.in-Failed.ensures.ends
+returns-in-Failed-clause-polls g c moment sessions = failure_moves moment _ _ _ _ sessions c.requires c.in-Failed.ensures.kept c.in-Failed.ensures.ends
+
+pub returns-in-Failed-clause-over : goal.returns-in-Failed-clause-over
+returns-in-Failed-clause-over g c is moment sessions = failed_so moment _ _ _ _ sessions c.requires c.in-Failed.ensures.kept c.in-Failed.ensures.ends
 
 pub returns-in-NoMemory-clause-polls : goal.returns-in-NoMemory-clause-polls
-returns-in-NoMemory-clause-polls g c moment sessions = is_idle _ _ _ _ _ c.in-NoMemory.ensures.kept c.in-NoMemory.ensures.ends
+returns-in-NoMemory-clause-polls g c moment sessions = polls_not _ _ _ _ _ c.in-NoMemory.ensures.kept c.in-NoMemory.ensures.ends

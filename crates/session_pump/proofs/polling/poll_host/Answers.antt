@@ -1,27 +1,39 @@
-use Rattle.std.proofs.Common.{◌∙◌, refl}
-use Rattle.session_pump.specs.Giving.{none}
-use Rattle.session_pump.proofs.GivingLemmas.{gives_then}
+use Rattle.std.proofs.Common.{◌∙◌, refl, rules}
+use Rattle.session_pump.specs.Giving.{gave_much, never}
+use Rattle.session_pump.proofs.GivingLemmas.{gave_again, gave_so_often, gives_then, over_after, polls_err, times_moves}
 use Rattle.session_pump.proofs.polling.poll_host.Goals as goal
 
 pub loop-init : goal.loop-init
-loop-init g c = record { name = refl; directory = refl; silences = refl; gives = none }
+loop-init g c = record { name = refl; directory = refl; silences = refl; times = never }
 
 pub returns-in_err-give_and_poll-clause-gives : goal.returns-in_err-give_and_poll-clause-gives
-returns-in_err-give_and_poll-clause-gives g c = gives_then c.loop.invariant.gives c.give_and_poll.ensures.gives
+returns-in_err-give_and_poll-clause-gives g c = gives_then (times_moves c.loop.invariant.times) c.give_and_poll.ensures.gives
+
+pub returns-in_err-give_and_poll-clause-polls : goal.returns-in_err-give_and_poll-clause-polls
+returns-in_err-give_and_poll-clause-polls g c = polls_err _ c.from_residual.ensures.0 (gives_then (times_moves c.loop.invariant.times) c.give_and_poll.ensures.gives)
 
 pub returns-then-not-branch-clause-gives : goal.returns-then-not-branch-clause-gives
-returns-then-not-branch-clause-gives g c = gives_then c.loop.invariant.gives c.give_and_poll.ensures.gives
+returns-then-not-branch-clause-gives g c = gives_then (times_moves c.loop.invariant.times) c.give_and_poll.ensures.gives
+
+pub returns-then-not-branch-clause-polls : goal.returns-then-not-branch-clause-polls
+returns-then-not-branch-clause-polls g c = over_after (times_moves c.loop.invariant.times) (c.give_and_poll.ensures.over (search rules))
 
 pub loop-preserved : goal.loop-preserved
 loop-preserved g c = record {
   name = c.give_and_poll.ensures.name ∙ c.loop.invariant.name;
   directory = c.give_and_poll.ensures.directory ∙ c.loop.invariant.directory;
   silences = c.give_and_poll.ensures.silences ∙ c.loop.invariant.silences;
-  gives = gives_then c.loop.invariant.gives c.give_and_poll.ensures.gives;
+  times = gave_again c.loop.invariant.times (c.give_and_poll.ensures.on (search rules));
 }
 
 pub returns-in_err-give_kept-clause-gives : goal.returns-in_err-give_kept-clause-gives
-returns-in_err-give_kept-clause-gives g c = gives_then c.loop.invariant.gives (c.give_kept.ensures.gives _)
+returns-in_err-give_kept-clause-gives g c = gives_then (times_moves c.loop.invariant.times) (c.give_kept.ensures.gives _)
+
+pub returns-in_err-give_kept-clause-polls : goal.returns-in_err-give_kept-clause-polls
+returns-in_err-give_kept-clause-polls g c = polls_err _ c.from_residual-in_err-give_kept.ensures.0 (gives_then (times_moves c.loop.invariant.times) (c.give_kept.ensures.gives _))
 
 pub returns-clause-gives : goal.returns-clause-gives
-returns-clause-gives g c = gives_then c.loop.invariant.gives (c.give_kept.ensures.gives _)
+returns-clause-gives g c = gives_then (times_moves c.loop.invariant.times) (c.give_kept.ensures.gives _)
+
+pub returns-clause-polls : goal.returns-clause-polls
+returns-clause-polls g c = gave_much (gave_so_often _ _ _ (search rules) c.loop.invariant.times) (c.give_kept.ensures.gives _)

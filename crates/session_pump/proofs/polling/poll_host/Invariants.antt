@@ -1,5 +1,6 @@
-use Rattle.std.specs.Prelude.{◌≡◌, ◌+◌, sum_by}
-use Rattle.session_pump.specs.Giving.{GiveMoves}
+use Rattle.std.specs.Prelude.{◌≡◌, sum_by}
+use Rattle.session_pump.specs.Ends.{ends_of}
+use Rattle.session_pump.specs.Giving.{GivesTimes}
 use Rattle.session_pump.proofs.polling.poll_host.Given as goal
 
 abbrev pub invariant-loop : goal.invariant-loop
@@ -7,23 +8,23 @@ invariant-loop g l = record {
   name : l.stand.host.name ≡ l.fn.stand.host.name;
   directory : l.purse.directory ≡ l.fn.purse.directory;
   silences : g.B.Bell.silences l.bell ≡ g.B.Bell.silences l.fn.bell;
-  gives : GiveMoves (g.C.Clock.moment l.clock)
+  times : GivesTimes (g.C.Clock.moment l.clock) l.counter
       (record {
         kept = l.fn.stand.kept;
-        ends = record {
-          told = (goal.Backend-dyn g (l.fn.stand.host.end.vtable, l.fn.stand.host.end.value)).told l.fn.stand.host.end.value;
-          failures = l.fn.stand.failures;
-          faults = ((goal.Backend-dyn g (l.fn.stand.host.end.vtable, l.fn.stand.host.end.value)).counts l.fn.stand.host.end.value).faults + sum_by (λ spare. ((goal.Backend-dyn g (spare.vtable, spare.value)).counts spare.value).faults) l.fn.stand.host.spares.items;
-        };
+        ends = ends_of
+            ((goal.Backend-dyn g (l.fn.stand.host.end.vtable, l.fn.stand.host.end.value)).told l.fn.stand.host.end.value)
+            ((goal.Backend-dyn g (l.fn.stand.host.end.vtable, l.fn.stand.host.end.value)).counts l.fn.stand.host.end.value)
+            l.fn.stand.failures
+            (sum_by (λ spare. ((goal.Backend-dyn g (spare.vtable, spare.value)).counts spare.value).faults) l.fn.stand.host.spares.items);
         sessions = l.fn.purse.sessions;
       })
       (record {
         kept = l.stand.kept;
-        ends = record {
-          told = (goal.Backend-dyn g (l.stand.host.end.vtable, l.stand.host.end.value)).told l.stand.host.end.value;
-          failures = l.stand.failures;
-          faults = ((goal.Backend-dyn g (l.stand.host.end.vtable, l.stand.host.end.value)).counts l.stand.host.end.value).faults + sum_by (λ spare. ((goal.Backend-dyn g (spare.vtable, spare.value)).counts spare.value).faults) l.stand.host.spares.items;
-        };
+        ends = ends_of
+            ((goal.Backend-dyn g (l.stand.host.end.vtable, l.stand.host.end.value)).told l.stand.host.end.value)
+            ((goal.Backend-dyn g (l.stand.host.end.vtable, l.stand.host.end.value)).counts l.stand.host.end.value)
+            l.stand.failures
+            (sum_by (λ spare. ((goal.Backend-dyn g (spare.vtable, spare.value)).counts spare.value).faults) l.stand.host.spares.items);
         sessions = l.purse.sessions;
       });
 }
