@@ -1,0 +1,43 @@
+use Rattle.std.proofs.Common.{rules, refl, Some, None}
+use Rattle.bosh_ports.proofs.FaultLemmas.{HasRisen-after}
+use Rattle.parked_gate.specs.Passes.{known}
+use Rattle.client_run.specs.Working.{none, side_of, wire_of}
+use Rattle.client_run.proofs.RiseLemmas.{dialled_risen, moves_count, row_risen}
+use Rattle.client_run.proofs.EndLemmas.{ends_dialled, faults_rise}
+use Rattle.client_run.proofs.working.work.Goals as goal
+
+pub returns-in-None-clause-works : goal.returns-in-None-clause-works
+returns-in-None-clause-works g c =
+    let start = side_of (known c.args.pass.now) (g.N.Network.events c.args.network.now) (g.N.Network.counts c.args.network.now) None None 0 in
+    record { hand = None; row = 3; moves = c.in-None.ensures.dials (g.C.Clock.moment c.args.site.now.clock.now) start (known c.args.pass.now) None none; ends = refl }
+
+pub returns-in-None-clause-fault : goal.returns-in-None-clause-fault
+returns-in-None-clause-fault g c = λ is.
+    let start = side_of (known c.args.pass.now) (g.N.Network.events c.args.network.now) (g.N.Network.counts c.args.network.now) None None 0 in
+    row_risen (g.C.Clock.moment c.args.site.now.clock.now) start (side_of (known c.args.pass.now) (g.N.Network.events c.first_line.new.network) (g.N.Network.counts c.first_line.new.network) None None 3) (c.in-None.ensures.dials (g.C.Clock.moment c.args.site.now.clock.now) start (known c.args.pass.now) None none) refl (search rules)
+
+pub returns-clause-works : goal.returns-clause-works
+returns-clause-works g c =
+    let start = side_of (known c.args.pass.now) (g.N.Network.events c.args.network.now) (g.N.Network.counts c.args.network.now) None None 0 in
+    let first = c.in-Some.ensures.dials (g.C.Clock.moment c.args.site.now.clock.now) start (known c.args.pass.now) None none in
+    let served = c.serve-worked.ensures.works start first.0 first.1 in
+    record { hand = served.hand; row = served.row; moves = c.close.ensures.closes (g.C.Clock.moment c.args.site.now.clock.now) start (known c.serve-worked.new.pass) served.hand served.row served.moves; ends = served.ends }
+
+pub returns-clause-fault : goal.returns-clause-fault
+returns-clause-fault g c =
+    let start = side_of (known c.args.pass.now) (g.N.Network.events c.args.network.now) (g.N.Network.counts c.args.network.now) None None 0 in
+    let first = c.in-Some.ensures.dials (g.C.Clock.moment c.args.site.now.clock.now) start (known c.args.pass.now) None none in
+    let served = c.serve-worked.ensures.works start first.0 first.1 in
+    faults_rise (g.C.Clock.moment c.args.site.now.clock.now) start (known c.serve-worked.new.pass) (g.N.Network.events c.close.new.network) (g.N.Network.counts c.close.new.network) c.serve-worked.result refl
+    (record { hand = served.hand; row = served.row; moves = c.close.ensures.closes (g.C.Clock.moment c.args.site.now.clock.now) start (known c.serve-worked.new.pass) served.hand served.row served.moves; ends = served.ends })
+
+pub returns-clause-dialled : goal.returns-clause-dialled
+returns-clause-dialled g c =
+    let start = side_of (known c.args.pass.now) (g.N.Network.events c.args.network.now) (g.N.Network.counts c.args.network.now) None None 0 in
+    let first = c.in-Some.ensures.dials (g.C.Clock.moment c.args.site.now.clock.now) start (known c.args.pass.now) None none in
+    let mid = side_of (known c.args.pass.now) (g.N.Network.events c.first_line.new.network) (g.N.Network.counts c.first_line.new.network) (Some (wire_of (g.N.Link.Link.left c.in-Some.first.link) (g.N.Link.Link.given c.in-Some.first.link) c.in-Some.first.reader)) None first.0 in
+    let served = c.serve-worked.ensures.works mid first.0 none in
+    let later = c.close.ensures.closes (g.C.Clock.moment c.args.site.now.clock.now) mid (known c.serve-worked.new.pass) served.hand served.row served.moves in
+    ends_dialled c.serve-worked.result _ _
+    (HasRisen-after start.counts.dialled mid.counts.dialled (g.N.Network.counts c.close.new.network).dialled (dialled_risen (g.C.Clock.moment c.args.site.now.clock.now) start mid first.1 refl (wire_of (g.N.Link.Link.left c.in-Some.first.link) (g.N.Link.Link.given c.in-Some.first.link) c.in-Some.first.reader) refl)
+    (moves_count (g.C.Clock.moment c.args.site.now.clock.now) mid (side_of (known c.serve-worked.new.pass) (g.N.Network.events c.close.new.network) (g.N.Network.counts c.close.new.network) None served.hand served.row) later).dialled)

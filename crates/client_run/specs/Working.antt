@@ -1,0 +1,136 @@
+-- A worker at its work, as it and others see it, and the moves that it makes.
+use Rattle.std.specs.Prelude.{◌≡◌, ℕ, ◌+◌, ◌⊎◌, List, [], Bool, true, false, Option, Some, None, IfSome, Result, Ok, Err}
+use Rattle.std.specs.Io.KnownBytes.{Appends, Keeps}
+use Rattle.std.specs.declared.alloc.AllocError.{AllocError}
+use Rattle.bosh_client.specs.declared.replies.Answered.{Answered}
+use Rattle.bosh_client.specs.declared.replies.Answered.TheVariants as answerings
+use Rattle.bosh_client.specs.declared.replies.Next.{Next}
+use Rattle.bosh_client.specs.declared.replies.Next.TheVariants as nexts
+use Rattle.bosh_http.specs.Responding.{Responds}
+use Rattle.bosh_http.specs.declared.responding.ResponseIn.TheVariants.{Body}
+use Rattle.bosh_http.specs.Texts.{post_text}
+use Rattle.bosh_ports.specs.Sink.{AppendsFront}
+use Rattle.parked_gate.specs.Passes.{Calls, Known, Looks}
+use Rattle.server_ports.specs.Counts.{Counts, HasFailed, added}
+use Rattle.server_ports.specs.Events.{Event, Begins, IsUngiven, Retires}
+use Rattle.client_run.specs.declared.call.Answer.{Answer}
+use Rattle.client_run.specs.declared.call.Call.{Call}
+use Rattle.client_run.specs.declared.call.Call.TheVariants as calls
+use Rattle.client_run.specs.declared.call.Question.{Question}
+use Rattle.client_run.specs.declared.call.Reply.{Reply}
+use Rattle.client_run.specs.declared.call.Reply.TheVariants as replies
+use Rattle.client_run.specs.declared.entry.Entry.{Entry}
+use Rattle.client_run.specs.History.{Answers, RepliesTo}
+
+-- what a link has left to be taken and was given, where it tells that, and the bytes that were taken and are in no response yet
+pub record Wire : Type 0 where
+  pub left : Option (List ℕ)
+  pub given : Option (List ℕ)
+  pub kept : List ℕ
+
+-- what the worker's pass knows of the client; what became of the network's links, and its counts; the link that is out; the
+-- request that has no answer yet; and how many faults came in a row
+pub record Side : Type 0 where
+  pub known : Known Entry
+  pub events : Option (List Event)
+  pub counts : Counts
+  pub wire : Option Wire
+  pub hand : Option (ℕ × List ℕ)
+  pub row : ℕ
+
+abbrev pub wire_of : Option (List ℕ) → Option (List ℕ) → List ℕ → Wire
+wire_of left given kept = record { left = left; given = given; kept = kept }
+
+abbrev pub side_of : Known Entry → Option (List Event) → Counts → Option Wire → Option (ℕ × List ℕ) → ℕ → Side
+side_of known events counts wire hand row =
+    record { known = known; events = events; counts = counts; wire = wire; hand = hand; row = row }
+
+-- the pass called its client so, and this was the reply
+abbrev pub Called : Call → Result Reply AllocError → Known Entry → Known Entry → Type 0
+Called call result old new = Calls (λ e. e.caller) (λ before made. RepliesTo before call result made) old new
+
+-- it asked it this
+abbrev pub Asked : Question → Result Answer AllocError → Known Entry → Known Entry → Type 0
+Asked question answer old new = Looks (λ seen. Answers seen question answer) old new
+
+-- the moment of a call is the clock's, where that tells it
+abbrev pub IsAt : Option ℕ → ℕ → Type 0
+IsAt moment now = IfSome moment (λ told. now ≡ told)
+
+-- the request that is to be sent next
+abbrev pub request_in : Next → Option (ℕ × List ℕ)
+request_in (nexts.Request rid body) = Some (rid, body)
+request_in nexts.Nothing = None
+request_in nexts.RidsSpent = None
+
+-- what is at hand once an answer was given to the client: a broken one is none
+abbrev pub hand_after : Answered → Option (ℕ × List ℕ) → Option (ℕ × List ℕ)
+hand_after (answerings.Broken why) hand = hand
+hand_after answerings.Done hand = None
+hand_after answerings.Unmade hand = None
+hand_after answerings.Stale hand = None
+
+abbrev pub is_broken : Answered → Bool
+is_broken (answerings.Broken why) = true
+is_broken answerings.Done = false
+is_broken answerings.Unmade = false
+is_broken answerings.Stale = false
+
+-- the request with this body was given whole
+pub record Sends (old new : Wire) (body : List ℕ) : Type 0 where
+  pub given : Appends old.given new.given (post_text body)
+  pub left : Keeps old.left new.left
+  pub kept : new.kept ≡ old.kept
+
+-- this answer was read next, as the content of a response with status 200
+pub record Hears (old new : Wire) (answer : List ℕ) : Type 0 where
+  pub responds : Responds old.left new.left old.kept new.kept (Body answer)
+  pub given : Keeps old.given new.given
+
+-- the one, and then the other
+pub record Exchanges (old new : Wire) (body answer : List ℕ) : Type 0 where
+  pub asked : Wire
+  pub sends : Sends old asked body
+  pub hears : Hears asked new answer
+
+-- a front of the request with this body was given, or all of it, and no answer that was read is taken
+pub record Tries (old new : Wire) (body : List ℕ) : Type 0 where
+  pub asked : Option (List ℕ)
+  pub gives : AppendsFront old.given asked (post_text body)
+  pub given : Keeps asked new.given
+
+-- a fault is one more in its row; what is no fault ends the row
+abbrev pub CountsFault : Counts → ℕ → Counts → ℕ → Type 0
+CountsFault counts row later later_row = (HasFailed counts later × (later_row ≡ row + 1)) ⊎ ((later ≡ counts) × (later_row ≡ 0))
+
+-- One move of a worker. A request is asked for only where none is at hand, and it stays at hand until its answer was given to
+-- the client; what is sent is the request at hand, and what is given to the client was read in answer to it. No move is made but
+-- these.
+pub data Move (moment : Option ℕ) : Side → Side → Type 0 where
+  dials : {s : Side} (events : Option (List Event)) (counts : Counts) (wire : Wire) → s.wire ≡ None
+      → Begins s.events events wire.left → IsUngiven wire.given → wire.kept ≡ [] → counts ≡ record s.counts { dialled = added s.counts.dialled 1 }
+      → Move moment s (record s { events = events; counts = counts; wire = Some wire })
+  fails_to_dial : {s : Side} (counts : Counts) → s.wire ≡ None → HasFailed s.counts counts
+      → Move moment s (record s { counts = counts; row = s.row + 1 })
+  asks : {s : Side} (new : Known Entry) (next : Next) (now : ℕ) → s.hand ≡ None → IsAt moment now
+      → Called (calls.Next now) (Ok (replies.Next next)) s.known new
+      → Move moment s (record s { known = new; hand = request_in next; row = 0 })
+  looks : {s : Side} (new : Known Entry) (question : Question) (answer : Result Answer AllocError) → Asked question answer s.known new
+      → Move moment s (record s { known = new })
+  wants_memory : {s : Side} (new : Known Entry) (call : Call) (error : AllocError) → Called call (Err error) s.known new
+      → Move moment s (record s { known = new })
+  answers : {s : Side} (new : Known Entry) (rid : ℕ) (body answer : List ℕ) (old wire : Wire) (now : ℕ) (answered : Answered)
+      → s.hand ≡ Some (rid, body) → s.wire ≡ Some old → Exchanges old wire body answer → IsAt moment now
+      → Called (calls.Answer rid answer now) (Ok (replies.Answered answered)) s.known new
+      → Move moment s (record s { known = new; wire = Some wire; hand = hand_after answered s.hand; row = 0 })
+  loses : {s : Side} (rid : ℕ) (body : List ℕ) (old wire : Wire) (events : Option (List Event)) (counts : Counts) (row : ℕ)
+      → s.hand ≡ Some (rid, body) → s.wire ≡ Some old → Tries old wire body
+      → Retires s.events events wire.left wire.given → CountsFault s.counts s.row counts row
+      → Move moment s (record s { events = events; counts = counts; wire = None; row = row })
+  retires : {s : Side} (old : Wire) (events : Option (List Event)) → s.wire ≡ Some old → Retires s.events events old.left old.given
+      → Move moment s (record s { events = events; wire = None })
+
+-- moves one after the other
+pub data Moves (moment : Option ℕ) : Side → Side → Type 0 where
+  none : {s : Side} → Moves moment s s
+  more : {s t u : Side} → Moves moment s t → Move moment t u → Moves moment s u

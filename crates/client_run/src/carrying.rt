@@ -1,0 +1,216 @@
+// One request is carried to the manager, and its answer back.
+ghost use Rattle.std.specs.Prelude.{◌≡◌, ◌≤◌, ◌∷◌, ◌<◌, ℕ, List, None, Option, Some, IfOk, IfSome};
+ghost use Rattle.std.specs.Option.{option_map};
+ghost use Rattle.parked_gate.specs.Passes.{IsPassOf, Known, known};
+ghost use Rattle.client_run.specs.declared.entry.Entry.{Entry};
+ghost use Rattle.client_run.specs.Worked.{CarriesBy, IfSettled, TriesBy, row_after};
+ghost use Rattle.client_run.specs.Working.{Exchanges, Moves, Side, Wire, is_broken, side_of, wire_of};
+
+use crate::asking::give;
+use crate::fault::Fault;
+use crate::line::{Heard, Line};
+use crate::object::ClientObject;
+use crate::site::Site;
+use bosh_client::Answered;
+use bosh_ports::{Bell, BellKey};
+use bosh_types::{Rid, SharedText, Text};
+use parked_gate::Pass;
+use server_ports::{Clock, Dialled, Network};
+use std::alloc::{AllocError, Global};
+use std::sync::Wait;
+
+/// How many faults in a row are one too many.
+pub(crate) const TRIES: u32 = 3;
+
+/// What came of one try.
+#[derive(Drop)]
+pub(crate) enum Tried<L> {
+    /// The answer was taken, and the link can go on.
+    Settled(Line<L>),
+    /// No answer came, and nothing failed.
+    Nothing,
+    Fault(Fault),
+}
+
+/// Dials a link.
+pub(crate) fn dial<N: Network>(alloc: Global, network: &mut N, port: u16) -> Option<Line<N::Link>>
+    ensures dials { (moment : Option ℕ) (start : Side) (known : Known Entry) (hand : Option (ℕ × List ℕ)) (row : ℕ)
+        → Moves moment start (side_of known (N.events network.old) (N.counts network.old) None hand row)
+        → Moves moment start (side_of known (N.events network.new) (N.counts network.new)
+        (option_map (λ line. wire_of (N.Link.left line.link) (N.Link.given line.link) line.reader) result) hand (row_after result row)) }
+    ensures faultless { IfSome result (λ line. N.Link.faults line.link ≡ 0) }
+{
+    match network.dial(port) {
+        Dialled::Link(link) => Some(Line::new(alloc, link)),
+        Dialled::Failed => None,
+    }
+}
+
+// A link to send a request on: the one that is out, or a new one.
+fn open<N: Network>(
+    alloc: Global,
+    network: &mut N,
+    port: u16,
+    line: Option<Line<N::Link>>,
+) -> Option<Line<N::Link>>
+where
+    N::Link: Drop,
+    requires { IfSome line (λ line. N.Link.faults line.link ≡ 0) }
+    ensures opens { (moment : Option ℕ) (start : Side) (known : Known Entry) (hand : Option (ℕ × List ℕ)) (row : ℕ)
+        → Moves moment start (side_of known (N.events network.old) (N.counts network.old)
+        (option_map (λ line. wire_of (N.Link.left line.link) (N.Link.given line.link) line.reader) line) hand row)
+        → Moves moment start (side_of known (N.events network.new) (N.counts network.new)
+        (option_map (λ line. wire_of (N.Link.left line.link) (N.Link.given line.link) line.reader) result) hand (row_after result row)) }
+    ensures faultless { IfSome result (λ line. N.Link.faults line.link ≡ 0) }
+{
+    match line {
+        Some(line) => Some(line),
+        None => dial(alloc, network, port),
+    }
+}
+
+/// Tries once to get an answer to the request at hand, and gives it to the client. A link on which no answer came is retired.
+/// The only error is want of memory.
+fn try_once<R: Wait, N: Network, C: Clock>(
+    rt: &R,
+    site: &Site<'_, C>,
+    pass: &mut Pass<ClientObject>,
+    network: &mut N,
+    line: Option<Line<N::Link>>,
+    rid: Rid,
+    body: &SharedText,
+) -> Result<Tried<N::Link>, AllocError>
+where
+    N::Link: Drop,
+    requires pass { IsPassOf site.now.gate.now pass.old }
+    requires faultless { IfSome line (λ line. N.Link.faults line.link ≡ 0) }
+    ensures pass { IsPassOf site.now.gate.now pass.new }
+    ensures tries { (start : Side) (row : ℕ)
+        → Moves (C.moment site.now.clock.now) start (side_of (known pass.old) (N.events network.old) (N.counts network.old)
+        (option_map (λ line. wire_of (N.Link.left line.link) (N.Link.given line.link) line.reader) line) (Some (rid, body.now)) row)
+        → TriesBy (λ line. wire_of (N.Link.left line.link) (N.Link.given line.link) line.reader) (C.moment site.now.clock.now) start
+        (side_of (known pass.new) (N.events network.new) (N.counts network.new) None (Some (rid, body.now)) row) result }
+    ensures faultless { IfOk result (λ tried. IfSettled tried (λ line. N.Link.faults line.link ≡ 0)) }
+{
+    let Some(line) = open(site.alloc, network, site.port, line) else {
+        return Ok(Tried::Fault(Fault::Dial));
+    };
+    let mut line = line;
+    match line.exchange(site.alloc, body.as_slice()) {
+        Heard::Body(answer) => take(rt, site, pass, network, line, rid, answer),
+        Heard::Nothing => {
+            network.retire(line.into_link());
+            Ok(Tried::Nothing)
+        }
+        Heard::Fault(fault) => {
+            network.retire(line.into_link());
+            Ok(Tried::Fault(fault))
+        }
+        Heard::NoMemory => {
+            network.retire(line.into_link());
+            Err(AllocError)
+        }
+    }
+}
+
+// Gives the client the answer that was read on this link.
+fn take<R: Wait, N: Network, C: Clock>(
+    rt: &R,
+    site: &Site<'_, C>,
+    pass: &mut Pass<ClientObject>,
+    network: &mut N,
+    line: Line<N::Link>,
+    rid: Rid,
+    answer: Text,
+) -> Result<Tried<N::Link>, AllocError>
+where
+    N::Link: Drop,
+    requires pass { IsPassOf site.now.gate.now pass.old }
+    requires faultless { N.Link.faults line.link ≡ 0 }
+    ensures pass { IsPassOf site.now.gate.now pass.new }
+    ensures tries { (start : Side) (old : Wire) (body : List ℕ) (row : ℕ)
+        → Exchanges old (wire_of (N.Link.left line.link) (N.Link.given line.link) line.reader) body answer
+        → Moves (C.moment site.now.clock.now) start (side_of (known pass.old) (N.events network.old) (N.counts network.old) (Some old) (Some (rid, body)) row)
+        → TriesBy (λ line. wire_of (N.Link.left line.link) (N.Link.given line.link) line.reader) (C.moment site.now.clock.now) start
+        (side_of (known pass.new) (N.events network.new) (N.counts network.new) None (Some (rid, body)) row) result }
+    ensures faultless { IfOk result (λ tried. IfSettled tried (λ line. N.Link.faults line.link ≡ 0)) }
+{
+    match give(rt, site, pass, rid, answer) {
+        Ok(answered) => {
+            if is_broken(answered) {
+                network.retire(line.into_link());
+                return Ok(Tried::Nothing);
+            }
+            Ok(Tried::Settled(line))
+        }
+        Err(AllocError) => {
+            network.retire(line.into_link());
+            Err(AllocError)
+        }
+    }
+}
+
+fn is_broken(answered: Answered) -> bool
+    ensures { result ≡ is_broken answered }
+{
+    match answered {
+        Answered::Broken(_) => true,
+        Answered::Done => false,
+        Answered::Unmade => false,
+        Answered::Stale => false,
+    }
+}
+
+/// Sends the request at hand until its answer was given to the client. Each copy is the same bytes, on a new link. The fault is
+/// answered after three in a row. Where no answer came and nothing failed, the next copy waits for the bell. The only error
+/// is want of memory.
+pub(crate) fn carry<R: Wait, N: Network, C: Clock, B: Bell>(
+    rt: &R,
+    site: &Site<'_, C>,
+    pass: &mut Pass<ClientObject>,
+    network: &mut N,
+    bell: &mut B,
+    line: &mut Option<Line<N::Link>>,
+    rid: Rid,
+    body: &SharedText,
+) -> Result<Option<Fault>, AllocError>
+where
+    N::Link: Drop,
+    requires pass { IsPassOf site.now.gate.now pass.old }
+    requires faultless { IfSome line.old (λ line. N.Link.faults line.link ≡ 0) }
+    ensures pass { IsPassOf site.now.gate.now pass.new }
+    ensures carries { (start : Side)
+        → Moves (C.moment site.now.clock.now) start (side_of (known pass.old) (N.events network.old) (N.counts network.old)
+        (option_map (λ line. wire_of (N.Link.left line.link) (N.Link.given line.link) line.reader) line.old) (Some (rid, body.now)) 0)
+        → CarriesBy (C.moment site.now.clock.now) start
+        (side_of (known pass.new) (N.events network.new) (N.counts network.new)
+        (option_map (λ line. wire_of (N.Link.left line.link) (N.Link.given line.link) line.reader) line.new) (Some (rid, body.now)) 0) result }
+    ensures faultless { IfSome line.new (λ line. N.Link.faults line.link ≡ 0) }
+    ensures silences { B.silences bell.old ≤ B.silences bell.new }
+{
+    let mut row: u32 = 0;
+    for _ in rt.forever() {
+        let tried = match try_once(rt, site, pass, network, line.take(), rid, body) {
+            Ok(tried) => tried,
+            Err(AllocError) => return Err(AllocError),
+        };
+        match tried {
+            Tried::Settled(open) => {
+                *line = Some(open);
+                return Ok(None);
+            }
+            Tried::Nothing => {
+                row = 0;
+                bell.tune(BellKey::PUMP);
+                bell.wait();
+            }
+            Tried::Fault(fault) => {
+                row += 1;
+                if row == TRIES {
+                    return Ok(Some(fault));
+                }
+            }
+        }
+    }
+    unreachable!()
+}

@@ -1,0 +1,25 @@
+// A client that runs: it stands behind a gate, where its workers send what it has to send and take its answers, and where one
+// thread gives it lines and writes what it hands out.
+#![tactic(auto)]
+
+mod asking;
+mod call;
+mod carrying;
+mod draining;
+mod entry;
+mod fault;
+mod line;
+mod object;
+mod site;
+#[cfg(test)]
+mod tests;
+mod worked;
+mod working;
+
+pub use call::{Answer, Call, Question, Reply};
+pub use draining::{Written, drain};
+pub use entry::{Entered, Entry};
+pub use object::ClientObject;
+pub use site::Site;
+pub use worked::Worked;
+pub use working::work;

@@ -1,0 +1,18 @@
+use bosh_types::Condition;
+
+/// How a worker ended.
+#[derive(Clone, Copy, Debug, PartialEq, Eq)]
+pub enum Worked {
+    /// The first terminal answer that the client took has no condition, or no request id is left.
+    Done,
+    /// It has this one.
+    Ended(Condition),
+    /// Three dials failed in a row before the first request; or a dial was the third fault in a row of one request.
+    DialFault,
+    /// A link failed while it was read, as the third fault in a row of one request.
+    ReadFault,
+    /// The same while it was written.
+    WriteFault,
+    /// The bell was silent, and nothing was due.
+    Silent,
+}

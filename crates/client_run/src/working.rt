@@ -1,0 +1,159 @@
+// A worker of a client, from its first dial to its end.
+ghost use Rattle.std.specs.Prelude.{◌≡◌, ◌≤◌, ℕ, List, true, None, Option, Some, IfOk, IfSome, Ok};
+ghost use Rattle.std.specs.Option.{option_map};
+ghost use Rattle.bosh_ports.specs.Faults.{HasRisen};
+ghost use Rattle.parked_gate.specs.Passes.{IsPassOf, Known, known};
+ghost use Rattle.client_run.specs.declared.entry.Entry.{Entry};
+ghost use Rattle.client_run.specs.Worked.{FirstBy, Works, ended_by, failed_by, is_end, is_fault};
+ghost use Rattle.client_run.specs.Working.{Moves, Side, side_of, wire_of};
+
+use crate::asking::{ask, look};
+use crate::carrying::{TRIES, carry, dial};
+use crate::fault::Fault;
+use crate::line::Line;
+use crate::object::ClientObject;
+use crate::site::Site;
+use crate::worked::Worked;
+use bosh_client::{ClientEnd, Next};
+use bosh_ports::{Bell, BellKey, Woken};
+use parked_gate::Pass;
+use server_ports::{Clock, Network};
+use std::alloc::{AllocError, Global};
+use std::sync::Wait;
+
+/// Sends what the client has to send, and gives it the answers, until it ended. It dials until it has a link, at most three
+/// times, and a new one for the next body after a link ended or failed; each of its links is retired. A link that failed or
+/// gave no answer is followed by a copy of the same bytes on a new one, and a fault is answered once three came in a row for one
+/// request. Where nothing is due it waits at the bell. The only error is want of memory.
+pub fn work<R: Wait, N: Network, C: Clock, B: Bell>(
+    rt: &R,
+    site: &Site<'_, C>,
+    pass: &mut Pass<ClientObject>,
+    network: &mut N,
+    bell: &mut B,
+) -> Result<Worked, AllocError>
+where
+    N::Link: Drop,
+    requires { IsPassOf site.now.gate.now pass.old }
+    ensures pass { IsPassOf site.now.gate.now pass.new }
+
+    // It made moves one after the other, with no link out in the end, and ended so.
+    ensures works { Works (C.moment site.now.clock.now) (side_of (known pass.old) (N.events network.old) (N.counts network.old) None None 0)
+        (known pass.new) (N.events network.new) (N.counts network.new) None result }
+    ensures fault { IfOk result (λ worked. is_fault worked ≡ true → HasRisen (N.counts network.old).faults (N.counts network.new).faults) }
+    ensures dialled { IfOk result (λ worked. is_end worked ≡ true → HasRisen (N.counts network.old).dialled (N.counts network.new).dialled) }
+    ensures silent { IfOk result (λ worked. worked ≡ Worked.Silent → HasRisen (B.silences bell.old) (B.silences bell.new)) }
+    ensures silences { B.silences bell.old ≤ B.silences bell.new }
+{
+    let first = match first_line(site.alloc, network, site.port) {
+        Some(first) => first,
+        None => return Ok(Worked::DialFault),
+    };
+    let mut line = Some(first);
+    let worked = serve(rt, site, pass, network, bell, &mut line);
+    close(network, line);
+    worked
+}
+
+// A first link, at the third dial at last.
+fn first_line<N: Network>(alloc: Global, network: &mut N, port: u16) -> Option<Line<N::Link>>
+where
+    N::Link: Drop,
+    ensures dials { (moment : Option ℕ) (start : Side) (known : Known Entry) (hand : Option (ℕ × List ℕ))
+        → Moves moment start (side_of known (N.events network.old) (N.counts network.old) None hand 0)
+        → FirstBy (λ line. wire_of (N.Link.left line.link) (N.Link.given line.link) line.reader) moment start
+        (side_of known (N.events network.new) (N.counts network.new) None hand 0) result }
+    ensures faultless { IfSome result (λ line. N.Link.faults line.link ≡ 0) }
+{
+    let mut row: u32 = 0;
+    while row < TRIES {
+        match dial(alloc, network, port) {
+            Some(line) => return Some(line),
+            None => row += 1,
+        }
+    }
+    None
+}
+
+// Retires the link that is out, if one is.
+fn close<N: Network>(network: &mut N, line: Option<Line<N::Link>>)
+where
+    N::Link: Drop,
+    requires { IfSome line (λ line. N.Link.faults line.link ≡ 0) }
+    ensures closes { (moment : Option ℕ) (start : Side) (known : Known Entry) (hand : Option (ℕ × List ℕ)) (row : ℕ)
+        → Moves moment start (side_of known (N.events network.old) (N.counts network.old) (option_map (λ line. wire_of (N.Link.left line.link) (N.Link.given line.link) line.reader) line) hand row)
+        → Moves moment start (side_of known (N.events network.new) (N.counts network.new) None hand row) }
+{
+    match line {
+        Some(line) => network.retire(line.into_link()),
+        None => {}
+    }
+}
+
+// Serves the client over this link and those that follow it, until the worker ends.
+fn serve<R: Wait, N: Network, C: Clock, B: Bell>(
+    rt: &R,
+    site: &Site<'_, C>,
+    pass: &mut Pass<ClientObject>,
+    network: &mut N,
+    bell: &mut B,
+    line: &mut Option<Line<N::Link>>,
+) -> Result<Worked, AllocError>
+where
+    N::Link: Drop,
+    requires pass { IsPassOf site.now.gate.now pass.old }
+    requires faultless { IfSome line.old (λ line. N.Link.faults line.link ≡ 0) }
+    ensures pass { IsPassOf site.now.gate.now pass.new }
+    ensures works { (start : Side) (row : ℕ)
+        → Moves (C.moment site.now.clock.now) start (side_of (known pass.old) (N.events network.old) (N.counts network.old) (option_map (λ line. wire_of (N.Link.left line.link) (N.Link.given line.link) line.reader) line.old) None row)
+        → Works (C.moment site.now.clock.now) start (known pass.new) (N.events network.new) (N.counts network.new) (option_map (λ line. wire_of (N.Link.left line.link) (N.Link.given line.link) line.reader) line.new) result }
+    ensures faultless { IfSome line.new (λ line. N.Link.faults line.link ≡ 0) }
+    ensures silent { IfOk result (λ worked. worked ≡ Worked.Silent → HasRisen (B.silences bell.old) (B.silences bell.new)) }
+    ensures silences { B.silences bell.old ≤ B.silences bell.new }
+{
+    for _ in rt.forever() {
+        bell.tune(BellKey::PUMP);
+        let next = match ask(rt, site, pass) {
+            Ok(next) => next,
+            Err(AllocError) => return Err(AllocError),
+        };
+        match next {
+            Next::Request { rid, body } => {
+                match carry(rt, site, pass, network, bell, line, rid, &body) {
+                    Ok(None) => bell.ring(BellKey::PUMP),
+                    Ok(Some(fault)) => return Ok(failed_by(fault)),
+                    Err(AllocError) => return Err(AllocError),
+                }
+            }
+            Next::RidsSpent => return Ok(Worked::Done),
+            Next::Nothing => {
+                if let Some(end) = look(rt, site, pass) {
+                    return Ok(ended_by(end));
+                }
+                if bell.wait() == Woken::Silent {
+                    return Ok(Worked::Silent);
+                }
+            }
+        }
+    }
+    unreachable!()
+}
+
+fn failed_by(fault: Fault) -> Worked
+    ensures { result ≡ failed_by fault }
+{
+    match fault {
+        Fault::Dial => Worked::DialFault,
+        Fault::Read => Worked::ReadFault,
+        Fault::Write => Worked::WriteFault,
+    }
+}
+
+fn ended_by(end: ClientEnd) -> Worked
+    ensures { result ≡ ended_by end.condition }
+{
+    match end.condition {
+        Some(condition) => Worked::Ended(condition),
+        None => Worked::Done,
+    }
+}
