@@ -1,5 +1,8 @@
 // A worker over links in memory, from the answers that it reads to what it writes.
+ghost use Rattle.std.specs.Prelude.{◌≡◌, [], ◌∷◌, IfOk};
 ghost use Rattle.parked_gate.specs.Passes.{IsPassOf};
+ghost use Rattle.bosh_client.specs.declared.setup.ClientSetup.{ClientSetup};
+ghost use Rattle.client_run.specs.History.{first_entry};
 
 use crate::{Call, ClientObject, Reply, Site, Worked, work};
 use bosh_client::{ClientSetup, Queued};
@@ -12,7 +15,9 @@ use std::sync::Wait;
 use std::test::Fail;
 
 /// A client that begins with the id 1000, and lets requests be held so long.
-fn object(alloc: Global, wait: u32) -> Result<ClientObject, &'static str> {
+fn object(alloc: Global, wait: u32) -> Result<ClientObject, &'static str>
+    ensures { IfOk result (λ object. (setup : ClientSetup) × (object ≡ first_entry setup ∷ [])) }
+{
     let Some(first) = Rid::new(1000) else {
         return Err("no id");
     };
