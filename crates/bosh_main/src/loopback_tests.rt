@@ -113,7 +113,11 @@ where
 }
 
 // Both beside each other.
-fn both<R>(rt: &R, alloc: Global, port: u16) -> (Result<u8, AllocError>, Result<Vec<u8>, AllocError>)
+fn both<R>(
+    rt: &R,
+    alloc: Global,
+    port: u16,
+) -> (Result<u8, AllocError>, Result<Vec<u8>, AllocError>)
 where
     R: Wait
         + Threads
