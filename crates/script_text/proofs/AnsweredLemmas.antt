@@ -34,7 +34,7 @@ use Rattle.script_text.specs.declared.report.ReportLine.TheVariants.{In, Out, Lo
 use Rattle.script_text.specs.Answered.{Posting, Stage, Asks, IsAccounted, AreAccounted, latest_on, postings_of, postings_in, stage_of, stages_on, stages_by, lines_told}
 use Rattle.script_text.specs.Headline.{manager_of, opened_by, sessions_of}
 use Rattle.session_attrs.specs.Serving.{can_serve}
-use Rattle.script_text.specs.Lines.{lines_of}
+use Rattle.line_reader.specs.Lines.{lines_of}
 use Rattle.script_text.specs.Live.{PlainLive, not_found}
 use Rattle.script_text.specs.Manager.{PlainManager, Change, new_manager, is_waiting, closed, comes, number_of, at_host, admitted_to, request_in, comes_to, posted_by, posted_as, posted, passed, opened_turn, opening_by, opened_live, with_opened}
 use Rattle.script_text.specs.Posted.{named_of}

@@ -26,7 +26,7 @@ use Rattle.script_text.specs.declared.report.Refusal.TheVariants.{BackOver, Shut
 use Rattle.script_text.specs.declared.report.ReportLine.{ReportLine}
 use Rattle.script_text.specs.declared.report.ReportLine.TheVariants.{Out, Refused}
 use Rattle.script_text.specs.Headline.{manager_of, sessions_of}
-use Rattle.script_text.specs.Lines.{lines_of}
+use Rattle.line_reader.specs.Lines.{lines_of}
 use Rattle.script_text.specs.Live.{PlainLive, not_found, if_live}
 use Rattle.script_text.specs.Manager.{PlainManager, Change, new_manager, is_waiting, number_of, at_host, admitted_to, request_in, comes_to, posted_by, posted_as, posted, opened_turn, opening_by, with_opened}
 use Rattle.script_text.specs.Posted.{named_of, named_by, is_number, is_for, posts_of, posts_in, posts_on, posts_by, CameFrom}

@@ -23,7 +23,7 @@ use Rattle.script_text.specs.declared.report.ReportLine.{ReportLine}
 use Rattle.script_text.specs.declared.report.ReportLine.TheVariants.{Refused, Done as SaysDone, Bad as SaysBad}
 use Rattle.script_text.specs.Headline.{manager_of, live_at_end, is_opened, TellsOf, KeepsItsWord}
 use Rattle.session_attrs.specs.Serving.{can_serve}
-use Rattle.script_text.specs.Lines.{lines_of}
+use Rattle.line_reader.specs.Lines.{lines_of}
 use Rattle.script_text.specs.Live.{PlainLive, state}
 use Rattle.script_text.specs.Manager.{PlainManager, Change, new_manager, is_waiting, number_of}
 use Rattle.script_text.specs.Said.{IsSaid, IsWellRead}

@@ -10,12 +10,10 @@ pub mod GivesLemmas
 pub mod HeadlineLemmas
 pub mod InwardLemmas
 pub mod JournalSteps
-pub mod LinesLemmas
 pub mod LiveLemmas
 pub mod ManagerLemmas
 pub mod OpeningLemmas
 pub mod PostedLemmas
-pub mod ReadLemmas
 pub mod RepeatsLemmas
 pub mod ReportLemmas
 pub mod Rows

@@ -21,7 +21,7 @@ use Rattle.script_text.specs.declared.report.ReportLine.{ReportLine}
 use Rattle.script_text.specs.declared.report.ReportLine.TheVariants.{In, Out}
 use Rattle.script_text.specs.Answered.{Posting, Stage, IsAmong, Repeats, GivesKept, postings_in, stage_of, stages_on, stages_by}
 use Rattle.script_text.specs.Headline.{manager_of}
-use Rattle.script_text.specs.Lines.{lines_of}
+use Rattle.line_reader.specs.Lines.{lines_of}
 use Rattle.script_text.specs.Live.{PlainLive, state, after_call, untold, told, with_journal, arrived, turn_at, not_found}
 use Rattle.script_text.specs.Manager.{PlainManager, Change, only, is_waiting, place_of, number_of, turned_at, comes_at, comes, comes_to, posted_by, posted_as, posted, request_in}
 use Rattle.script_text.specs.Posted.{named_of}

@@ -8,8 +8,8 @@ use Rattle.bosh_types.specs.Limits.{longest_line, most_lines}
 use Rattle.script_text.specs.declared.line.BadKind.TheVariants.{Count, End, Length}
 use Rattle.script_text.specs.declared.line.LineRead.{LineRead}
 use Rattle.script_text.specs.declared.line.LineRead.TheVariants.{BadLine}
-use Rattle.script_text.specs.declared.lines.NextLine.{NextLine}
-use Rattle.script_text.specs.declared.lines.NextLine.TheVariants.{Line as IsLine, TooLong, NoLine}
+use Rattle.line_reader.specs.declared.lines.NextLine.{NextLine}
+use Rattle.line_reader.specs.declared.lines.NextLine.TheVariants.{Line as IsLine, TooLong, NoLine}
 use Rattle.script_text.specs.declared.driven.Driven.{Driven}
 use Rattle.script_text.specs.declared.driven.Driven.TheVariants.{Bad}
 use Rattle.script_text.specs.declared.report.ReportLine.{ReportLine}
@@ -19,7 +19,7 @@ use Rattle.script_text.specs.declared.run.Next.TheVariants as nexts
 use Rattle.script_text.specs.declared.run.Run.{Run}
 use Rattle.script_text.specs.declared.run.Run.TheVariants as runs
 use Rattle.script_text.specs.Line.{line_of}
-use Rattle.script_text.specs.Lines.{lines_of, IsFirstLonger, Reads}
+use Rattle.line_reader.specs.Lines.{lines_of, IsFirstLonger, Reads}
 use Rattle.script_text.specs.Report.{report_text}
 use Rattle.script_text.specs.Script.{PlainRun, Beginning, PlainNext, Goes, Ends, Step, Drive, step_by, within_length, said, ended_with, after_step, bad_at, drive_on, drive_of, Reports}
 use Rattle.script_text.specs.Stands.{Does, IsNext, IsRun}

@@ -20,7 +20,7 @@ use Rattle.script_text.specs.declared.line.ScriptLine.TheVariants.{Open, Short, 
 use Rattle.script_text.specs.declared.report.ReportLine.{ReportLine}
 use Rattle.script_text.specs.declared.report.ReportLine.TheVariants.{In, Out, Lost, Gone, Refused, Over, Done, Bad}
 use Rattle.script_text.specs.Headline.{is_opened}
-use Rattle.script_text.specs.Lines.{lines_of}
+use Rattle.line_reader.specs.Lines.{lines_of}
 use Rattle.script_text.specs.Live.{PlainLive, state}
 use Rattle.script_text.specs.Manager.{PlainManager, is_waiting, place_of, request_in}
 use Rattle.script_text.specs.Posted.{named_of}

@@ -4,7 +4,6 @@ pub mod Given
 pub mod Headline
 pub mod Hosts
 pub mod Line
-pub mod Lines
 pub mod Live
 pub mod Manager
 pub mod Names

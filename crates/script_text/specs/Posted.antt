@@ -11,7 +11,7 @@ use Rattle.script_text.specs.declared.line.LineRead.{LineRead}
 use Rattle.script_text.specs.declared.line.LineRead.TheVariants.{Line, BadLine}
 use Rattle.script_text.specs.declared.line.ScriptLine.{ScriptLine}
 use Rattle.script_text.specs.declared.line.ScriptLine.TheVariants.{Open, Short, Host, At, Post, Close, Back, Shut, End as LastLine}
-use Rattle.script_text.specs.Lines.{lines_of}
+use Rattle.line_reader.specs.Lines.{lines_of}
 use Rattle.script_text.specs.Live.{PlainLive, state}
 use Rattle.script_text.specs.Manager.{number_of, request_in}
 use Rattle.script_text.specs.Script.{PlainRun, Beginning, Goes, Ends, creation_text, request_text, step_by, said}

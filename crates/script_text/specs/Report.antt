@@ -10,7 +10,7 @@ use Rattle.bosh_types.specs.declared.inward.Inward.{Inward}
 use Rattle.bosh_types.specs.declared.inward.Inward.TheVariants.{Item, Restart}
 use Rattle.bosh_types.specs.declared.ending.Ending.TheVariants.{Terminated, Stale, Above, WrongKey, UnknownStream, PauseTooLong, Overactive, Silent, Closed, JournalFull}
 use Rattle.script_text.specs.declared.line.BadKind.{BadKind}
-use Rattle.script_text.specs.declared.line.BadKind.TheVariants.{Count, End, Length, Grammar, Time, Connection, Session}
+use Rattle.script_text.specs.declared.line.BadKind.TheVariants.{Count, End, Length, Grammar, Time, Connection, Session, Copy}
 use Rattle.script_text.specs.declared.report.ReportLine.{ReportLine}
 use Rattle.script_text.specs.declared.report.ReportLine.TheVariants.{In, Out, Lost, Gone, Refused, Over, Done, Bad}
 use Rattle.script_text.specs.declared.report.Refusal.{Refusal}
@@ -50,6 +50,7 @@ kind_text Grammar = codes "grammar"
 kind_text Time = codes "time"
 kind_text Connection = codes "connection"
 kind_text Session = codes "session"
+kind_text Copy = codes "copy"
 
 -- what goes inward, on its stream
 abbrev pub inward_text : Inward → List ℕ

@@ -23,7 +23,7 @@ use Rattle.script_text.specs.declared.report.ReportLine.{ReportLine}
 use Rattle.script_text.specs.declared.report.ReportLine.TheVariants.{In, Out, Lost, Gone, Refused, Over, Done as SaysDone, Bad as SaysBad}
 use Rattle.script_text.specs.Hosts.{takes_name}
 use Rattle.script_text.specs.Line.{line_of}
-use Rattle.script_text.specs.Lines.{lines_of}
+use Rattle.line_reader.specs.Lines.{lines_of}
 use Rattle.script_text.specs.Live.{PlainLive}
 use Rattle.script_text.specs.Manager.{PlainManager, Change, new_manager, is_waiting, closed, comes, number_of, passed, posted}
 use Rattle.script_text.specs.Report.{report_text}

@@ -2,8 +2,8 @@
 use Rattle.script_text.specs.declared.line.BadKind.TheVariants.{End, Length}
 use Rattle.script_text.specs.declared.line.LineRead.{LineRead}
 use Rattle.script_text.specs.declared.line.LineRead.TheVariants.{BadLine}
-use Rattle.script_text.specs.declared.lines.NextLine.{NextLine}
-use Rattle.script_text.specs.declared.lines.NextLine.TheVariants.{Line as IsLine, TooLong, NoLine}
+use Rattle.line_reader.specs.declared.lines.NextLine.{NextLine}
+use Rattle.line_reader.specs.declared.lines.NextLine.TheVariants.{Line as IsLine, TooLong, NoLine}
 use Rattle.script_text.specs.Line.{line_of}
 
 -- what it says

@@ -15,12 +15,12 @@ use crate::driven::{DriveError, Driven};
 use crate::hosts::Hosts;
 use crate::laws::reports_tell_of_sessions;
 use crate::line::{BadKind, LineRead, ScriptLine, read_line};
-use crate::lines::{LineReader, NextLine};
 use crate::manager::Manager;
 use crate::report::{ReportLine, print_line};
 use crate::run::{Effect, Next, Run};
 use bosh_ports::{Sink, Source, give_all};
 use bosh_types::limits::MOST_LINES;
+use line_reader::{LineReader, NextLine};
 use std::alloc::{AllocError, Global};
 
 /// Runs a script line by line and gives its report, each line as soon as it is known. After an error what was given

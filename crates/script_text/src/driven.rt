@@ -1,7 +1,7 @@
 // How the run of a script ends.
 use crate::line::BadKind;
-use crate::lines::ReadError;
 use bosh_ports::WriteFault;
+use line_reader::ReadError;
 use std::alloc::AllocError;
 
 /// How a script ended.

@@ -7,13 +7,9 @@ use crate::text::push_numbers;
 use bosh_types::{Closing, Condition, Ending, Rid};
 use std::alloc::{AllocError, Global};
 
-// Puts an ending with its numbers at the end.
+/// Puts an ending with its numbers at the end of a text.
 #[tactic(auto, unfolding(crate::specs::Report::ending_text))]
-pub(crate) fn push_ending(
-    alloc: Global,
-    text: &mut Vec<u8>,
-    ending: Ending,
-) -> Result<(), AllocError>
+pub fn push_ending(alloc: Global, text: &mut Vec<u8>, ending: Ending) -> Result<(), AllocError>
     ensures { OnOk result (text.new.items ≡ text.old.items ++ ending_text ending) }
 {
     match ending {

@@ -12,7 +12,6 @@ mod event;
 mod hosts;
 mod laws;
 mod line;
-mod lines;
 mod live;
 mod manager;
 mod report;
@@ -23,6 +22,8 @@ mod words;
 
 pub use drive::run_drive;
 pub use driven::{DriveError, Driven};
+pub use ending::push_ending;
 pub use laws::reports_tell_of_sessions;
-pub use line::{BadKind, LineRead, ScriptLine, read_line};
-pub use report::{ReportLine, print_line};
+pub use line::{BadKind, LineRead, ScriptLine, read_closing, read_line, split_word};
+pub use report::{ReportLine, kind_name, print_line, push_inward};
+pub use text::push_number;

@@ -29,6 +29,8 @@ pub enum BadKind {
     Connection,
     /// It names a session that no creation was given.
     Session,
+    /// It brings a copy that was never made, or an answer that was never written: in scripts of two ends alone.
+    Copy,
 }
 
 /// A line of a script.
@@ -273,9 +275,9 @@ fn read_shut(alloc: Global, rest: Option<&[u8]>) -> Result<LineRead, AllocError>
     Ok(LineRead::Line(ScriptLine::Shut { sid, closing }))
 }
 
-// The word for a closing of the server.
+/// The closing that the word names: `plain`, or a condition of RFC 6120, section 4.9.3.
 #[tactic(auto, unfolding(crate::specs::Line::closing_of))]
-fn read_closing(word: &[u8]) -> Option<Closing>
+pub fn read_closing(word: &[u8]) -> Option<Closing>
     ensures { result ≡ closing_of word.now }
 {
     if word == b"plain".as_slice() {
@@ -293,8 +295,8 @@ fn read_closing(word: &[u8]) -> Option<Closing>
     None
 }
 
-// The first word, and what follows the space after it.
-pub(crate) fn split_word(text: &[u8]) -> (&[u8], Option<&[u8]>)
+/// The first word, and what follows the space after it, if there is one.
+pub fn split_word(text: &[u8]) -> (&[u8], Option<&[u8]>)
     ensures word { result.0.now ≡ word_of text.now }
     ensures rest { option_copied result.1 ≡ rest_of text.now }
 {

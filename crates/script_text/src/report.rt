@@ -71,8 +71,8 @@ fn print_in(alloc: Global, session: u32, item: &Inward) -> Result<Vec<u8>, Alloc
     Ok(text)
 }
 
-// Puts what goes inward at the end.
-fn push_inward(alloc: Global, text: &mut Vec<u8>, item: &Inward) -> Result<(), AllocError>
+/// Puts what goes inward, on its stream, at the end of a text.
+pub fn push_inward(alloc: Global, text: &mut Vec<u8>, item: &Inward) -> Result<(), AllocError>
     ensures { OnOk result (text.new.items ≡ text.old.items ++ inward_text item.now) }
 {
     match item {
@@ -169,7 +169,8 @@ fn print_bad(alloc: Global, line: u64, kind: BadKind) -> Result<Vec<u8>, AllocEr
     Ok(text)
 }
 
-fn kind_name(kind: BadKind) -> &'static str
+/// The word for a kind of bad line.
+pub fn kind_name(kind: BadKind) -> &'static str
     ensures { result.now ≡ kind_text kind }
 {
     match kind {
@@ -180,5 +181,6 @@ fn kind_name(kind: BadKind) -> &'static str
         BadKind::Time => "time",
         BadKind::Connection => "connection",
         BadKind::Session => "session",
+        BadKind::Copy => "copy",
     }
 }

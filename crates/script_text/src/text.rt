@@ -5,8 +5,8 @@ ghost use Rattle.script_text.specs.Report.{numbers_text};
 
 use std::alloc::{AllocError, Global};
 
-// Puts a number at the end, in plain decimal.
-pub(crate) fn push_number(alloc: Global, text: &mut Vec<u8>, number: u64) -> Result<(), AllocError>
+/// Puts a number in plain decimal at the end of a text.
+pub fn push_number(alloc: Global, text: &mut Vec<u8>, number: u64) -> Result<(), AllocError>
     ensures { OnOk result (text.new.items ≡ text.old.items ++ decimal number) }
 {
     let digits = number.to_string(alloc)?;

@@ -1,0 +1,153 @@
+-- A copy of a request comes to a manager.
+use Rattle.std.proofs.Common.{◌≡◌, ℕ, ◌+◌, ◌-◌, ◌<◌, ◌≤◌, true, false, List, [], ◌∷◌, Option, Some, None, length, map, slice_get, refl, sym, ◌∙◌, ap, subst, arith, cond, ◌==◌, inl, inr}
+use Rattle.std.specs.Prelude.{IsTrue, is_some}
+use Rattle.std.specs.Option.{option_map}
+use Rattle.std.proofs.lemmas.Bool.{cases_lt}
+use Rattle.std.proofs.lemmas.Bool.Decides.{nat_tests}
+use Rattle.std.proofs.lemmas.List.{length-map}
+use Rattle.std.proofs.lemmas.Option.{slice_get-map, slice_get_past}
+use Rattle.bosh_types.specs.ById.{at_id}
+use Rattle.bosh_types.specs.declared.terms.Terms.{Terms}
+use Rattle.session_attrs.specs.declared.request.Creation.{Creation}
+use Rattle.session_attrs.specs.declared.request.Kind.{Kind}
+use Rattle.session_attrs.specs.declared.request.Kind.TheVariants as kinds
+use Rattle.session_attrs.specs.declared.request.Request.{Request}
+use Rattle.session_core.specs.Journal.{Arrive, IsReadFrom}
+use Rattle.session_journal.specs.Entries.{request_in}
+use Rattle.bosh_client.specs.declared.client.Client.{Client}
+use Rattle.bosh_client.specs.PlainClient.{Made, PlainClient, bytes_of, id_of}
+use Rattle.bosh_client.specs.StandsFor.{AreFrom, StandsFor}
+use Rattle.world_laws.specs.declared.seen.SeenItem.{SeenItem}
+use Rattle.world_laws.specs.declared.seen.SeenItem.TheVariants as seen
+use Rattle.world_laws.specs.Manager.{PlainManager, arrives, opens}
+use Rattle.world_laws.specs.Sound.{sent_of}
+use Rattle.world_laws.specs.Steps.{carried, carries, carries_to, comes, opening, turns}
+use Rattle.world_laws.specs.World.{PlainWorld}
+use Rattle.world_laws.proofs.InwardLemmas.{id_at}
+use Rattle.world_laws.proofs.PlaceLemmas.{AreNumbered, at_place, past_place}
+use Rattle.two_ends.specs.declared.manager.Manager.{Manager}
+use Rattle.two_ends.specs.declared.manager.Turned.{Turned}
+use Rattle.two_ends.specs.declared.world.Stepped.{Stepped}
+use Rattle.two_ends.specs.declared.world.World.{World}
+use Rattle.two_ends.specs.Copies.{creation_in}
+use Rattle.two_ends.specs.Stands.{IsManager, IsTurn}
+use Rattle.two_ends.specs.Worlds.{IsEnd, IsPlain, IsPlainStep, IsRest}
+use Rattle.two_ends.proofs.EndLemmas.{has_manager, no_manager, rest_without}
+
+-- Where a copy stands.
+
+pub client_ids : (client : Client) (c : PlainClient) → StandsFor client c → AreFrom c.setup.first c.requests
+unfolding StandsFor
+client_ids client c is = (is.requests).ids
+
+module _ (c : PlainClient) (ids : AreFrom c.setup.first c.requests) where
+  numbered : AreNumbered sent_of c.setup.first c.requests
+  numbered k request is = id_at c.setup.first c.requests k request ids is
+
+  at_its_place : (place : ℕ) → at_id (map sent_of c.requests) (c.setup.first + place) ≡ slice_get (map bytes_of c.requests) place
+  at_its_place place = by (slice_get c.requests place) refl
+    where
+      by : (o : Option Made) → slice_get c.requests place ≡ o → at_id (map sent_of c.requests) (c.setup.first + place) ≡ slice_get (map bytes_of c.requests) place
+      by None is = past_place sent_of c.setup.first c.requests numbered place is ∙ sym (slice_get-map bytes_of c.requests place ∙ ap (option_map bytes_of) is)
+      by (Some request) is =
+          at_place sent_of c.setup.first c.requests numbered place request is ∙ sym (slice_get-map bytes_of c.requests place ∙ ap (option_map bytes_of) is)
+
+none_before : (first rid : ℕ) (requests : List Made) → AreFrom first requests → rid < first → at_id (map sent_of requests) rid ≡ None
+none_before first rid [] ids before = refl
+none_before first rid (request ∷ requests) ids before =
+    elsewhere (id_of request) rid (bytes_of request) (at_id (map sent_of requests) rid) (omega (arith, ids.0, before)) ∙ none_before (first + 1) rid requests ids.1 (omega (arith, before))
+  where
+    elsewhere : (id rid : ℕ) (x : List ℕ) (rest : Option (List ℕ)) → rid < id → cond (id == rid) (Some x) rest ≡ rest
+    elsewhere id rid x rest lower = grind (arith, nat_tests)
+
+none_elsewhere : (c : PlainClient) (ids : AreFrom c.setup.first c.requests) (rid : ℕ) → (c.setup.first ≤ rid → c.setup.first + length c.requests ≤ rid) → at_id (map sent_of c.requests) rid ≡ None
+none_elsewhere c ids rid past = elim (cases_lt rid c.setup.first) [
+  | inl before ↦ none_before c.setup.first rid c.requests ids before
+  | inr within ↦
+      let place : ℕ = rid - c.setup.first in
+      let same : c.setup.first + place ≡ rid = omega (arith, within) in
+      ap (at_id (map sent_of c.requests)) (sym same)
+      ∙ past_place sent_of c.setup.first c.requests (numbered c ids) place (slice_get_past c.requests place (omega (arith, past within, within)))
+]
+
+pub sent_at : (world : World) (w : PlainWorld) → IsRest world w → (rid place : ℕ) → rid ≡ world.first + place → at_id w.sent rid ≡ slice_get world.sent.items place
+sent_at world w is rid place there =
+    ap (λ (l : List (ℕ × List ℕ)). at_id l rid) is.network_is
+    ∙ ap (at_id (map sent_of w.client.requests)) (there ∙ ap (λ (n : ℕ). n + place) is.first_is)
+    ∙ at_its_place w.client (client_ids world.client w.client is.client) place
+    ∙ ap (λ (l : List (List ℕ)). slice_get l place) (sym is.sent_are)
+
+pub none_sent : (world : World) (w : PlainWorld) → IsRest world w → (rid : ℕ) → (world.first ≤ rid → world.first + length world.sent.items ≤ rid) → at_id w.sent rid ≡ None
+none_sent world w is rid past =
+    let count : length world.sent.items ≡ length w.client.requests = ap length is.sent_are ∙ length-map w.client.requests bytes_of in
+    ap (λ (l : List (ℕ × List ℕ)). at_id l rid) is.network_is
+    ∙ none_elsewhere w.client (client_ids world.client w.client is.client) rid
+    (λ within. subst (λ (n : ℕ). n ≤ rid) (ap (λ (n : ℕ). n + length world.sent.items) is.first_is ∙ ap (λ (n : ℕ). w.client.setup.first + n) count) (past (subst (λ (n : ℕ). n ≤ rid) (sym is.first_is) within)))
+
+-- What a copy does.
+
+-- nothing but this is seen, and the world is as before
+pub kept_step : (world : World) (w : PlainWorld) → IsPlain world w → (items : List SeenItem) (stepped : Stepped) → (stepped.seen ≡ items) × (stepped.world ≡ world)
+    → IsPlainStep stepped (record { seen = items; after = w })
+kept_step world w is items stepped it = record { seen_is = it.0; world_is = subst (λ (v : World). IsPlain v w) (sym it.1) is }
+
+pub carry_some : (world : World) (w : PlainWorld) → IsPlain world w → (rid place : ℕ) (body : List ℕ) → rid ≡ world.first + place → slice_get world.sent.items place ≡ Some body
+    → (stepped : Stepped) → IsPlainStep stepped (carried w body (request_in body)) → IsPlainStep stepped (carries w rid)
+carry_some world w is rid place body there found stepped step =
+    subst (λ o. IsPlainStep stepped (carries_to w o)) (sym (sent_at world w is.rest rid place there ∙ found)) step
+
+pub carry_none : (world : World) (w : PlainWorld) → IsPlain world w → (rid : ℕ) → (world.first ≤ rid → world.first + length world.sent.items ≤ rid)
+    → (stepped : Stepped) → (stepped.seen ≡ seen.NoCopy ∷ []) × (stepped.world ≡ world) → IsPlainStep stepped (carries w rid)
+carry_none world w is rid past stepped it =
+    subst (λ o. IsPlainStep stepped (carries_to w o)) (sym (none_sent world w is.rest rid past)) (kept_step world w is (seen.NoCopy ∷ []) stepped it)
+
+pub creation_is : (kind : Kind) (creation : Creation) → creation_in kind ≡ Some creation → kind ≡ kinds.Creation creation
+creation_is (kinds.Creation other) creation is = cc
+creation_is (kinds.Later sid) creation is = absurd (cc)
+
+pub later_is : (kind : Kind) → creation_in kind ≡ None → (sid : List ℕ) × (kind ≡ kinds.Later sid)
+later_is (kinds.Creation other) is = absurd (cc)
+later_is (kinds.Later sid) is = (sid, refl)
+
+pub dup_step : (world : World) (w : PlainWorld) → IsPlain world w → (body : List ℕ) (request : Request) (creation : Creation) → is_some world.manager ≡ true
+    → (stepped : Stepped) → (stepped.seen ≡ seen.Dup request.rid ∷ []) × (stepped.world ≡ world) → IsPlainStep stepped (comes w body request (kinds.Creation creation) w.manager)
+dup_step world w is body request creation some stepped it = by world.manager w.manager some is.end
+  where
+    by : (end : Option Manager) (o : Option PlainManager) → is_some end ≡ true → IsEnd end o → IsPlainStep stepped (comes w body request (kinds.Creation creation) o)
+    by None o some is_end = absurd (cc)
+    by (Some manager) None some is_end = absurd is_end
+    by (Some manager) (Some m) some is_end = kept_step world w is (seen.Dup request.rid ∷ []) stepped it
+
+pub first_step : (world : World) (w : PlainWorld) → IsPlain world w → (body : List ℕ) (request : Request) (creation : Creation) → is_some world.manager ≡ false
+    → (stepped : Stepped) → IsPlainStep stepped (turns w [] (opens (opening w request body creation))) → IsPlainStep stepped (comes w body request (kinds.Creation creation) w.manager)
+first_step world w is body request creation none stepped step = by world.manager w.manager none is.end
+  where
+    by : (end : Option Manager) (o : Option PlainManager) → is_some end ≡ false → IsEnd end o → IsPlainStep stepped (comes w body request (kinds.Creation creation) o)
+    by None None none is_end = step
+    by None (Some m) none is_end = absurd is_end
+    by (Some manager) o none is_end = absurd (cc)
+
+-- before the creation came a copy is lost
+pub lost_step : (world : World) (w : PlainWorld) → IsPlain world w → (left : Option Manager) (body sid : List ℕ) (request : Request) → request.kind ≡ kinds.Later sid → world.manager ≡ None → left ≡ None
+    → (items : List SeenItem) → items ≡ [] → (stepped : Stepped) → (stepped.seen ≡ items) × (stepped.world ≡ record world { manager = left }) → IsPlainStep stepped (comes w body request request.kind w.manager)
+lost_step world w is left body sid request kind has out items none stepped it =
+    let absent = no_manager world.manager w.manager has is.end in
+    subst (λ k. IsPlainStep stepped (comes w body request k w.manager)) (sym kind)
+    (subst (λ o. IsPlainStep stepped (comes w body request (kinds.Later sid) o)) (sym absent)
+    (record {
+      seen_is = it.0 ∙ none;
+      world_is = subst (λ v. IsPlain v w) (sym it.1)
+          (record { rest = rest_without world w left is.rest; end = subst (λ o. IsEnd o w.manager) (sym out) (subst (λ o. IsEnd None o) (sym absent) tt) });
+    }))
+
+pub arrive_step : (world : World) (w : PlainWorld) → IsPlain world w → (manager : Manager) (body sid : List ℕ) (request : Request) → request.kind ≡ kinds.Later sid → world.manager ≡ Some manager
+    → (turned : Turned) → ((m : PlainManager) → IsManager manager m → IsTurn turned (arrives m request body world.moment))
+    → (first : List SeenItem) → first ≡ [] → (stepped : Stepped) → ((turn : _) → IsTurn turned turn → IsPlainStep stepped (turns w first turn))
+    → IsPlainStep stepped (comes w body request request.kind w.manager)
+arrive_step world w is manager body sid request kind has turned call first none stepped step =
+    let there = has_manager world.manager manager w.manager has is.end in
+    let m = there.plain in
+    subst (λ k. IsPlainStep stepped (comes w body request k w.manager)) (sym kind)
+    (subst (λ o. IsPlainStep stepped (comes w body request (kinds.Later sid) o)) (sym there.is)
+    (subst (λ items. IsPlainStep stepped (turns w items (arrives m request body w.moment))) none
+    (step (arrives m request body w.moment) (subst (λ (n : ℕ). IsTurn turned (arrives m request body n)) is.rest.moment_is (call m there.stands)))))

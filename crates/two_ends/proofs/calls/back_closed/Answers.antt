@@ -1,0 +1,10 @@
+use Rattle.std.proofs.Common.{ap}
+use Rattle.session_journal.specs.Calls.{reply_in}
+use Rattle.two_ends.proofs.CallLemmas.{closed_at}
+use Rattle.two_ends.proofs.calls.back_closed.Goals as goal
+
+pub returns-in-Back : goal.returns-in-Back
+returns-in-Back c = λ journal is. closed_at _ _ journal is _ c.unnamed-stream.ensures _ _ _ _ (ap reply_in c.in-Back.is) c.in_ok-taken.ensures.step
+
+pub returns-in-BackClosed : goal.returns-in-BackClosed
+returns-in-BackClosed c = λ journal is. closed_at _ _ journal is _ c.unnamed-stream.ensures _ _ _ _ (ap reply_in c.in-BackClosed.is) c.in_ok-taken.ensures.step

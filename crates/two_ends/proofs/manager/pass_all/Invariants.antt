@@ -1,0 +1,12 @@
+use Rattle.session_core.specs.Journal.{Journal}
+use Rattle.session_journal.specs.Stored.{IsJournalOf}
+use Rattle.two_ends.specs.Stands.{left_in}
+use Rattle.two_ends.proofs.TakingLemmas.{TakesOn}
+use Rattle.two_ends.proofs.manager.pass_all.Given as goal
+
+-- what was told, and what is left to tell, is all that goes inward
+abbrev pub invariant-loop-item : goal.invariant-loop-item
+invariant-loop-item l = (journal : Journal) → IsJournalOf l.fn.session journal → TakesOn l.session l.told.items l.fn.told.items journal
+
+abbrev pub decreases-loop-item : goal.decreases-loop-item
+decreases-loop-item l = left_in l.session

@@ -1,0 +1,12 @@
+use Rattle.std.proofs.Common.{◌∙◌, sym}
+use Rattle.two_ends.proofs.CopyLemmas.{dup_step, first_step}
+use Rattle.two_ends.proofs.TurnLemmas.{IfOk-from}
+use Rattle.two_ends.proofs.world.World.come_first.Goals as goal
+
+pub returns-then-is_some : goal.returns-then-is_some
+returns-then-is_some c = IfOk-from c.only.result _ _ (λ stepped it w is.
+    dup_step c.args.self w is c.args.body c.args.request c.args.creation (sym c.is_some.ensures ∙ c.if-is_some.true) stepped it) c.only.ensures
+
+pub returns : goal.returns
+returns c = IfOk-from c.create.result _ _ (λ stepped it w is.
+    first_step c.args.self w is c.args.body c.args.request c.args.creation (sym c.is_some.ensures ∙ c.if-is_some.false) stepped (it w is)) c.create.ensures

@@ -1,0 +1,152 @@
+// A copy of a request comes.
+ghost use Rattle.std.specs.Prelude.{◌≡◌, ◌+◌, ◌<◌, ◌≤◌, ℕ, [], IfOk, IfSome, List, None, Some, length, slice_get};
+ghost use Rattle.session_attrs.specs.declared.request.Kind.TheVariants as kinds;
+ghost use Rattle.session_journal.specs.Entries.{request_in};
+ghost use Rattle.two_ends.specs.Copies.{creation_in};
+ghost use Rattle.two_ends.specs.Worlds.{IsPlain, IsPlainStep};
+ghost use Rattle.world_laws.specs.Manager.{opens};
+ghost use Rattle.world_laws.specs.Steps.{carried, carries, comes, opening, turns};
+ghost use Rattle.world_laws.specs.World.{PlainWorld};
+
+use crate::manager::Manager;
+use crate::reading::request_in;
+use crate::world::{Stepped, World};
+use bosh_types::{Rid, SharedText};
+use session_attrs::{Creation, Kind, Request, negotiate};
+use session_journal::Journalled;
+use std::alloc::{AllocError, Global};
+use world_laws::SeenItem;
+
+impl World {
+    // A copy of the request with this id comes, where it was made.
+    pub(crate) fn carry(self, alloc: Global, rid: Rid) -> Result<Stepped, AllocError>
+        ensures { IfOk result (λ stepped. (w : PlainWorld) → IsPlain self w → IsPlainStep stepped (carries w rid)) }
+    {
+        match place_in(self.first, rid, self.sent.as_slice()) {
+            Some(place) => {
+                let body = body_at(self.sent.as_slice(), place).again()?;
+                self.carried(alloc, body)
+            }
+            None => self.only(alloc, SeenItem::NoCopy),
+        }
+    }
+
+    // A copy with this body comes, which is a request by the laws of the client; another text would be lost.
+    fn carried(self, alloc: Global, body: SharedText) -> Result<Stepped, AllocError>
+        ensures { IfOk result (λ stepped. (w : PlainWorld) → IsPlain self w → IsPlainStep stepped (carried w body (request_in body))) }
+    {
+        match request_in(alloc, body.as_slice())? {
+            Some(request) => self.come(alloc, body, request),
+            None => Ok(self.saw(Vec::new(alloc))),
+        }
+    }
+
+    // It comes to the session, or creates it.
+    fn come(self, alloc: Global, body: SharedText, request: Request) -> Result<Stepped, AllocError>
+        requires { request_in body ≡ Some request }
+        ensures { IfOk result (λ stepped. (w : PlainWorld) → IsPlain self w → IsPlainStep stepped (comes w body request request.kind w.manager)) }
+    {
+        match creation_in(&request.kind) {
+            Some(creation) => self.come_first(alloc, body, request, creation),
+            None => self.come_later(alloc, body, request),
+        }
+    }
+
+    // The first creation opens the session, and changes nothing again.
+    fn come_first(
+        self,
+        alloc: Global,
+        body: SharedText,
+        request: Request,
+        creation: Creation,
+    ) -> Result<Stepped, AllocError>
+        requires read { request_in body ≡ Some request }
+        requires kind { request.kind ≡ kinds.Creation creation }
+        ensures { IfOk result (λ stepped. (w : PlainWorld) → IsPlain self w → IsPlainStep stepped (comes w body request (kinds.Creation creation) w.manager)) }
+    {
+        let rid = request.rid;
+        if self.manager.is_some() {
+            return self.only(alloc, SeenItem::Dup { rid });
+        }
+        self.create(alloc, body, request, creation)
+    }
+
+    // The session is created, and answered at once.
+    fn create(
+        self,
+        alloc: Global,
+        body: SharedText,
+        request: Request,
+        creation: Creation,
+    ) -> Result<Stepped, AllocError>
+        requires read { request_in body ≡ Some request }
+        requires kind { request.kind ≡ kinds.Creation creation }
+        ensures { IfOk result (λ stepped. (w : PlainWorld) → IsPlain self w → IsPlainStep stepped (turns w [] (opens (opening w request body creation)))) }
+    {
+        let (session, answer) = Journalled::open(
+            alloc,
+            &request,
+            body.as_slice(),
+            negotiate(&creation),
+            b"s1",
+            self.site.host.as_slice(),
+            &self.site.greeting,
+            self.moment,
+            0,
+        )?;
+        let turned = Manager::open(alloc, session, request.rid, answer)?;
+        self.turned(Vec::new(alloc), turned)
+    }
+
+    // A copy of a later request comes to the session; before the creation came it is lost.
+    fn come_later(
+        mut self,
+        alloc: Global,
+        body: SharedText,
+        request: Request,
+    ) -> Result<Stepped, AllocError>
+        requires read { request_in body ≡ Some request }
+        requires kind { (sid : List ℕ) × (request.kind ≡ kinds.Later sid) }
+        ensures { IfOk result (λ stepped. (w : PlainWorld) → IsPlain self w → IsPlainStep stepped (comes w body request request.kind w.manager)) }
+    {
+        match self.manager.take() {
+            Some(manager) => {
+                let turned = manager.arrive(alloc, request, body, self.moment)?;
+                self.turned(Vec::new(alloc), turned)
+            }
+            None => Ok(self.saw(Vec::new(alloc))),
+        }
+    }
+}
+
+// What a request that creates a session asks for.
+fn creation_in(kind: &Kind) -> Option<Creation>
+    ensures { result ≡ creation_in kind.now }
+{
+    match kind {
+        Kind::Creation(creation) => Some(*creation),
+        Kind::Later { .. } => None,
+    }
+}
+
+// The place of the request with this id among these, which go on by one from the first.
+fn place_in(first: Rid, rid: Rid, sent: &[SharedText]) -> Option<usize>
+    ensures some { IfSome result (λ place. (rid ≡ first + place) × (place < length sent.now)) }
+    ensures none { result ≡ None → first ≤ rid → first + length sent.now ≤ rid }
+{
+    if rid.value() < first.value() {
+        return None;
+    }
+    let place = rid.value() - first.value();
+    if place >= sent.len() as u64 {
+        return None;
+    }
+    Some(place as usize)
+}
+
+fn body_at(sent: &[SharedText], place: usize) -> &SharedText
+    requires { place < length sent.now }
+    ensures { slice_get sent.now place ≡ Some result.now }
+{
+    &sent[place]
+}

@@ -1,0 +1,99 @@
+// Events happen in a world.
+ghost use Rattle.std.specs.Prelude.{◌≡◌, All, IfOk, List, ℕ};
+ghost use Rattle.bosh_client.specs.declared.setup.ClientSetup.{ClientSetup};
+ghost use Rattle.two_ends.specs.Summed.{given_now};
+ghost use Rattle.two_ends.specs.Worlds.{IsPlain, IsPlainStep, IsRun, IsStep, IsWorld, ShowsBothPrefixes};
+ghost use Rattle.world_laws.specs.Promises.{all_seen};
+ghost use Rattle.world_laws.specs.Setup.{IsAllowed, IsWorldSetup};
+ghost use Rattle.world_laws.specs.Steps.{after, step};
+ghost use Rattle.world_laws.specs.World.{PlainWorld, new_world};
+
+use crate::laws::events_are_counted;
+use crate::sums::{given_by, put_by};
+use crate::world::{Stepped, World};
+use bosh_types::Row;
+use std::alloc::{AllocError, Global};
+use world_laws::{Report, WorldEvent, every_world_keeps_both_prefixes};
+
+/// What is seen of events, and the world after them.
+#[derive(Drop)]
+pub struct Ran {
+    pub report: Report,
+    pub world: World,
+}
+
+impl World {
+    /// Events happen one after the other. Where the world was new, what was seen to be passed on to the server is a beginning
+    /// of what the client made, and what was seen to be handed out a beginning of what the server gave. The only error is want
+    /// of memory.
+    pub fn run(self, alloc: Global, events: Vec<WorldEvent>) -> Result<Ran, AllocError>
+        requires { All IsAllowed events.items }
+        ensures run { IfOk result (λ ran. (w : PlainWorld) → IsWorld self w → IsRun ran w events.items) }
+        ensures prefixes { IfOk result (λ ran. (host : List ℕ) (greeting : List (List ℕ)) (setup : ClientSetup) → IsWorldSetup host greeting setup
+            → IsWorld self (new_world host greeting setup) → ShowsBothPrefixes (after (new_world host greeting setup) events.items) (all_seen ran.report)) }
+    {
+        every_world_keeps_both_prefixes();
+        let mut world = self;
+        let mut report = Vec::new(alloc);
+        for event in events {
+            let stepped = world.step(alloc, event)?;
+            report.push(stepped.seen)?;
+            world = stepped.world;
+        }
+        Ok(Ran {
+            report: Row::from_vec(report),
+            world,
+        })
+    }
+
+    /// An event happens. The only error is want of memory.
+    pub fn step(self, alloc: Global, event: WorldEvent) -> Result<Stepped, AllocError>
+        requires { IsAllowed event }
+        ensures { IfOk result (λ stepped. (w : PlainWorld) → IsWorld self w → IsStep stepped (step w event)) }
+    {
+        events_are_counted();
+        let sums = self.sums;
+        let put = put_by(&event);
+        let given = given_by(&event);
+        let was_open = self.manager.is_some();
+        let greeting = self.site.greeting.len() as u64;
+        let stepped = self.happen(alloc, event)?;
+        let Stepped { seen, mut world } = stepped;
+        let is_open = world.manager.is_some();
+        let given = given_since(was_open, is_open, greeting, given);
+        world.sums = sums.after(put, given, seen.as_slice());
+        Ok(Stepped { seen, world })
+    }
+
+    // It happens, and nothing is counted.
+    fn happen(self, alloc: Global, event: WorldEvent) -> Result<Stepped, AllocError>
+        requires { IsAllowed event }
+        ensures { IfOk result (λ stepped. (w : PlainWorld) → IsPlain self w → IsPlainStep stepped (step w event)) }
+    {
+        match event {
+            WorldEvent::At(moment) => self.at(alloc, moment),
+            WorldEvent::Put(stanza) => self.put(alloc, stanza),
+            WorldEvent::Restart => self.restart(alloc),
+            WorldEvent::Pause(seconds) => self.pause(alloc, seconds),
+            WorldEvent::Stop => self.stop(alloc),
+            WorldEvent::Send => self.send(alloc),
+            WorldEvent::Carry(rid) => self.carry(alloc, rid),
+            WorldEvent::Give(stanza) => self.give(alloc, stanza),
+            WorldEvent::Shut(closing) => self.shut(alloc, closing),
+            WorldEvent::Return(number) => self.answer(alloc, number),
+        }
+    }
+}
+
+// How many stanzas the server gave: the greeting, where the session was created.
+fn given_since(was_open: bool, is_open: bool, greeting: u64, given: u64) -> u64
+    ensures { result ≡ given_now was_open is_open greeting given }
+{
+    if was_open {
+        return given;
+    }
+    if is_open {
+        return greeting;
+    }
+    given
+}
