@@ -1,6 +1,11 @@
+pub mod AddingLemmas
 pub mod EndLemmas
 pub mod HandingLemmas
 pub mod HistoryLemmas
+pub mod InputLemmas
 pub mod LineLemmas
 pub mod MoveLemmas
 pub mod RiseLemmas
+pub mod TalkLemmas
+pub mod TurnLemmas
+pub mod WorkAdds

@@ -1,7 +1,11 @@
+pub mod Adding
 pub mod Asking
 pub mod Calls
 pub mod Handing
 pub mod History
+pub mod Input
 pub mod Lines
+pub mod Queueing
+pub mod Talking
 pub mod Worked
 pub mod Working

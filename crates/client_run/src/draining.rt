@@ -3,6 +3,7 @@ ghost use Rattle.std.specs.Prelude.{◌≡◌, ◌≤◌, ◌≢◌, ℕ, List, 
 ghost use Rattle.bosh_ports.specs.Faults.{HasRisen};
 ghost use Rattle.bosh_ports.specs.Sink.{GivesAll};
 ghost use Rattle.parked_gate.specs.Passes.{IsPassOf, known};
+ghost use Rattle.client_run.specs.Adding.{AddsOnly, is_hand_out};
 ghost use Rattle.client_run.specs.Handing.{Drains, HandsOut, line_of, out_of};
 
 use crate::call::{Call, Reply};
@@ -25,6 +26,26 @@ pub enum Written {
 /// Writes all that the client hands out, each stanza as a line, one before the next is asked for. The only error is want of
 /// memory.
 pub fn drain<R: Wait, K: Sink>(
+    rt: &R,
+    gate: &Gate<ClientObject>,
+    pass: &mut Pass<ClientObject>,
+    sink: &mut K,
+) -> Result<Written, AllocError>
+    requires { IsPassOf gate.now pass.old }
+    ensures pass { IsPassOf gate.now pass.new }
+    ensures drains { Drains (out_of (known pass.old) (K.given sink.old)) (out_of (known pass.new) (K.given sink.new)) result }
+    ensures fault { result ≡ Ok Written.WriteFault → HasRisen (K.faults sink.old) (K.faults sink.new) }
+    ensures counts { result ≢ Ok Written.WriteFault → K.faults sink.new ≡ K.faults sink.old }
+    ensures faults { K.faults sink.old ≤ K.faults sink.new }
+
+    // What it added to its own entries is what it handed out.
+    ensures adds { AddsOnly is_hand_out (known pass.old) (known pass.new) }
+{
+    write_out(rt, gate, pass, sink)
+}
+
+// The same, said by what was handed out alone.
+fn write_out<R: Wait, K: Sink>(
     rt: &R,
     gate: &Gate<ClientObject>,
     pass: &mut Pass<ClientObject>,

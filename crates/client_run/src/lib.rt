@@ -10,7 +10,9 @@ mod entry;
 mod fault;
 mod line;
 mod object;
+mod queueing;
 mod site;
+mod talking;
 #[cfg(test)]
 mod tests;
 mod worked;
@@ -21,5 +23,6 @@ pub use draining::{Written, drain};
 pub use entry::{Entered, Entry};
 pub use object::ClientObject;
 pub use site::Site;
+pub use talking::{Talked, talk};
 pub use worked::Worked;
 pub use working::work;

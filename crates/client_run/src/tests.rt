@@ -14,6 +14,8 @@ use std::alloc::{AllocError, Global};
 use std::sync::Wait;
 use std::test::Fail;
 
+mod talks;
+
 /// A client that begins with the id 1000, and lets requests be held so long.
 fn object(alloc: Global, wait: u32) -> Result<ClientObject, &'static str>
     ensures { IfOk result (λ object. (setup : ClientSetup) × (object ≡ first_entry setup ∷ [])) }

@@ -4,6 +4,7 @@ ghost use Rattle.std.specs.Option.{option_map};
 ghost use Rattle.bosh_ports.specs.Faults.{HasRisen};
 ghost use Rattle.parked_gate.specs.Passes.{IsPassOf, Known, known};
 ghost use Rattle.client_run.specs.declared.entry.Entry.{Entry};
+ghost use Rattle.client_run.specs.Adding.{AddsOnly, is_of_worker};
 ghost use Rattle.client_run.specs.Worked.{FirstBy, Works, ended_by, failed_by, is_end, is_fault};
 ghost use Rattle.client_run.specs.Working.{Moves, Side, side_of, wire_of};
 
@@ -44,6 +45,9 @@ where
     ensures dialled { IfOk result (λ worked. is_end worked ≡ true → HasRisen (N.counts network.old).dialled (N.counts network.new).dialled) }
     ensures silent { IfOk result (λ worked. worked ≡ Worked.Silent → HasRisen (B.silences bell.old) (B.silences bell.new)) }
     ensures silences { B.silences bell.old ≤ B.silences bell.new }
+
+    // What it added to its own entries is requests and answers.
+    ensures adds { AddsOnly is_of_worker (known pass.old) (known pass.new) }
 {
     let first = match first_line(site.alloc, network, site.port) {
         Some(first) => first,

@@ -2,6 +2,9 @@ use Rattle.std.proofs.Common.{rules, refl, Some, None}
 use Rattle.bosh_ports.proofs.FaultLemmas.{HasRisen-after}
 use Rattle.parked_gate.specs.Passes.{known}
 use Rattle.client_run.specs.Working.{none, side_of, wire_of}
+use Rattle.client_run.specs.Adding.{is_of_worker}
+use Rattle.client_run.proofs.AddingLemmas.{adds_none}
+use Rattle.client_run.proofs.WorkAdds.{moves_add}
 use Rattle.client_run.proofs.RiseLemmas.{dialled_risen, moves_count, row_risen}
 use Rattle.client_run.proofs.EndLemmas.{ends_dialled, faults_rise}
 use Rattle.client_run.proofs.working.work.Goals as goal
@@ -41,3 +44,14 @@ returns-clause-dialled g c =
     ends_dialled c.serve-worked.result _ _
     (HasRisen-after start.counts.dialled mid.counts.dialled (g.N.Network.counts c.close.new.network).dialled (dialled_risen (g.C.Clock.moment c.args.site.now.clock.now) start mid first.1 refl (wire_of (g.N.Link.Link.left c.in-Some.first.link) (g.N.Link.Link.given c.in-Some.first.link) c.in-Some.first.reader) refl)
     (moves_count (g.C.Clock.moment c.args.site.now.clock.now) mid (side_of (known c.serve-worked.new.pass) (g.N.Network.events c.close.new.network) (g.N.Network.counts c.close.new.network) None served.hand served.row) later).dialled)
+
+pub returns-in-None-clause-adds : goal.returns-in-None-clause-adds
+returns-in-None-clause-adds g c = adds_none is_of_worker (known c.args.pass.now) (known c.args.pass.now) refl
+
+pub returns-clause-adds : goal.returns-clause-adds
+returns-clause-adds g c =
+    let start = side_of (known c.args.pass.now) (g.N.Network.events c.args.network.now) (g.N.Network.counts c.args.network.now) None None 0 in
+    let first = c.in-Some.ensures.dials (g.C.Clock.moment c.args.site.now.clock.now) start (known c.args.pass.now) None none in
+    let served = c.serve-worked.ensures.works start first.0 first.1 in
+    moves_add (g.C.Clock.moment c.args.site.now.clock.now) start (side_of (known c.serve-worked.new.pass) (g.N.Network.events c.close.new.network) (g.N.Network.counts c.close.new.network) None served.hand served.row)
+    (c.close.ensures.closes (g.C.Clock.moment c.args.site.now.clock.now) start (known c.serve-worked.new.pass) served.hand served.row served.moves)

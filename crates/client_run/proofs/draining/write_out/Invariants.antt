@@ -1,7 +1,7 @@
 use Rattle.std.proofs.Common.{◌≡◌}
 use Rattle.parked_gate.specs.Passes.{IsPassOf, known}
 use Rattle.client_run.specs.Handing.{Writes, out_of}
-use Rattle.client_run.proofs.draining.drain.Given as goal
+use Rattle.client_run.proofs.draining.write_out.Given as goal
 
 abbrev pub invariant-loop : goal.invariant-loop
 invariant-loop g l = record {
