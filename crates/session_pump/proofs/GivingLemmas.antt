@@ -1,5 +1,5 @@
 -- What becomes of what is given to a session, and moves with it.
-use Rattle.std.proofs.Common.{◌≡◌, ◌≢◌, ◌/◌, ◌+◌, ℕ, List, Option, Some, None, Result, Ok, Err, refl, sym, subst, ap, ◌∙◌, false, true≢false}
+use Rattle.std.proofs.Common.{◌≡◌, ◌≢◌, ◌/◌, ◌+◌, ℕ, List, length, Option, Some, None, Result, Ok, Err, refl, sym, subst, ap, ◌∙◌, false, true≢false}
 use Rattle.std.specs.Bool.{⊤}
 use Rattle.std.specs.Result.{IsErr}
 use Rattle.std.specs.declared.alloc.AllocError.{AllocError}
@@ -208,7 +208,7 @@ pub over_after : {moment : Option ℕ} {h i j : HostSide} → GiveMoves moment h
 over_after first (had_nothing told rest empty stays) = had_nothing told (gives_then first rest) empty stays
 over_after first (has_failed ends rest empty failed) = has_failed ends (gives_then first rest) empty failed
 over_after first (had_no_room full) = had_no_room (no_room_after first full)
-over_after first (gave_much times rest) = gave_much (times_after first times) rest
+over_after first (gave_much times rest empty) = gave_much (times_after first times) rest empty
 
 refuses_so : {moment : Option ℕ} {what : Given} {k m : Known Entry} → Refuses moment what k m → FindsNoRoom moment what k m
 refuses_so refuses = is_full refuses
@@ -257,11 +257,13 @@ ok_same x y is = cc
 
 -- the session answered that so much waits
 pub lacks_so : (number : ℕ) (a b : Sessions) (what : Given) (answer : Answer)
-    → (waiting : Waiting) × (answer ≡ answers.Load waiting None) × (has_room waiting what ≡ false)
+    → (waiting : Waiting) × (text : List ℕ) × (what ≡ given.Stanza text) × (answer ≡ answers.Load waiting None) × (has_room waiting (length text) ≡ false)
     → Turned number a b (Looks (λ log. Answers log questions.Load (Ok answer))) → Turned number a b (Looks (LacksRoom what))
 lacks_so number a b what answer found turned =
     turned_as number a b (Looks (λ log. Answers log questions.Load (Ok answer))) (Looks (LacksRoom what))
-    (λ k m looks. looks_as (λ log says. (found.0, subst (λ (x : Answer). Answers log questions.Load (Ok x)) found.1 says, found.2)) looks)
+    (λ k m looks. looks_as
+    (λ log says. subst (λ (x : Given). LacksRoom x log) (sym found.2) (found.0, subst (λ (x : Answer). Answers log questions.Load (Ok x)) found.3 says, found.4))
+    looks)
     turned
 
 -- there was no memory for it

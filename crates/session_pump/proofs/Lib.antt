@@ -4,3 +4,4 @@ mod PassingLemmas
 mod ServingLemmas
 mod GivingLemmas
 mod PlaceLemmas
+mod TurnLemmas

@@ -1,5 +1,5 @@
 -- Moves of the pump, one after the other.
-use Rattle.std.proofs.Common.{◌≡◌, ℕ, Option, Some, None, sym, ap, subst, ◌∙◌}
+use Rattle.std.proofs.Common.{◌≡◌, ◌≢◌, ℕ, Option, Some, None, sym, ap, subst, ◌∙◌}
 use Rattle.bosh_types.specs.declared.inward.Inward.{Inward}
 use Rattle.parked_gate.specs.Passes.{Known}
 use Rattle.session_journal.specs.declared.entry.Entry.{Entry}
@@ -46,9 +46,9 @@ passed_on {moment} {known} line e f item is kept changes =
     (one_move (passes item f.told is kept changes.told))
 
 -- the wire isn't open, and what is kept is let go
-pub let_go : {moment : Option ℕ} {known : Known Entry} (line : Line) (e : Ends) → (line.stage ≡ stages.Opened e.failures → ⊥)
+pub let_go : {moment : Option ℕ} {known : Known Entry} (line : Line) (e : Ends) → line.stage ≢ stages.Unopened → (line.stage ≡ stages.Opened e.failures → ⊥)
     → Moves moment (record { known = known; line = line; ends = e }) (record { known = known; line = record line { kept = None }; ends = e })
-let_go line e closed = one_move (lets_go closed)
+let_go line e opened closed = one_move (lets_go opened closed)
 
 -- the call did nothing for want of memory
 pub did_nothing : {moment : Option ℕ} {known : Known Entry} (line after : Line) (e f : Ends) → line ≡ after → Changes (λ told. told) e f

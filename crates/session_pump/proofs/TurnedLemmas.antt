@@ -7,7 +7,7 @@ use Rattle.session_table.specs.declared.handle.SessionHandle.{SessionHandle}
 use Rattle.session_table.specs.Handles.{IsOfSame}
 use Rattle.session_table.specs.Purses.{Sessions, Turned, held}
 
-some_same : {X : Type 0} (x y : X) → Some x ≡ Some y → x ≡ y
+pub some_same : {X : Type 0} (x y : X) → Some x ≡ Some y → x ≡ y
 some_same x y is = cc
 
 handle_of : (o : Option SessionHandle) → IsSome o → (x : SessionHandle) × (o ≡ Some x)

@@ -109,18 +109,14 @@ pub data GivesTimes (moment : Option ℕ) : ℕ → HostSide → HostSide → Ty
 abbrev pub GivesOnce : Option ℕ → HostSide → HostSide → Type 0
 GivesOnce moment h j = (i : HostSide) × GiveMoves moment h i × PollGave i j
 
--- the bytes of a stanza
-abbrev pub size_of : Given → ℕ
-size_of (given.Stanza text) = length text
-size_of (given.Closed closing) = 0
+-- whether a stanza of so many bytes may wait beside what waits
+abbrev pub has_room : Waiting → ℕ → Bool
+has_room waiting bytes = nat_lt waiting.items most_waiting && nat_le (waiting.bytes + bytes) waiting_bytes
 
--- whether what is given may wait beside what waits
-abbrev pub has_room : Waiting → Given → Bool
-has_room waiting what = nat_lt waiting.items most_waiting && nat_le (waiting.bytes + size_of what) waiting_bytes
-
--- the session hasn't ended, and so much waits in it that what is given has no room
+-- the session hasn't ended, and so much waits in it that the stanza has no room; for a closing there is always room
 abbrev pub LacksRoom : Given → List Entry → Type 0
-LacksRoom what log = (waiting : Waiting) × Answers log questions.Load (Ok (answers.Load waiting None)) × (has_room waiting what ≡ false)
+LacksRoom (given.Stanza text) log = (waiting : Waiting) × Answers log questions.Load (Ok (answers.Load waiting None)) × (has_room waiting (length text) ≡ false)
+LacksRoom (given.Closed closing) log = ⊥
 
 -- the session refused what is given, or was looked at and lacks room for it
 pub data FindsNoRoom (moment : Option ℕ) (what : Given) : Known Entry → Known Entry → Type 0 where
@@ -142,13 +138,14 @@ pub record HadNoRoom (moment : Option ℕ) (h j : HostSide) : Type 0 where
   pub is : j ≡ record before { kept = Some later; sessions = sessions }
 
 -- The polls of a host came to their end for this turn: after some moves its back end was polled and had nothing to give, or
--- failed, or a session had no room for what is kept; or it gave something as often as it is polled in a turn
+-- failed, or a session had no room for the stanza that is kept; or it gave something as often as it is polled in a turn, and all of
+-- that was given on
 pub data PollsOut (moment : Option ℕ) (h : HostSide) : HostSide → Type 0 where
   had_nothing : {i : HostSide} (told : Option Told) → GiveMoves moment h i → i.kept ≡ None → StaysAs i.ends.told told
       → PollsOut moment h (record i { ends = record i.ends { told = told; idle = counted_on i.ends.idle } })
   has_failed : {i : HostSide} (ends : Ends) → GiveMoves moment h i → i.kept ≡ None → HasFailed i.ends ends → PollsOut moment h (record i { ends = ends })
   had_no_room : {j : HostSide} → HadNoRoom moment h j → PollsOut moment h j
-  gave_much : {i j : HostSide} → GivesTimes moment most_polls h i → GiveMoves moment i j → PollsOut moment h j
+  gave_much : {i j : HostSide} → GivesTimes moment most_polls h i → GiveMoves moment i j → j.kept ≡ None → PollsOut moment h j
 
 -- they came to their end, or there was no memory
 abbrev pub PollsHost : Option ℕ → HostSide → HostSide → Result ⊤ AllocError → Type 0

@@ -11,7 +11,7 @@ use Rattle.session_journal.specs.declared.call.Reply.{Reply}
 use Rattle.session_journal.specs.declared.call.Reply.TheVariants as replies
 use Rattle.session_journal.specs.declared.entry.Entry.{Entry}
 use Rattle.session_journal.specs.Seen.{RepliesTo}
-use Rattle.xmpp_backend.specs.Told.{Told, Becomes, opened_too, passed_too, closed_too}
+use Rattle.xmpp_backend.specs.Told.{Told, Becomes, opened_too, passed_too}
 use Rattle.session_pump.specs.Ends.{Ends, HasFailed, StaysAs}
 use Rattle.session_pump.specs.declared.line.Line.{Line}
 use Rattle.session_pump.specs.declared.line.Stage.TheVariants as stages
@@ -39,7 +39,7 @@ abbrev pub IsAt : Option ℕ → ℕ → Type 0
 IsAt moment now = IfSome moment (λ told. now ≡ told)
 
 -- One move of the pump for a session. What is taken of the session is kept, and goes to the back end before more is taken;
--- where the wire isn't open it is let go. No move is made but these.
+-- where the wire was opened and is no more it is let go. No move is made but these.
 pub data Move (moment : Option ℕ) : Side → Side → Type 0 where
   ticks : {s : Side} (new : Known Entry) (now : ℕ) (result : Result Reply AllocError)
       → IsAt moment now → Called (calls.Tick now) result s.known new → Move moment s (record s { known = new })
@@ -53,11 +53,9 @@ pub data Move (moment : Option ℕ) : Side → Side → Type 0 where
   passes : {s : Side} (item : Inward) (told : Option Told) → IsOpen s → s.line.kept ≡ Some item
       → Becomes s.ends.told told (passed_too s.line.wire item)
       → Move moment s (record s { ends = record s.ends { told = told }; line = record s.line { kept = None } })
-  lets_go : {s : Side} → (IsOpen s → ⊥) → Move moment s (record s { line = record s.line { kept = None } })
+  lets_go : {s : Side} → s.line.stage ≢ stages.Unopened → (IsOpen s → ⊥) → Move moment s (record s { line = record s.line { kept = None } })
   opens : {s : Side} (told : Option Told) → s.line.stage ≡ stages.Unopened → Becomes s.ends.told told (opened_too s.line.wire)
       → Move moment s (record s { ends = record s.ends { told = told }; line = record s.line { stage = stages.Opened s.ends.failures } })
-  closes : {s : Side} (told : Option Told) → IsOpen s → Becomes s.ends.told told (closed_too s.line.wire)
-      → Move moment s (record s { ends = record s.ends { told = told }; line = record s.line { stage = stages.Lost } })
   fails : {s : Side} (ends : Ends) → HasFailed s.ends ends → Move moment s (record s { ends = ends })
   fails_at : {s : Side} (item : Inward) (ends : Ends) → IsOpen s → s.line.kept ≡ Some item → HasFailed s.ends ends
       → Move moment s (record s { line = record s.line { kept = None }; ends = ends })

@@ -1,7 +1,6 @@
 // What a back end gave goes to its session.
-ghost use Rattle.std.specs.Prelude.{◌≡◌, ◌≢◌, ◌+◌, ◌&&◌, IsSome, IsTrue, None, Ok, false, nat_le, nat_lt};
+ghost use Rattle.std.specs.Prelude.{◌≡◌, ◌≢◌, ℕ, IsSome, IsTrue, List, None, Ok, false, length};
 ghost use Rattle.body_cutter.specs.Cutting.{is_stanza};
-ghost use Rattle.bosh_types.specs.Limits.{most_waiting, waiting_bytes};
 ghost use Rattle.parked_gate.specs.Passes.{Looks};
 ghost use Rattle.session_core.specs.declared.replies.Taken.{Taken};
 ghost use Rattle.session_core.specs.declared.replies.Taken.TheVariants as takings;
@@ -10,7 +9,7 @@ ghost use Rattle.session_journal.specs.declared.asking.Answer.TheVariants as ans
 ghost use Rattle.session_journal.specs.declared.call.Reply.TheVariants as replies;
 ghost use Rattle.session_table.specs.Purses.{OthersStay, Turned, held};
 ghost use Rattle.xmpp_backend.specs.declared.backend.Given.TheVariants as given;
-ghost use Rattle.session_pump.specs.Giving.{Gives, IsAsked, LacksRoom, has_room, size_of};
+ghost use Rattle.session_pump.specs.Giving.{Gives, IsAsked, LacksRoom, has_room};
 
 use crate::line::Owing;
 use crate::serving::close_stream;
@@ -133,36 +132,36 @@ pub(crate) fn may_take<R: Wait>(
 }
 
 // Whether there is room for what is given by what the session answered, or it has ended.
-fn says_room(answer: &Answer, given: &Given) -> bool
-    ensures { result ≡ false → (waiting : Waiting) × (answer.now ≡ answers.Load waiting None) × (has_room waiting given.now ≡ false) }
+fn says_room(answer: &Answer, what: &Given) -> bool
+    ensures { result ≡ false → (waiting : Waiting) × (text : List ℕ) × (what.now ≡ given.Stanza text) × (answer.now ≡ answers.Load waiting None) × (has_room waiting (length text) ≡ false) }
+{
+    match what {
+        Given::Stanza(stanza) => has_room_for(answer, stanza.len()),
+        Given::Closed(_) => true,
+    }
+}
+
+// Whether there is room for a stanza of so many bytes.
+fn has_room_for(answer: &Answer, bytes: usize) -> bool
+    ensures { result ≡ false → (waiting : Waiting) × (answer.now ≡ answers.Load waiting None) × (has_room waiting bytes ≡ false) }
 {
     match answer {
         Answer::Load { waiting, ending } => {
             if ending.is_some() {
                 return true;
             }
-            fits(*waiting, length_of(given))
+            fits(*waiting, bytes)
         }
         Answer::Home(_) => true,
     }
 }
 
-// How many bytes of stanzas it has.
-fn length_of(given: &Given) -> usize
-    ensures { result ≡ size_of given.now }
-{
-    match given {
-        Given::Stanza(stanza) => stanza.len(),
-        Given::Closed(_) => 0,
-    }
-}
-
 // Whether one more item of so many bytes may wait beside these.
-fn fits(waiting: Waiting, length: usize) -> bool
-    ensures { result ≡ nat_lt waiting.items most_waiting && nat_le (waiting.bytes + length) waiting_bytes }
+fn fits(waiting: Waiting, bytes: usize) -> bool
+    ensures { result ≡ has_room waiting bytes }
 {
     if waiting.items as usize >= MOST_WAITING {
         return false;
     }
-    length <= WAITING_BYTES && waiting.bytes as usize <= WAITING_BYTES - length
+    bytes <= WAITING_BYTES && waiting.bytes as usize <= WAITING_BYTES - bytes
 }

@@ -1,5 +1,5 @@
 // What is inward of a session goes to the back end of its host.
-ghost use Rattle.std.specs.Prelude.{◌≡◌, ◌+◌, ℕ, IsSome, None, OnOk, Option, sum_by};
+ghost use Rattle.std.specs.Prelude.{◌≡◌, ◌≢◌, ◌+◌, ℕ, IsSome, None, OnOk, Option, sum_by};
 ghost use Rattle.parked_gate.specs.Passes.{Known};
 ghost use Rattle.session_journal.specs.declared.call.Call.TheVariants as calls;
 ghost use Rattle.session_journal.specs.declared.call.Reply.TheVariants as replies;
@@ -7,9 +7,10 @@ ghost use Rattle.session_journal.specs.declared.entry.Entry.{Entry};
 ghost use Rattle.session_table.specs.Purses.{OthersStay, Turned, held};
 ghost use Rattle.session_pump.specs.Ends.{ends_of};
 ghost use Rattle.session_pump.specs.Sides.{Called, Moves, PassesAll, taken_as};
+ghost use Rattle.session_pump.specs.Turns.{TakesAll};
 
 use crate::hosts::Stand;
-use crate::line::Line;
+use crate::line::{Line, Stage};
 use bosh_types::Inward;
 use session_journal::{Call, Reply};
 use session_table::Purse;
@@ -17,7 +18,7 @@ use std::alloc::AllocError;
 use std::sync::Wait;
 use xmpp_backend::Passed;
 
-/// Passes the items of a session on, in their order, until none is left. Where the back end isn't open to it they are let go.
+/// Passes the items of a session on, in their order, until none is left. Where its wire is no more they are let go.
 /// The only error is want of memory, and what was taken then and not passed is kept.
 pub(crate) fn pass_all<R: Wait>(
     rt: &R,
@@ -26,11 +27,16 @@ pub(crate) fn pass_all<R: Wait>(
     line: &mut Line,
     stand: &mut Stand,
 ) -> Result<(), AllocError>
-    requires { IsSome (held purse.old.sessions number) }
+    requires held { IsSome (held purse.old.sessions number) }
+    requires opened { line.old.stage ≢ Stage.Unopened }
     ensures passes { (moment : Option ℕ) → Turned number purse.old.sessions purse.new.sessions (λ old new. PassesAll moment
         (record { known = old; line = line.old; ends = ends_of (told stand.old.host.end) (counts stand.old.host.end) stand.old.failures (sum_by (λ spare. (counts spare).faults) stand.old.host.spares.items) })
         (record { known = new; line = line.new; ends = ends_of (told stand.new.host.end) (counts stand.new.host.end) stand.new.failures (sum_by (λ spare. (counts spare).faults) stand.new.host.spares.items) })
         result) }
+    ensures stage { line.new.stage ≡ line.old.stage }
+    ensures host { line.new.host ≡ line.old.host }
+    ensures kept { stand.new.kept ≡ stand.old.kept }
+    ensures name { stand.new.host.name ≡ stand.old.host.name }
     ensures others { OthersStay number purse.old.sessions purse.new.sessions }
     ensures directory { purse.new.directory ≡ purse.old.directory }
 {
@@ -47,14 +53,15 @@ pub(crate) fn pass_all<R: Wait>(
 /// Takes the items of a session that has no back end, and lets them go. The only error is want of memory.
 pub(crate) fn drop_all<R: Wait>(rt: &R, purse: &mut Purse, number: u64) -> Result<(), AllocError>
     requires { IsSome (held purse.old.sessions number) }
+    ensures takes { Turned number purse.old.sessions purse.new.sessions (λ old new. TakesAll old new result) }
     ensures others { OthersStay number purse.old.sessions purse.new.sessions }
     ensures directory { purse.new.directory ≡ purse.old.directory }
-    ensures held { IsSome (held purse.new.sessions number) }
 {
     for _ in rt.forever() {
-        if next_item(rt, purse, number)?.is_none() {
+        let Some(item) = next_item(rt, purse, number)? else {
             return Ok(());
-        }
+        };
+        drop(item);
     }
     unreachable!()
 }
@@ -72,12 +79,17 @@ fn next_item<R: Wait>(rt: &R, purse: &mut Purse, number: u64) -> Result<Option<I
     }
 }
 
-// Passes what is kept on, where the wire is open, and lets it go where it isn't.
+// Passes what is kept on, where the wire is open, and lets it go where that is no more.
 fn hand_on(line: &mut Line, stand: &mut Stand) -> Result<(), AllocError>
+    requires { line.old.stage ≢ Stage.Unopened }
     ensures moves { (moment : Option ℕ) → (known : Known Entry) → Moves moment
         (record { known = known; line = line.old; ends = ends_of (told stand.old.host.end) (counts stand.old.host.end) stand.old.failures (sum_by (λ spare. (counts spare).faults) stand.old.host.spares.items) })
         (record { known = known; line = line.new; ends = ends_of (told stand.new.host.end) (counts stand.new.host.end) stand.new.failures (sum_by (λ spare. (counts spare).faults) stand.new.host.spares.items) }) }
     ensures none { OnOk result (line.new.kept ≡ None) }
+    ensures stage { line.new.stage ≡ line.old.stage }
+    ensures host { line.new.host ≡ line.old.host }
+    ensures kept { stand.new.kept ≡ stand.old.kept }
+    ensures name { stand.new.host.name ≡ stand.old.host.name }
 {
     let Some(item) = &line.kept else {
         return Ok(());

@@ -46,8 +46,11 @@ pub fn poll_host<R: Wait, C: Clock, B: Bell>(
             return Ok(());
         }
     }
-    give_kept(rt, purse, &mut stand.kept, clock, bell)?;
-    Ok(())
+    let giving = give_kept(rt, purse, &mut stand.kept, clock, bell)?;
+    match giving {
+        Giving::Done => Ok(()),
+        Giving::Full => Ok(()),
+    }
 }
 
 // Gives what is kept, and polls the back end once where nothing is kept then. Whether it gave something.

@@ -1,4 +1,5 @@
 ghost use Rattle.std.specs.Prelude.{◌≡◌};
+ghost use Rattle.std.specs.BTreeMap.{IsEmpty};
 
 use crate::hosts::Hosts;
 use crate::line::Line;
@@ -13,13 +14,15 @@ pub struct Pump {
     pub(crate) alloc: Global,
     pub purse: Purse,
     pub hosts: Hosts,
-    pub(crate) lines: BTreeMap<u64, Line>,
+    pub lines: BTreeMap<u64, Line>,
 }
 
 impl Pump {
-    /// No session was met yet. It takes no memory.
+    /// A pump with this purse and these hosts that has met no session yet. It takes no memory.
     pub fn new(alloc: Global, purse: Purse, hosts: Hosts) -> Pump
-        ensures { result.purse ≡ purse }
+        ensures purse { result.purse ≡ purse }
+        ensures hosts { result.hosts ≡ hosts }
+        ensures lines { IsEmpty result.lines }
     {
         Pump {
             alloc,

@@ -35,6 +35,10 @@ pub fn serve_line<R: Wait, C: Clock, B: Bell>(
         (record { known = old; line = line.old; ends = ends_of (told stand.old.host.end) (counts stand.old.host.end) stand.old.failures (sum_by (λ spare. (counts spare).faults) stand.old.host.spares.items) })
         (record { known = new; line = line.new; ends = ends_of (told stand.new.host.end) (counts stand.new.host.end) stand.new.failures (sum_by (λ spare. (counts spare).faults) stand.new.host.spares.items) })
         result) }
+    ensures opened { OnOk result (line.new.stage ≢ Stage.Unopened) }
+    ensures host { line.new.host ≡ line.old.host }
+    ensures kept { stand.new.kept ≡ stand.old.kept }
+    ensures name { stand.new.host.name ≡ stand.old.host.name }
     ensures others { OthersStay number purse.old.sessions purse.new.sessions }
     ensures directory { purse.new.directory ≡ purse.old.directory }
     ensures silences { B.silences bell.new ≡ B.silences bell.old }
@@ -51,6 +55,9 @@ fn open_wire(line: &mut Line, stand: &mut Stand) -> Result<(), AllocError>
         (record { known = known; line = line.old; ends = ends_of (told stand.old.host.end) (counts stand.old.host.end) stand.old.failures (sum_by (λ spare. (counts spare).faults) stand.old.host.spares.items) })
         (record { known = known; line = line.new; ends = ends_of (told stand.new.host.end) (counts stand.new.host.end) stand.new.failures (sum_by (λ spare. (counts spare).faults) stand.new.host.spares.items) }) }
     ensures opened { OnOk result (line.new.stage ≢ Stage.Unopened) }
+    ensures host { line.new.host ≡ line.old.host }
+    ensures kept { stand.new.kept ≡ stand.old.kept }
+    ensures name { stand.new.host.name ≡ stand.old.host.name }
 {
     if !line.is_unopened() {
         return Ok(());
@@ -84,6 +91,8 @@ pub(crate) fn tell_cut<R: Wait, C: Clock, B: Bell>(
         (record { known = old; line = line.old; ends = ends_of (told stand.now.host.end) (counts stand.now.host.end) stand.now.failures (sum_by (λ spare. (counts spare).faults) stand.now.host.spares.items) })
         (record { known = new; line = line.new; ends = ends_of (told stand.now.host.end) (counts stand.now.host.end) stand.now.failures (sum_by (λ spare. (counts spare).faults) stand.now.host.spares.items) })) }
     ensures opened { line.old.stage ≢ Stage.Unopened → line.new.stage ≢ Stage.Unopened }
+    ensures uncut { OnOk result ((on : ℕ) → line.new.stage ≡ Stage.Opened on → on ≡ stand.now.failures) }
+    ensures host { line.new.host ≡ line.old.host }
     ensures others { OthersStay number purse.old.sessions purse.new.sessions }
     ensures directory { purse.new.directory ≡ purse.old.directory }
     ensures silences { B.silences bell.new ≡ B.silences bell.old }

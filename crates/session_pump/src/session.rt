@@ -1,7 +1,19 @@
 // One session in a turn.
-ghost use Rattle.std.specs.Prelude.{◌≡◌, IsSome};
-ghost use Rattle.parked_gate.specs.Passes.{IsPassOf};
-ghost use Rattle.session_table.specs.Purses.{OthersStay, held};
+ghost use Rattle.std.specs.Prelude.{◌≡◌, ◌≢◌, ◌^◌, ◌<◌, ◌≤◌, ℕ, IfNone, IfOk, IfSome, IsOk, IsSome, List, None, Ok, OnErr, OnOk, Option, Some, false, length, map, sum_by, true};
+ghost use Rattle.std.specs.BTreeMap.{IsUnchanged};
+ghost use Rattle.bosh_types.specs.declared.ending.Ending.{Ending};
+ghost use Rattle.parked_gate.specs.Passes.{IsPassOf, Known, Looks, known};
+ghost use Rattle.session_core.specs.declared.replies.Waiting.{Waiting};
+ghost use Rattle.session_journal.specs.declared.asking.Answer.TheVariants as answers;
+ghost use Rattle.session_journal.specs.declared.asking.Question.TheVariants as questions;
+ghost use Rattle.session_journal.specs.declared.entry.Entry.{Entry};
+ghost use Rattle.session_journal.specs.Seen.{Answers};
+ghost use Rattle.session_table.specs.Purses.{OthersStay, Turned, held};
+ghost use Rattle.session_pump.specs.Ends.{ends_of};
+ghost use Rattle.session_pump.specs.Sides.{PassesAll, Serves};
+ghost use Rattle.session_pump.specs.declared.line.Line.{Line};
+ghost use Rattle.session_pump.specs.Pumping.{HasOpened, OnLine, Then, facts_of, line_of};
+ghost use Rattle.session_pump.specs.Turns.{ClosesWire, IsGoingOn, IsOver, Meets, Removes, RemovesEnded, ServesAlone, ServesOne, TakesAll, TellsCut, TellsOne};
 
 use crate::hosts::Stand;
 use crate::line::{Line, Stage};
@@ -15,6 +27,7 @@ use server_ports::Clock;
 use session_journal::{Answer, Question};
 use session_table::{Directory, DirectoryCall, LiveSession, Purse};
 use std::alloc::AllocError;
+use std::collections::BTreeMap;
 use std::sync::Wait;
 use xmpp_backend::Passed;
 
@@ -31,19 +44,46 @@ impl Pump {
     ) -> Result<(), AllocError>
         requires { IsPassOf directory.now self.old.purse.directory }
         ensures pass { IsPassOf directory.now self.new.purse.directory }
+        ensures serves { ServesOne (C.moment clock.now) session.now
+            (record { directory = known self.old.purse.directory; sessions = self.old.purse.sessions; lines = self.old.lines; hosts = map (λ stand. facts_of stand.host.name stand.kept (told stand.host.end) (counts stand.host.end) stand.failures (sum_by (λ spare. (counts spare).faults) stand.host.spares.items)) self.old.hosts.stands.items })
+            (record { directory = known self.new.purse.directory; sessions = self.new.purse.sessions; lines = self.new.lines; hosts = map (λ stand. facts_of stand.host.name stand.kept (told stand.host.end) (counts stand.host.end) stand.failures (sum_by (λ spare. (counts spare).faults) stand.host.spares.items)) self.new.hosts.stands.items })
+            result }
         ensures silences { B.silences bell.new ≡ B.silences bell.old }
     {
         let sid = session.sid.as_slice();
-        let Some(number) = self.purse.find(rt, self.alloc, directory, sid)? else {
-            return Ok(());
-        };
+        match self.purse.find(rt, self.alloc, directory, sid) {
+            Ok(found) => match found {
+                Some(number) => {
+                    self.serve_found(rt, directory, clock, bell, number, &session.sid)
+                }
+                None => Ok(()),
+            },
+            Err(AllocError) => Err(AllocError),
+        }
+    }
+
+    // Serves a session that was found.
+    fn serve_found<R: Wait, C: Clock, B: Bell>(
+        &mut self,
+        rt: &R,
+        directory: &Gate<Directory>,
+        clock: &C,
+        bell: &mut B,
+        number: u64,
+        sid: &SharedText,
+    ) -> Result<(), AllocError>
+        requires pass { IsPassOf directory.now self.old.purse.directory }
+        requires held { IsSome (held self.old.purse.sessions number) }
+        ensures pass { IsPassOf directory.now self.new.purse.directory }
+        ensures serves { Then (Meets number) (Then (OnLine (Serves (C.moment clock.now)) (ServesAlone (C.moment clock.now)) number) (RemovesEnded (C.moment clock.now) number sid.now))
+            (record { directory = known self.old.purse.directory; sessions = self.old.purse.sessions; lines = self.old.lines; hosts = map (λ stand. facts_of stand.host.name stand.kept (told stand.host.end) (counts stand.host.end) stand.failures (sum_by (λ spare. (counts spare).faults) stand.host.spares.items)) self.old.hosts.stands.items })
+            (record { directory = known self.new.purse.directory; sessions = self.new.purse.sessions; lines = self.new.lines; hosts = map (λ stand. facts_of stand.host.name stand.kept (told stand.host.end) (counts stand.host.end) stand.failures (sum_by (λ spare. (counts spare).faults) stand.host.spares.items)) self.new.hosts.stands.items })
+            result }
+        ensures silences { B.silences bell.new ≡ B.silences bell.old }
+    {
         self.meet(rt, number)?;
         self.serve_held(rt, clock, bell, number)?;
-        if !has_ended(rt, &mut self.purse, number)? {
-            return Ok(());
-        }
-        self.pass_rest(rt, number)?;
-        self.remove(rt, directory, number, &session.sid)
+        self.remove_ended(rt, directory, number, sid)
     }
 
     // Makes the line of a session that wasn't met before.
@@ -51,25 +91,38 @@ impl Pump {
         requires { IsSome (held self.old.purse.sessions number) }
         ensures held { IsSome (held self.new.purse.sessions number) }
         ensures directory { self.new.purse.directory ≡ self.old.purse.directory }
+        ensures meets { Meets number
+            (record { directory = known self.old.purse.directory; sessions = self.old.purse.sessions; lines = self.old.lines; hosts = map (λ stand. facts_of stand.host.name stand.kept (told stand.host.end) (counts stand.host.end) stand.failures (sum_by (λ spare. (counts spare).faults) stand.host.spares.items)) self.old.hosts.stands.items })
+            (record { directory = known self.new.purse.directory; sessions = self.new.purse.sessions; lines = self.new.lines; hosts = map (λ stand. facts_of stand.host.name stand.kept (told stand.host.end) (counts stand.host.end) stand.failures (sum_by (λ spare. (counts spare).faults) stand.host.spares.items)) self.new.hosts.stands.items })
+            result }
     {
         if self.lines.get(&number).is_some() {
             return Ok(());
         }
-        let answer = self.purse.look(rt, number, &Question::Home)?;
-        let Ok(opening) = u32::try_from(number) else {
+        let name = name_of_host(rt, &mut self.purse, number)?;
+        let Some(opening) = opening_of(number) else {
             return Ok(());
         };
-        let line = Line::new(self.home_of(&answer), opening);
-        self.lines.insert(number, line)?;
-        Ok(())
+        let line = Line::new(self.hosts.place_of(name.as_slice()), opening);
+        keep_line(&mut self.lines, number, line)
     }
 
-    // The place of the host that a session named.
-    fn home_of(&self, answer: &Answer) -> Option<usize> {
-        match answer {
-            Answer::Home(name) => self.hosts.place_of(name.as_slice()),
-            Answer::Load { .. } => None,
+    // The place of the host to which a session has a line.
+    fn host_of(&self, number: u64) -> Option<usize>
+        ensures line { IfSome result (λ place. (line : Line) × (line_of self.now.lines number ≡ Some line) × (line.host ≡ Some place)) }
+        ensures within { IfSome result (λ place. place < length self.now.hosts.stands.items) }
+        ensures none { IfNone result (IfSome (line_of self.now.lines number) (λ line. IfSome line.host (λ place. length self.now.hosts.stands.items ≤ place))) }
+    {
+        let Some(line) = self.lines.get(&number) else {
+            return None;
+        };
+        let Some(place) = line.host else {
+            return None;
+        };
+        if place < self.hosts.stands.len() {
+            return Some(place);
         }
+        None
     }
 
     // Serves a session that was met.
@@ -82,65 +135,96 @@ impl Pump {
     ) -> Result<(), AllocError>
         requires { IsSome (held self.old.purse.sessions number) }
         ensures held { IsSome (held self.new.purse.sessions number) }
+        ensures opened { OnOk result (HasOpened number self.new.lines (length self.new.hosts.stands.items)) }
         ensures directory { self.new.purse.directory ≡ self.old.purse.directory }
+        ensures serves { OnLine (Serves (C.moment clock.now)) (ServesAlone (C.moment clock.now)) number
+            (record { directory = known self.old.purse.directory; sessions = self.old.purse.sessions; lines = self.old.lines; hosts = map (λ stand. facts_of stand.host.name stand.kept (told stand.host.end) (counts stand.host.end) stand.failures (sum_by (λ spare. (counts spare).faults) stand.host.spares.items)) self.old.hosts.stands.items })
+            (record { directory = known self.new.purse.directory; sessions = self.new.purse.sessions; lines = self.new.lines; hosts = map (λ stand. facts_of stand.host.name stand.kept (told stand.host.end) (counts stand.host.end) stand.failures (sum_by (λ spare. (counts spare).faults) stand.host.spares.items)) self.new.hosts.stands.items })
+            result }
         ensures silences { B.silences bell.new ≡ B.silences bell.old }
     {
-        let Some(line) = self.lines.get_mut(&number) else {
+        let Some(place) = self.host_of(number) else {
             return serve_alone(rt, &mut self.purse, number, clock, bell);
         };
-        let Some(place) = line.host else {
-            return serve_alone(rt, &mut self.purse, number, clock, bell);
+        let Some(line) = self.lines.get_mut(&number) else {
+            unreachable!();
         };
         let Some(stand) = self.hosts.stands.get_mut(place) else {
-            return serve_alone(rt, &mut self.purse, number, clock, bell);
+            unreachable!();
         };
         serve_line(rt, &mut self.purse, number, line, stand, clock, bell)
     }
 
-    // Passes on what came before a session ended, and after its items were passed on.
-    fn pass_rest<R: Wait>(&mut self, rt: &R, number: u64) -> Result<(), AllocError>
-        requires { IsSome (held self.old.purse.sessions number) }
-        ensures { self.new.purse.directory ≡ self.old.purse.directory }
+    // Removes a session that has ended, once what is inward of it was passed on.
+    fn remove_ended<R: Wait>(
+        &mut self,
+        rt: &R,
+        directory: &Gate<Directory>,
+        number: u64,
+        sid: &SharedText,
+    ) -> Result<(), AllocError>
+        requires pass { IsPassOf directory.now self.old.purse.directory }
+        requires held { IsSome (held self.old.purse.sessions number) }
+        requires opened { HasOpened number self.old.lines (length self.old.hosts.stands.items) }
+        ensures pass { IsPassOf directory.now self.new.purse.directory }
+        ensures removes { (moment : Option ℕ) → RemovesEnded moment number sid.now
+            (record { directory = known self.old.purse.directory; sessions = self.old.purse.sessions; lines = self.old.lines; hosts = map (λ stand. facts_of stand.host.name stand.kept (told stand.host.end) (counts stand.host.end) stand.failures (sum_by (λ spare. (counts spare).faults) stand.host.spares.items)) self.old.hosts.stands.items })
+            (record { directory = known self.new.purse.directory; sessions = self.new.purse.sessions; lines = self.new.lines; hosts = map (λ stand. facts_of stand.host.name stand.kept (told stand.host.end) (counts stand.host.end) stand.failures (sum_by (λ spare. (counts spare).faults) stand.host.spares.items)) self.new.hosts.stands.items })
+            result }
     {
-        let Some(line) = self.lines.get_mut(&number) else {
+        if !has_ended(rt, &mut self.purse, number)? {
+            return Ok(());
+        }
+        self.pass_rest(rt, number)?;
+        self.close_wire(number)?;
+        self.remove(rt, directory, number, sid)
+    }
+
+    // Passes on what came before a session ended.
+    fn pass_rest<R: Wait>(&mut self, rt: &R, number: u64) -> Result<(), AllocError>
+        requires held { IsSome (held self.old.purse.sessions number) }
+        requires opened { HasOpened number self.old.lines (length self.old.hosts.stands.items) }
+        ensures held { IsSome (held self.new.purse.sessions number) }
+        ensures directory { self.new.purse.directory ≡ self.old.purse.directory }
+        ensures passes { (moment : Option ℕ) → OnLine (PassesAll moment) TakesAll number
+            (record { directory = known self.old.purse.directory; sessions = self.old.purse.sessions; lines = self.old.lines; hosts = map (λ stand. facts_of stand.host.name stand.kept (told stand.host.end) (counts stand.host.end) stand.failures (sum_by (λ spare. (counts spare).faults) stand.host.spares.items)) self.old.hosts.stands.items })
+            (record { directory = known self.new.purse.directory; sessions = self.new.purse.sessions; lines = self.new.lines; hosts = map (λ stand. facts_of stand.host.name stand.kept (told stand.host.end) (counts stand.host.end) stand.failures (sum_by (λ spare. (counts spare).faults) stand.host.spares.items)) self.new.hosts.stands.items })
+            result }
+    {
+        let Some(place) = self.host_of(number) else {
             return drop_all(rt, &mut self.purse, number);
         };
-        let Some(place) = line.host else {
-            return drop_all(rt, &mut self.purse, number);
+        let Some(line) = self.lines.get_mut(&number) else {
+            unreachable!();
         };
         let Some(stand) = self.hosts.stands.get_mut(place) else {
-            return drop_all(rt, &mut self.purse, number);
+            unreachable!();
         };
         pass_all(rt, &mut self.purse, number, line, stand)
     }
 
-    /// Tells a session that its back end failed, where it did. The only error is want of memory.
-    pub(crate) fn tell_of_failure<R: Wait, C: Clock, B: Bell>(
-        &mut self,
-        rt: &R,
-        clock: &C,
-        bell: &mut B,
-        number: u64,
-    ) -> Result<(), AllocError>
-        ensures directory { self.new.purse.directory ≡ self.old.purse.directory }
-        ensures silences { B.silences bell.new ≡ B.silences bell.old }
+    // Closes the wire of a session, where it is open.
+    fn close_wire(&mut self, number: u64) -> Result<(), AllocError>
+        requires { IsSome (held self.old.purse.sessions number) }
+        ensures purse { self.new.purse ≡ self.old.purse }
+        ensures closes { OnLine ClosesWire (λ k m done. (m ≡ k) × (done ≡ Ok tt)) number
+            (record { directory = known self.old.purse.directory; sessions = self.old.purse.sessions; lines = self.old.lines; hosts = map (λ stand. facts_of stand.host.name stand.kept (told stand.host.end) (counts stand.host.end) stand.failures (sum_by (λ spare. (counts spare).faults) stand.host.spares.items)) self.old.hosts.stands.items })
+            (record { directory = known self.new.purse.directory; sessions = self.new.purse.sessions; lines = self.new.lines; hosts = map (λ stand. facts_of stand.host.name stand.kept (told stand.host.end) (counts stand.host.end) stand.failures (sum_by (λ spare. (counts spare).faults) stand.host.spares.items)) self.new.hosts.stands.items })
+            result }
     {
-        if self.purse.sessions.get(&number).is_none() {
+        let Some(place) = self.host_of(number) else {
             return Ok(());
-        }
+        };
         let Some(line) = self.lines.get_mut(&number) else {
-            return Ok(());
+            unreachable!();
         };
-        let Some(place) = line.host else {
-            return Ok(());
+        let Some(stand) = self.hosts.stands.get_mut(place) else {
+            unreachable!();
         };
-        let Some(stand) = self.hosts.stands.get(place) else {
-            return Ok(());
-        };
-        tell_cut(rt, &mut self.purse, number, line, stand, clock, bell)
+        close_line(line, stand)
     }
 
-    // Closes the wire of a session that has ended, and removes it.
+    // Removes a session from the directory, and lets go what is kept of it.
     fn remove<R: Wait>(
         &mut self,
         rt: &R,
@@ -149,34 +233,108 @@ impl Pump {
         sid: &SharedText,
     ) -> Result<(), AllocError>
         requires { IsPassOf directory.now self.old.purse.directory }
-        ensures { IsPassOf directory.now self.new.purse.directory }
+        ensures pass { IsPassOf directory.now self.new.purse.directory }
+        ensures removes { Removes number sid.now
+            (record { directory = known self.old.purse.directory; sessions = self.old.purse.sessions; lines = self.old.lines; hosts = map (λ stand. facts_of stand.host.name stand.kept (told stand.host.end) (counts stand.host.end) stand.failures (sum_by (λ spare. (counts spare).faults) stand.host.spares.items)) self.old.hosts.stands.items })
+            (record { directory = known self.new.purse.directory; sessions = self.new.purse.sessions; lines = self.new.lines; hosts = map (λ stand. facts_of stand.host.name stand.kept (told stand.host.end) (counts stand.host.end) stand.failures (sum_by (λ spare. (counts spare).faults) stand.host.spares.items)) self.new.hosts.stands.items })
+            result }
     {
-        self.close_wire(number)?;
         let sid = Text::from_vec(Vec::from_slice(self.alloc, sid.as_slice())?);
         directory.call(rt, &mut self.purse.directory, DirectoryCall::Remove { sid })?;
-        self.lines.remove(&number);
+        forget_line(&mut self.lines, number);
         self.purse.let_go(number);
         Ok(())
     }
 
-    fn close_wire(&mut self, number: u64) -> Result<(), AllocError>
-        ensures { self.new.purse ≡ self.old.purse }
+    /// Tells a session that its back end failed, where it did. The only error is want of memory.
+    pub(crate) fn tell_of_failure<R: Wait, C: Clock, B: Bell>(
+        &mut self,
+        rt: &R,
+        clock: &C,
+        bell: &mut B,
+        session: &LiveSession,
+    ) -> Result<(), AllocError>
+        ensures directory { self.new.purse.directory ≡ self.old.purse.directory }
+        ensures tells { TellsOne (C.moment clock.now) session.now
+            (record { directory = known self.old.purse.directory; sessions = self.old.purse.sessions; lines = self.old.lines; hosts = map (λ stand. facts_of stand.host.name stand.kept (told stand.host.end) (counts stand.host.end) stand.failures (sum_by (λ spare. (counts spare).faults) stand.host.spares.items)) self.old.hosts.stands.items })
+            (record { directory = known self.new.purse.directory; sessions = self.new.purse.sessions; lines = self.new.lines; hosts = map (λ stand. facts_of stand.host.name stand.kept (told stand.host.end) (counts stand.host.end) stand.failures (sum_by (λ spare. (counts spare).faults) stand.host.spares.items)) self.new.hosts.stands.items })
+            result }
+        ensures silences { B.silences bell.new ≡ B.silences bell.old }
     {
-        let Some(line) = self.lines.get_mut(&number) else {
+        if self.purse.sessions.get(&session.number).is_none() {
+            return Ok(());
+        }
+        self.tell_held(rt, clock, bell, session.number)
+    }
+
+    // Tells a session that is held.
+    fn tell_held<R: Wait, C: Clock, B: Bell>(
+        &mut self,
+        rt: &R,
+        clock: &C,
+        bell: &mut B,
+        number: u64,
+    ) -> Result<(), AllocError>
+        requires { IsSome (held self.old.purse.sessions number) }
+        ensures directory { self.new.purse.directory ≡ self.old.purse.directory }
+        ensures tells { OnLine (TellsCut (C.moment clock.now)) (λ k m done. (m ≡ k) × (done ≡ Ok tt)) number
+            (record { directory = known self.old.purse.directory; sessions = self.old.purse.sessions; lines = self.old.lines; hosts = map (λ stand. facts_of stand.host.name stand.kept (told stand.host.end) (counts stand.host.end) stand.failures (sum_by (λ spare. (counts spare).faults) stand.host.spares.items)) self.old.hosts.stands.items })
+            (record { directory = known self.new.purse.directory; sessions = self.new.purse.sessions; lines = self.new.lines; hosts = map (λ stand. facts_of stand.host.name stand.kept (told stand.host.end) (counts stand.host.end) stand.failures (sum_by (λ spare. (counts spare).faults) stand.host.spares.items)) self.new.hosts.stands.items })
+            result }
+        ensures silences { B.silences bell.new ≡ B.silences bell.old }
+    {
+        let Some(place) = self.host_of(number) else {
             return Ok(());
         };
-        let Some(place) = line.host else {
-            return Ok(());
+        let Some(line) = self.lines.get_mut(&number) else {
+            unreachable!();
         };
         let Some(stand) = self.hosts.stands.get_mut(place) else {
-            return Ok(());
+            unreachable!();
         };
-        close_line(line, stand)
+        tell_cut(rt, &mut self.purse, number, line, stand, clock, bell)
     }
 }
 
+// The opening number, where it has no more than 32 bits.
+fn opening_of(number: u64) -> Option<u32>
+    ensures small { IfSome result (λ opening. opening ≡ number) }
+    ensures large { IfNone result (2 ^ 32 ≤ number) }
+{
+    if number <= u64::from(u32::MAX) {
+        return Some(number as u32);
+    }
+    None
+}
+
+// Keeps the line of a session. The only error is want of memory, and then the lines are as before.
+fn keep_line(lines: &mut BTreeMap<u64, Line>, number: u64, line: Line) -> Result<(), AllocError>
+    ensures kept { OnOk result (line_of lines.new number ≡ Some line) }
+    ensures others { OnOk result ((other : ℕ) → other ≢ number → line_of lines.new other ≡ line_of lines.old other) }
+    ensures err { OnErr result (IsUnchanged lines.old lines.new) }
+{
+    lines.insert(number, line)?;
+    Ok(())
+}
+
+// Lets the line of a session go.
+fn forget_line(lines: &mut BTreeMap<u64, Line>, number: u64)
+    ensures gone { line_of lines.new number ≡ None }
+    ensures others { (other : ℕ) → other ≢ number → line_of lines.new other ≡ line_of lines.old other }
+{
+    lines.remove(&number);
+}
+
 // Closes the wire, where it is open.
-fn close_line(line: &mut Line, stand: &mut Stand) -> Result<(), AllocError> {
+fn close_line(line: &mut Line, stand: &mut Stand) -> Result<(), AllocError>
+    ensures closes { (known : Known Entry) → ClosesWire
+        (record { known = known; line = line.old; ends = ends_of (told stand.old.host.end) (counts stand.old.host.end) stand.old.failures (sum_by (λ spare. (counts spare).faults) stand.old.host.spares.items) })
+        (record { known = known; line = line.new; ends = ends_of (told stand.new.host.end) (counts stand.new.host.end) stand.new.failures (sum_by (λ spare. (counts spare).faults) stand.new.host.spares.items) })
+        result }
+    ensures host { line.new.host ≡ line.old.host }
+    ensures kept { stand.new.kept ≡ stand.old.kept }
+    ensures name { stand.new.host.name ≡ stand.old.host.name }
+{
     if !line.is_open_on(stand.failures) {
         return Ok(());
     }
@@ -199,7 +357,7 @@ fn serve_alone<R: Wait, C: Clock, B: Bell>(
     bell: &mut B,
 ) -> Result<(), AllocError>
     requires { IsSome (held purse.old.sessions number) }
-    ensures held { IsSome (held purse.new.sessions number) }
+    ensures serves { Turned number purse.old.sessions purse.new.sessions (λ old new. ServesAlone (C.moment clock.now) old new result) }
     ensures others { OthersStay number purse.old.sessions purse.new.sessions }
     ensures directory { purse.new.directory ≡ purse.old.directory }
     ensures silences { B.silences bell.new ≡ B.silences bell.old }
@@ -211,17 +369,50 @@ fn serve_alone<R: Wait, C: Clock, B: Bell>(
 // Whether the session has ended.
 fn has_ended<R: Wait>(rt: &R, purse: &mut Purse, number: u64) -> Result<bool, AllocError>
     requires { IsSome (held purse.old.sessions number) }
+    ensures ended { result ≡ Ok true → Turned number purse.old.sessions purse.new.sessions (Looks IsOver) }
+    ensures open { result ≡ Ok false → Turned number purse.old.sessions purse.new.sessions (Looks IsGoingOn) }
+    ensures asked { IsOk result }
     ensures held { IsSome (held purse.new.sessions number) }
     ensures others { OthersStay number purse.old.sessions purse.new.sessions }
     ensures directory { purse.new.directory ≡ purse.old.directory }
 {
-    let answer = purse.look(rt, number, &Question::Load)?;
-    Ok(is_ending(&answer))
+    match purse.look(rt, number, &Question::Load) {
+        Ok(answer) => Ok(is_ending(&answer)),
+        Err(AllocError) => unreachable!(),
+    }
 }
 
-fn is_ending(answer: &Answer) -> bool {
+fn is_ending(answer: &Answer) -> bool
+    requires { (waiting : Waiting) × (ending : Option Ending) × (answer.now ≡ answers.Load waiting ending) }
+    ensures ended { result ≡ true → (waiting : Waiting) × (ending : Ending) × (answer.now ≡ answers.Load waiting (Some ending)) }
+    ensures open { result ≡ false → (waiting : Waiting) × (answer.now ≡ answers.Load waiting None) }
+{
     match answer {
         Answer::Load { ending, .. } => ending.is_some(),
-        Answer::Home(_) => false,
+        Answer::Home(_) => unreachable!(),
+    }
+}
+
+// The name of the host that a session was opened at. The only error is want of memory.
+fn name_of_host<R: Wait>(rt: &R, purse: &mut Purse, number: u64) -> Result<SharedText, AllocError>
+    requires { IsSome (held purse.old.sessions number) }
+    ensures named { IfOk result (λ name. Turned number purse.old.sessions purse.new.sessions (Looks (λ log. Answers log questions.Home (Ok (answers.Home name))))) }
+    ensures asked { Turned number purse.old.sessions purse.new.sessions (Looks (λ log. Unit {0})) }
+    ensures others { OthersStay number purse.old.sessions purse.new.sessions }
+    ensures directory { purse.new.directory ≡ purse.old.directory }
+{
+    match purse.look(rt, number, &Question::Home) {
+        Ok(answer) => Ok(home_in(answer)),
+        Err(AllocError) => Err(AllocError),
+    }
+}
+
+fn home_in(answer: Answer) -> SharedText
+    requires { (name : List ℕ) × (answer ≡ answers.Home name) }
+    ensures { answer ≡ answers.Home result }
+{
+    match answer {
+        Answer::Home(name) => name,
+        Answer::Load { .. } => unreachable!(),
     }
 }

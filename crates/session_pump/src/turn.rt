@@ -1,7 +1,9 @@
 // A turn of the pump, and the end.
-ghost use Rattle.std.specs.Prelude.{◌≡◌, IfOk, length};
-ghost use Rattle.parked_gate.specs.Passes.{IsPassOf, known};
+ghost use Rattle.std.specs.Prelude.{◌≡◌, ◌<◌, IfOk, OnErr, length, map, sum_by};
+ghost use Rattle.parked_gate.specs.Passes.{IsPassOf, Looks, known};
 ghost use Rattle.session_table.specs.History.{live_of};
+ghost use Rattle.session_pump.specs.Pumping.{AsksDirectory, Each, EachPlace, both, facts_of};
+ghost use Rattle.session_pump.specs.Turns.{AsksLive, CountsLive, PollsAt, ServesOne, ShutsDown, ShutsOne, TellsOne, Turns};
 
 use crate::polling::poll_host;
 use crate::pump::Pump;
@@ -15,8 +17,9 @@ use std::alloc::AllocError;
 use std::sync::Wait;
 
 impl Pump {
-    /// Serves each live session once, and gives the sessions what the back ends gave for them. How many sessions are live after
-    /// that. The only error is want of memory, which comes when all else is done; the next turn goes on from there.
+    /// Serves each live session once, polls each host for what its back end gave, and tells the sessions whose back ends failed. How
+    /// many sessions are live after that. The only error is want of memory, which comes when all else is done; the next turn goes
+    /// on from there.
     pub fn turn<R: Wait, C: Clock, B: Bell>(
         &mut self,
         rt: &R,
@@ -27,16 +30,43 @@ impl Pump {
         requires { IsPassOf directory.now self.old.purse.directory }
         ensures pass { IsPassOf directory.now self.new.purse.directory }
         ensures sessions { IfOk result (λ count. count ≡ length (live_of (known self.new.purse.directory).seen)) }
+        ensures turns { Turns (C.moment clock.now)
+            (record { directory = known self.old.purse.directory; sessions = self.old.purse.sessions; lines = self.old.lines; hosts = map (λ stand. facts_of stand.host.name stand.kept (told stand.host.end) (counts stand.host.end) stand.failures (sum_by (λ spare. (counts spare).faults) stand.host.spares.items)) self.old.hosts.stands.items })
+            (record { directory = known self.new.purse.directory; sessions = self.new.purse.sessions; lines = self.new.lines; hosts = map (λ stand. facts_of stand.host.name stand.kept (told stand.host.end) (counts stand.host.end) stand.failures (sum_by (λ spare. (counts spare).faults) stand.host.spares.items)) self.new.hosts.stands.items })
+            result }
         ensures silences { B.silences bell.new ≡ B.silences bell.old }
     {
         let live = self.live(rt, directory)?;
         let served = self.serve_all(rt, directory, clock, bell, &live);
         let polled = self.poll_all(rt, clock, bell);
         let told = self.tell_all(rt, clock, bell, &live);
-        served?;
-        polled?;
-        told?;
-        Ok(self.live(rt, directory)?.len())
+        let after = both(polled, told);
+        let done = both(served, after);
+        self.count(rt, directory, done)
+    }
+
+    // How many sessions are live, where there was memory for all that was done.
+    fn count<R: Wait>(
+        &mut self,
+        rt: &R,
+        directory: &Gate<Directory>,
+        done: Result<(), AllocError>,
+    ) -> Result<usize, AllocError>
+        requires { IsPassOf directory.now self.old.purse.directory }
+        ensures pass { IsPassOf directory.now self.new.purse.directory }
+        ensures sessions { IfOk result (λ count. count ≡ length (live_of (known self.new.purse.directory).seen)) }
+        ensures counts { CountsLive
+            (record { directory = known self.old.purse.directory; sessions = self.old.purse.sessions; lines = self.old.lines; hosts = map (λ stand. facts_of stand.host.name stand.kept (told stand.host.end) (counts stand.host.end) stand.failures (sum_by (λ spare. (counts spare).faults) stand.host.spares.items)) self.old.hosts.stands.items })
+            (record { directory = known self.new.purse.directory; sessions = self.new.purse.sessions; lines = self.new.lines; hosts = map (λ stand. facts_of stand.host.name stand.kept (told stand.host.end) (counts stand.host.end) stand.failures (sum_by (λ spare. (counts spare).faults) stand.host.spares.items)) self.new.hosts.stands.items })
+            done result }
+    {
+        match done {
+            Ok(()) => match self.live(rt, directory) {
+                Ok(live) => Ok(live.len()),
+                Err(AllocError) => Err(AllocError),
+            },
+            Err(AllocError) => Err(AllocError),
+        }
     }
 
     /// Tells each live session that the server goes away. The only error is want of memory, where at least one wasn't told.
@@ -49,14 +79,37 @@ impl Pump {
     ) -> Result<(), AllocError>
         requires { IsPassOf directory.now self.old.purse.directory }
         ensures pass { IsPassOf directory.now self.new.purse.directory }
+        ensures shuts_down { ShutsDown (C.moment clock.now)
+            (record { directory = known self.old.purse.directory; sessions = self.old.purse.sessions; lines = self.old.lines; hosts = map (λ stand. facts_of stand.host.name stand.kept (told stand.host.end) (counts stand.host.end) stand.failures (sum_by (λ spare. (counts spare).faults) stand.host.spares.items)) self.old.hosts.stands.items })
+            (record { directory = known self.new.purse.directory; sessions = self.new.purse.sessions; lines = self.new.lines; hosts = map (λ stand. facts_of stand.host.name stand.kept (told stand.host.end) (counts stand.host.end) stand.failures (sum_by (λ spare. (counts spare).faults) stand.host.spares.items)) self.new.hosts.stands.items })
+            result }
         ensures silences { B.silences bell.new ≡ B.silences bell.old }
     {
         let live = self.live(rt, directory)?;
+        self.shut_all(rt, directory, clock, bell, &live)
+    }
+
+    // Tells these sessions that the server goes away. The error comes when all were told that could be.
+    fn shut_all<R: Wait, C: Clock, B: Bell>(
+        &mut self,
+        rt: &R,
+        directory: &Gate<Directory>,
+        clock: &C,
+        bell: &mut B,
+        live: &LiveSessions,
+    ) -> Result<(), AllocError>
+        requires { IsPassOf directory.now self.old.purse.directory }
+        ensures pass { IsPassOf directory.now self.new.purse.directory }
+        ensures each { Each (ShutsOne (C.moment clock.now))
+            (record { directory = known self.old.purse.directory; sessions = self.old.purse.sessions; lines = self.old.lines; hosts = map (λ stand. facts_of stand.host.name stand.kept (told stand.host.end) (counts stand.host.end) stand.failures (sum_by (λ spare. (counts spare).faults) stand.host.spares.items)) self.old.hosts.stands.items })
+            live.now
+            (record { directory = known self.new.purse.directory; sessions = self.new.purse.sessions; lines = self.new.lines; hosts = map (λ stand. facts_of stand.host.name stand.kept (told stand.host.end) (counts stand.host.end) stand.failures (sum_by (λ spare. (counts spare).faults) stand.host.spares.items)) self.new.hosts.stands.items })
+            result }
+        ensures silences { B.silences bell.new ≡ B.silences bell.old }
+    {
         let mut told = Ok(());
         for session in live.as_slice() {
-            if self.shut(rt, directory, clock, bell, session).is_err() {
-                told = Err(AllocError);
-            }
+            told = both(told, self.shut(rt, directory, clock, bell, session));
         }
         told
     }
@@ -72,14 +125,23 @@ impl Pump {
     ) -> Result<(), AllocError>
         requires { IsPassOf directory.now self.old.purse.directory }
         ensures pass { IsPassOf directory.now self.new.purse.directory }
+        ensures shuts { ShutsOne (C.moment clock.now) session.now
+            (record { directory = known self.old.purse.directory; sessions = self.old.purse.sessions; lines = self.old.lines; hosts = map (λ stand. facts_of stand.host.name stand.kept (told stand.host.end) (counts stand.host.end) stand.failures (sum_by (λ spare. (counts spare).faults) stand.host.spares.items)) self.old.hosts.stands.items })
+            (record { directory = known self.new.purse.directory; sessions = self.new.purse.sessions; lines = self.new.lines; hosts = map (λ stand. facts_of stand.host.name stand.kept (told stand.host.end) (counts stand.host.end) stand.failures (sum_by (λ spare. (counts spare).faults) stand.host.spares.items)) self.new.hosts.stands.items })
+            result }
         ensures silences { B.silences bell.new ≡ B.silences bell.old }
     {
         let sid = session.sid.as_slice();
-        let Some(number) = self.purse.find(rt, self.alloc, directory, sid)? else {
-            return Ok(());
-        };
-        let closing = Closing::SystemShutdown;
-        close_stream(rt, &mut self.purse, number, clock, bell, closing)
+        match self.purse.find(rt, self.alloc, directory, sid) {
+            Ok(found) => match found {
+                Some(number) => {
+                    let closing = Closing::SystemShutdown;
+                    close_stream(rt, &mut self.purse, number, clock, bell, closing)
+                }
+                None => Ok(()),
+            },
+            Err(AllocError) => Err(AllocError),
+        }
     }
 
     fn live<R: Wait>(
@@ -90,8 +152,17 @@ impl Pump {
         requires { IsPassOf directory.now self.old.purse.directory }
         ensures pass { IsPassOf directory.now self.new.purse.directory }
         ensures live { IfOk result (λ live. length live ≡ length (live_of (known self.new.purse.directory).seen)) }
+        ensures asked { IfOk result (λ live. AsksLive live
+            (record { directory = known self.old.purse.directory; sessions = self.old.purse.sessions; lines = self.old.lines; hosts = map (λ stand. facts_of stand.host.name stand.kept (told stand.host.end) (counts stand.host.end) stand.failures (sum_by (λ spare. (counts spare).faults) stand.host.spares.items)) self.old.hosts.stands.items })
+            (record { directory = known self.new.purse.directory; sessions = self.new.purse.sessions; lines = self.new.lines; hosts = map (λ stand. facts_of stand.host.name stand.kept (told stand.host.end) (counts stand.host.end) stand.failures (sum_by (λ spare. (counts spare).faults) stand.host.spares.items)) self.new.hosts.stands.items })) }
+        ensures err { OnErr result (AsksDirectory (Looks (λ log. Unit {0}))
+            (record { directory = known self.old.purse.directory; sessions = self.old.purse.sessions; lines = self.old.lines; hosts = map (λ stand. facts_of stand.host.name stand.kept (told stand.host.end) (counts stand.host.end) stand.failures (sum_by (λ spare. (counts spare).faults) stand.host.spares.items)) self.old.hosts.stands.items })
+            (record { directory = known self.new.purse.directory; sessions = self.new.purse.sessions; lines = self.new.lines; hosts = map (λ stand. facts_of stand.host.name stand.kept (told stand.host.end) (counts stand.host.end) stand.failures (sum_by (λ spare. (counts spare).faults) stand.host.spares.items)) self.new.hosts.stands.items })) }
     {
-        directory.look(rt, &mut self.purse.directory, &Question::Live)
+        match directory.look(rt, &mut self.purse.directory, &Question::Live) {
+            Ok(live) => Ok(live),
+            Err(AllocError) => Err(AllocError),
+        }
     }
 
     // Serves these sessions. The error comes when all were served that could be.
@@ -105,13 +176,16 @@ impl Pump {
     ) -> Result<(), AllocError>
         requires { IsPassOf directory.now self.old.purse.directory }
         ensures pass { IsPassOf directory.now self.new.purse.directory }
+        ensures each { Each (ServesOne (C.moment clock.now))
+            (record { directory = known self.old.purse.directory; sessions = self.old.purse.sessions; lines = self.old.lines; hosts = map (λ stand. facts_of stand.host.name stand.kept (told stand.host.end) (counts stand.host.end) stand.failures (sum_by (λ spare. (counts spare).faults) stand.host.spares.items)) self.old.hosts.stands.items })
+            live.now
+            (record { directory = known self.new.purse.directory; sessions = self.new.purse.sessions; lines = self.new.lines; hosts = map (λ stand. facts_of stand.host.name stand.kept (told stand.host.end) (counts stand.host.end) stand.failures (sum_by (λ spare. (counts spare).faults) stand.host.spares.items)) self.new.hosts.stands.items })
+            result }
         ensures silences { B.silences bell.new ≡ B.silences bell.old }
     {
         let mut served = Ok(());
         for session in live.as_slice() {
-            if self.serve(rt, directory, clock, bell, session).is_err() {
-                served = Err(AllocError);
-            }
+            served = both(served, self.serve(rt, directory, clock, bell, session));
         }
         served
     }
@@ -124,13 +198,16 @@ impl Pump {
         bell: &mut B,
     ) -> Result<(), AllocError>
         ensures directory { self.new.purse.directory ≡ self.old.purse.directory }
+        ensures each { EachPlace (PollsAt (C.moment clock.now))
+            (record { directory = known self.old.purse.directory; sessions = self.old.purse.sessions; lines = self.old.lines; hosts = map (λ stand. facts_of stand.host.name stand.kept (told stand.host.end) (counts stand.host.end) stand.failures (sum_by (λ spare. (counts spare).faults) stand.host.spares.items)) self.old.hosts.stands.items })
+            (length self.old.hosts.stands.items)
+            (record { directory = known self.new.purse.directory; sessions = self.new.purse.sessions; lines = self.new.lines; hosts = map (λ stand. facts_of stand.host.name stand.kept (told stand.host.end) (counts stand.host.end) stand.failures (sum_by (λ spare. (counts spare).faults) stand.host.spares.items)) self.new.hosts.stands.items })
+            result }
         ensures silences { B.silences bell.new ≡ B.silences bell.old }
     {
         let mut polled = Ok(());
         for place in 0..self.hosts.stands.len() {
-            if self.poll_at(rt, clock, bell, place).is_err() {
-                polled = Err(AllocError);
-            }
+            polled = both(polled, self.poll_at(rt, clock, bell, place));
         }
         polled
     }
@@ -143,12 +220,18 @@ impl Pump {
         bell: &mut B,
         place: usize,
     ) -> Result<(), AllocError>
+        requires { place < length self.old.hosts.stands.items }
+        ensures hosts { length self.new.hosts.stands.items ≡ length self.old.hosts.stands.items }
         ensures directory { self.new.purse.directory ≡ self.old.purse.directory }
+        ensures polls { PollsAt (C.moment clock.now) place
+            (record { directory = known self.old.purse.directory; sessions = self.old.purse.sessions; lines = self.old.lines; hosts = map (λ stand. facts_of stand.host.name stand.kept (told stand.host.end) (counts stand.host.end) stand.failures (sum_by (λ spare. (counts spare).faults) stand.host.spares.items)) self.old.hosts.stands.items })
+            (record { directory = known self.new.purse.directory; sessions = self.new.purse.sessions; lines = self.new.lines; hosts = map (λ stand. facts_of stand.host.name stand.kept (told stand.host.end) (counts stand.host.end) stand.failures (sum_by (λ spare. (counts spare).faults) stand.host.spares.items)) self.new.hosts.stands.items })
+            result }
         ensures silences { B.silences bell.new ≡ B.silences bell.old }
     {
         match self.hosts.stands.get_mut(place) {
             Some(stand) => poll_host(rt, &mut self.purse, stand, clock, bell),
-            None => Ok(()),
+            None => unreachable!(),
         }
     }
 
@@ -161,17 +244,27 @@ impl Pump {
         live: &LiveSessions,
     ) -> Result<(), AllocError>
         ensures directory { self.new.purse.directory ≡ self.old.purse.directory }
+        ensures each { Each (TellsOne (C.moment clock.now))
+            (record { directory = known self.old.purse.directory; sessions = self.old.purse.sessions; lines = self.old.lines; hosts = map (λ stand. facts_of stand.host.name stand.kept (told stand.host.end) (counts stand.host.end) stand.failures (sum_by (λ spare. (counts spare).faults) stand.host.spares.items)) self.old.hosts.stands.items })
+            live.now
+            (record { directory = known self.new.purse.directory; sessions = self.new.purse.sessions; lines = self.new.lines; hosts = map (λ stand. facts_of stand.host.name stand.kept (told stand.host.end) (counts stand.host.end) stand.failures (sum_by (λ spare. (counts spare).faults) stand.host.spares.items)) self.new.hosts.stands.items })
+            result }
         ensures silences { B.silences bell.new ≡ B.silences bell.old }
     {
         let mut told = Ok(());
         for session in live.as_slice() {
-            if self
-                .tell_of_failure(rt, clock, bell, session.number)
-                .is_err()
-            {
-                told = Err(AllocError);
-            }
+            told = both(told, self.tell_of_failure(rt, clock, bell, session));
         }
         told
+    }
+}
+
+// What is answered for two things that were both tried.
+fn both(first: Result<(), AllocError>, second: Result<(), AllocError>) -> Result<(), AllocError>
+    ensures { result ≡ both first second }
+{
+    match first {
+        Ok(()) => second,
+        Err(AllocError) => Err(AllocError),
     }
 }

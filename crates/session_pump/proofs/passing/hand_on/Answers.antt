@@ -7,7 +7,7 @@ pub returns-in_default-clause-moves : goal.returns-in_default-clause-moves
 returns-in_default-clause-moves g c moment known = none
 
 pub returns-then-not-is_open_on-clause-moves : goal.returns-then-not-is_open_on-clause-moves
-returns-then-not-is_open_on-clause-moves g c moment known = let_go _ _ (c.is_open_on.ensures.closed (search rules))
+returns-then-not-is_open_on-clause-moves g c moment known = let_go _ _ c.requires (c.is_open_on.ensures.closed (search rules))
 
 pub returns-in-Done-clause-moves : goal.returns-in-Done-clause-moves
 returns-in-Done-clause-moves g c moment known = passed_on _ _ _ c.in-Some.item (c.is_open_on.ensures.open c.if-not-is_open_on.false) c.in-Some.is c.in-Done.ensures.ends

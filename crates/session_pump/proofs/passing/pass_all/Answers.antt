@@ -1,4 +1,4 @@
-use Rattle.std.proofs.Common.{◌∙◌, refl, rules}
+use Rattle.std.proofs.Common.{◌∙◌, refl, rules, sym}
 use Rattle.session_pump.specs.Sides.{none}
 use Rattle.session_pump.proofs.PassingLemmas.{ends_early, ends_for_want, ends_whole, goes_on, keeps_next}
 use Rattle.session_pump.proofs.TurnedLemmas.{turned_none, still_held}
@@ -8,10 +8,15 @@ pub loop-init : goal.loop-init
 loop-init g c = record {
   next = tt;
   finite = tt;
-  held = c.requires;
+  held = c.requires.held;
+  opened = c.requires.opened;
+  stage = refl;
+  host = refl;
+  kept = refl;
+  name = refl;
   others = λ other differs. refl;
   directory = refl;
-  moves = λ moment. turned_none _ _ _ c.requires (λ k. none);
+  moves = λ moment. turned_none _ _ _ c.requires.held (λ k. none);
 }
 
 pub returns-in_err-hand_on-clause-passes : goal.returns-in_err-hand_on-clause-passes
@@ -35,6 +40,11 @@ loop-preserved g c = record {
   next = tt;
   finite = tt;
   held = still_held _ _ _ _ c.in_ok-item.ensures.took;
+  opened = λ is. c.loop.invariant.opened (sym c.in_ok-hand_on.ensures.stage ∙ is);
+  stage = c.in_ok-hand_on.ensures.stage ∙ c.loop.invariant.stage;
+  host = c.in_ok-hand_on.ensures.host ∙ c.loop.invariant.host;
+  kept = c.in_ok-hand_on.ensures.kept ∙ c.loop.invariant.kept;
+  name = c.in_ok-hand_on.ensures.name ∙ c.loop.invariant.name;
   others = λ other differs. c.in_ok-item.ensures.others other differs ∙ c.loop.invariant.others other differs;
   directory = search rules;
   moves = λ moment. keeps_next _ _ _ _ _ _ _ _ _ _ c.in-Some-2.is c.in_ok-hand_on.ensures.none

@@ -1,0 +1,423 @@
+-- Steps of a turn, one after the other.
+use Rattle.std.proofs.Common.{◌≡◌, ◌≢◌, ◌+◌, ◌*◌, ◌<◌, ◌≤◌, ℕ, zero, suc, Bool, false, List, [], ◌∷◌, ◌++◌, length, map, take, set, get_or, Option, Some, None, IfSome, IfNone, IsSome, Result, Ok, Err, refl, sym, subst, ap, ◌∙◌, true≢false, arith, ne_eqb}
+use Rattle.std.specs.Prelude.{◌||◌, bytes_eq}
+use Rattle.std.specs.List.{list_any}
+use Rattle.bosh_types.specs.Limits.{most_streams}
+use Rattle.std.proofs.lemmas.List.{get_or-map, length-map, map-set, take_all, take_more}
+use Rattle.std.proofs.lemmas.Option.{none-some}
+use Rattle.std.specs.Bool.{⊤}
+use Rattle.std.specs.BTreeMap.{IsUnchanged, UpdatesBy, WritesThrough, is_at}
+use Rattle.std.specs.Cmp.{unsigned_tied}
+use Rattle.std.specs.Ordering.{nat_cmp}
+use Rattle.std.specs.Result.{IsErr, OnErr, OnOk}
+use Rattle.std.specs.declared.alloc.AllocError.{AllocError}
+use Rattle.bosh_types.specs.declared.inward.Inward.{Inward}
+use Rattle.parked_gate.specs.Passes.{Calls, Known, Looks}
+use Rattle.bosh_types.specs.declared.ending.Ending.{Ending}
+use Rattle.session_core.specs.declared.replies.Waiting.{Waiting}
+use Rattle.session_journal.specs.declared.asking.Answer.{Answer}
+use Rattle.session_journal.specs.declared.asking.Answer.TheVariants as answers
+use Rattle.session_journal.specs.declared.asking.Question.TheVariants as questions
+use Rattle.session_journal.specs.Seen as seen
+use Rattle.session_journal.specs.declared.call.Call.TheVariants as calls
+use Rattle.session_journal.specs.declared.call.Reply.TheVariants as replies
+use Rattle.session_journal.specs.declared.entry.Entry as journal
+use Rattle.session_table.specs.declared.entry.Entry.{Entry}
+use Rattle.session_table.specs.declared.calls.DirectoryCall.TheVariants as directory_calls
+use Rattle.session_table.specs.declared.calls.DirectoryReply.{DirectoryReply}
+use Rattle.session_table.specs.declared.calls.LiveSession.{LiveSession}
+use Rattle.session_table.specs.History.{live_at}
+use Rattle.session_table.specs.Replies.{RepliesTo}
+use Rattle.session_table.specs.Purses.{IsFound, OthersStay, Sessions, Turned, held}
+use Rattle.xmpp_backend.specs.Told.{Told, closed_too}
+use Rattle.session_pump.specs.Ends.{Changes, Ends}
+use Rattle.session_pump.specs.Giving.{PollsHost}
+use Rattle.session_pump.specs.Places.{IsFirstPlace}
+use Rattle.session_pump.specs.Sides.{Called, Moves, Side, Ticks}
+use Rattle.session_pump.specs.declared.line.Stage.TheVariants as stages
+use Rattle.session_pump.specs.Pumping.{AsksDirectory, AsksSession, Each, EachPlace, HasOpened, HostFacts, HostTurns, LineTurns, Lines, OnLine, Pumping, Step, Then, alone, and_one, both, line_of, next_place, on_host, side, stopped}
+use Rattle.session_pump.specs.Turns.{AsksLive, ClosesWire, CountsLive, IsGoingOn, IsNewLine, IsOver, Meets, PollsAt, Removes, ServesAlone, ShutsDown, Takes, TakesAll, TellsCut, Turns, closes_it, counted, met, met_not, no_time, not_asked, refused, removed, removed_not, shuts_nobody, ticked, took, wants_memory, was_met}
+use Rattle.session_pump.specs.declared.line.Line.{Line}
+use Rattle.session_pump.proofs.GivingLemmas.{looks_as}
+use Rattle.session_pump.proofs.MovesLemmas.{ends_are}
+use Rattle.session_pump.proofs.TurnedLemmas.{some_same, turned_as, turned_then}
+
+abbrev pub pumping : Known Entry → Sessions → Lines → List HostFacts → Pumping
+pumping directory sessions lines hosts = record { directory = directory; sessions = sessions; lines = lines; hosts = hosts }
+
+-- another number is not at this one
+pub at_other : (n k : ℕ) → n ≢ k → is_at (nat_cmp n) k ≡ false
+at_other n k apart = unsigned_tied n k ∙ ne_eqb n k apart
+
+some_line : {X : Type 0} {o : Option X} {x : X} → o ≡ Some x → IsSome o
+some_line e = cc
+
+-- a line was lent, and another one was left there
+pub line_turns : (number : ℕ) (old new : Lines) (was is : Line) → line_of old number ≡ Some was → WritesThrough nat_cmp (nat_cmp number) old is new
+    → LineTurns number old new was is
+line_turns number old new was is before written =
+    let updates : UpdatesBy nat_cmp (nat_cmp number) old new (Some is) = written.3 (some_line before) in
+    record { before = before; after = updates.1; others = λ other apart. updates.2 other (at_other number other (λ e. apart (sym e))) }
+
+-- a host was lent, and is another one now
+pub host_turns : {X : Type 0} (facts : X → HostFacts) (stands : List X) (place : ℕ) (was is : X) → place < length stands → was ≡ get_or stands place was
+    → HostTurns place (map facts stands) (map facts (set stands place is)) (facts was) (facts is)
+host_turns facts stands place was is within read = record {
+  within = subst (λ (n : ℕ). place < n) (sym (length-map stands facts)) within;
+  before = ap facts read ∙ sym (get_or-map facts stands place was (facts was) within);
+  after = map-set facts stands place is;
+}
+
+same_but_ends : (h i : HostFacts) → i.name ≡ h.name → i.kept ≡ h.kept → i ≡ record h { ends = i.ends }
+same_but_ends h i name kept = ap (λ (n : List ℕ). record { name = n; kept = i.kept; ends = i.ends }) name ∙ ap (λ k. record { name = h.name; kept = k; ends = i.ends }) kept
+
+module _ {OnHost : Side → Side → Result ⊤ AllocError → Type 0} {Alone : Known journal.Entry → Known journal.Entry → Result ⊤ AllocError → Type 0} where
+  -- something was done to a session on its line
+  pub on_host_of : {X : Type 0} (facts : X → HostFacts) (number : ℕ) (d d' : Known Entry) (s s' : Sessions) (l l' : Lines) (stands : List X) (place : ℕ)
+      (line later : Line) (was is : X) (result : Result ⊤ AllocError)
+      → d' ≡ d → line_of l number ≡ Some line → WritesThrough nat_cmp (nat_cmp number) l later l' → line.host ≡ Some place → later.host ≡ line.host
+      → place < length stands → was ≡ get_or stands place was → (facts is).name ≡ (facts was).name → (facts is).kept ≡ (facts was).kept
+      → Turned number s s' (λ old new. OnHost (side old line (facts was).ends) (side new later (facts is).ends) result) → OthersStay number s s'
+      → OnLine OnHost Alone number (pumping d s l (map facts stands)) (pumping d' s' l' (map facts (set stands place is))) result
+  on_host_of facts number d d' s s' l l' stands place line later was is result same before written host stays within read name kept turned others =
+      subst (λ (k : Known Entry). OnLine OnHost Alone number (pumping d s l (map facts stands)) (pumping k s' l' (map facts (set stands place is))) result) (sym same)
+      (on_host s' l' (map facts (set stands place is)) place line later (facts was) (facts is).ends
+      (line_turns number l l' line later before written) host (stays ∙ host)
+      (subst (λ (h : HostFacts). HostTurns place (map facts stands) (map facts (set stands place is)) (facts was) h)
+      (same_but_ends (facts was) (facts is) name kept) (host_turns facts stands place was is within read))
+      turned others)
+
+  -- or to it alone
+  pub alone_of : {X : Type 0} (facts : X → HostFacts) (number : ℕ) (d d' : Known Entry) (s s' : Sessions) (l : Lines) (stands : List X) (result : Result ⊤ AllocError)
+      → d' ≡ d → IfSome (line_of l number) (λ line. IfSome line.host (λ place. length stands ≤ place))
+      → Turned number s s' (λ old new. Alone old new result) → OthersStay number s s'
+      → OnLine OnHost Alone number (pumping d s l (map facts stands)) (pumping d' s' l (map facts stands)) result
+  alone_of facts number d d' s s' l stands result same nowhere turned others =
+      subst (λ (k : Known Entry). OnLine OnHost Alone number (pumping d s l (map facts stands)) (pumping k s' l (map facts stands)) result) (sym same)
+      (alone s' (subst (λ (n : ℕ). IfSome (line_of l number) (λ line. IfSome line.host (λ place. n ≤ place))) (sym (length-map stands facts)) nowhere) turned others)
+
+-- the line that was lent is the one to that host
+pub same_host : {o : Option Line} {place : ℕ} {line : Line} → (other : Line) × (o ≡ Some other) × (other.host ≡ Some place) → o ≡ Some line → line.host ≡ Some place
+same_host {place = place} {line = line} found is = subst (λ (x : Line). x.host ≡ Some place) (some_same found.0 line (sym found.1 ∙ is)) found.2
+
+-- ---- no memory
+
+pub then_not : {First Second : Step} {a b : Pumping} (error : AllocError) (result : Result ⊤ AllocError) → IsErr result → First a b (Err error) → Then First Second a b result
+then_not error (Ok done) err first = absurd (true≢false (sym err))
+then_not error (Err other) err first = stopped error other first
+
+-- ---- a session alone
+
+pub takes_not : (number : ℕ) (a b c : Sessions) (wanted : AllocError) (result : Result ⊤ AllocError) → IsErr result → Turned number a b Takes
+    → Turned number b c (Called calls.TakeInward (Err wanted)) → Turned number a c (λ old new. TakesAll old new result)
+takes_not number a b c wanted result err earlier wants =
+    turned_then number a b c Takes (Called calls.TakeInward (Err wanted)) (λ old new. TakesAll old new result) (λ k l m x y. by k l m result err x y) earlier wants
+  where
+    by : (k l m : Known journal.Entry) (result : Result ⊤ AllocError) → IsErr result → Takes k l → Called calls.TakeInward (Err wanted) l m → TakesAll k m result
+    by k l m (Ok done) err x y = absurd (true≢false (sym err))
+    by k l m (Err other) err x y = (l, wanted, x, y)
+
+none_in : (item : Option Inward) → ((x : Inward) → item ≡ Some x → ⊥) → item ≡ None
+none_in None nothing = refl
+none_in (Some x) nothing = absurd (nothing x refl)
+
+pub takes_whole : (number : ℕ) (a b c : Sessions) (item : Option Inward) → ((x : Inward) → item ≡ Some x → ⊥) → Turned number a b Takes
+    → Turned number b c (Called calls.TakeInward (Ok (replies.TakeInward item))) → Turned number a c (λ old new. TakesAll old new (Ok tt))
+takes_whole number a b c item nothing earlier last =
+    turned_then number a b c Takes (Called calls.TakeInward (Ok (replies.TakeInward item))) (λ old new. TakesAll old new (Ok tt))
+    (λ k l m x y. (l, x, subst (λ (i : Option Inward). Called calls.TakeInward (Ok (replies.TakeInward i)) l m) (none_in item nothing) y)) earlier last
+
+pub takes_next : (number : ℕ) (a b c : Sessions) (got : Option Inward) (item : Inward) → got ≡ Some item → Turned number a b Takes
+    → Turned number b c (Called calls.TakeInward (Ok (replies.TakeInward got))) → Turned number a c Takes
+takes_next number a b c got item is earlier next =
+    turned_then number a b c Takes (Called calls.TakeInward (Ok (replies.TakeInward got))) Takes
+    (λ k l m x y. took item x (subst (λ (i : Option Inward). Called calls.TakeInward (Ok (replies.TakeInward i)) l m) is y)) earlier next
+
+pub alone_not : (moment : Option ℕ) (number : ℕ) (a b : Sessions) (error : AllocError) (result : Result ⊤ AllocError) → IsErr result
+    → Turned number a b (Ticks moment (Err error)) → Turned number a b (λ old new. ServesAlone moment old new result)
+alone_not moment number a b error result err ticks =
+    turned_as number a b (Ticks moment (Err error)) (λ old new. ServesAlone moment old new result) (λ k m x. by k m result err x) ticks
+  where
+    by : (k m : Known journal.Entry) (result : Result ⊤ AllocError) → IsErr result → Ticks moment (Err error) k m → ServesAlone moment k m result
+    by k m (Ok done) err x = absurd (true≢false (sym err))
+    by k m (Err other) err x = no_time error other x
+
+pub alone_on : (moment : Option ℕ) (number : ℕ) (a b c : Sessions) (result : Result ⊤ AllocError) → Turned number a b (Ticks moment (Ok tt))
+    → Turned number b c (λ old new. TakesAll old new result) → Turned number a c (λ old new. ServesAlone moment old new result)
+alone_on moment number a b c result ticks takes =
+    turned_then number a b c (Ticks moment (Ok tt)) (λ old new. TakesAll old new result) (λ old new. ServesAlone moment old new result) (λ k l m x y. ticked x y) ticks takes
+
+-- ---- each in turn
+
+-- one more was tried
+pub each_more : {A : Type 0} {Does : A → Step} {a b c : Pumping} {first next : Result ⊤ AllocError} (result : Result ⊤ AllocError) (xs ys : List A) (i : ℕ) (x : A)
+    → result ≡ both first next → ys ≡ xs → i < length ys → x ≡ get_or ys i x → Each Does a (take i xs) b first → Does x b c next → Each Does a (take (i + 1) xs) c result
+each_more {A} {Does} {a} {b} {c} {first} {next} result xs ys i x is same inside item each does =
+    let within : i < length xs = subst (λ (zs : List A). i < length zs) same inside in
+    let read : x ≡ get_or xs i x = subst (λ (zs : List A). x ≡ get_or zs i x) same item in
+    subst (λ (r : Result ⊤ AllocError). Each Does a (take (i + 1) xs) c r) (sym is)
+    (subst (λ (zs : List A). Each Does a zs c (both first next)) (sym (take_more xs i x within ∙ ap (λ (y : A). take i xs ++ y ∷ []) (sym read))) (and_one x each does))
+
+pub each_place_more : {Does : ℕ → Step} {a b c : Pumping} {first next : Result ⊤ AllocError} (result : Result ⊤ AllocError) (place : ℕ) → result ≡ both first next
+    → EachPlace Does a place b first → Does place b c next → EachPlace Does a (place + 1) c result
+each_place_more {Does} {a} {c = c} result place is each does = subst (λ (r : Result ⊤ AllocError). EachPlace Does a (place + 1) c r) (sym is) (next_place place each does)
+
+-- ---- what a session answers
+
+looked_as : (P Q : List journal.Entry → Type 0) (number : ℕ) (a b : Sessions) → ((log : List journal.Entry) → P log → Q log) → Turned number a b (Looks P) → Turned number a b (Looks Q)
+looked_as P Q number a b by turned = turned_as number a b (Looks P) (Looks Q) (λ k m looks. looks_as by looks) turned
+
+-- it has ended
+pub over_so : (number : ℕ) (a b : Sessions) (answer : Answer) → (waiting : Waiting) × (ending : Ending) × (answer ≡ answers.Load waiting (Some ending))
+    → Turned number a b (Looks (λ log. seen.Answers log questions.Load (Ok answer))) → Turned number a b (Looks IsOver)
+over_so number a b answer found turned =
+    looked_as (λ log. seen.Answers log questions.Load (Ok answer)) IsOver number a b
+    (λ log says. (found.0, found.1, subst (λ (x : Answer). seen.Answers log questions.Load (Ok x)) found.2 says)) turned
+
+-- it hasn't
+pub goes_on_so : (number : ℕ) (a b : Sessions) (answer : Answer) → (waiting : Waiting) × (answer ≡ answers.Load waiting None)
+    → Turned number a b (Looks (λ log. seen.Answers log questions.Load (Ok answer))) → Turned number a b (Looks IsGoingOn)
+goes_on_so number a b answer found turned =
+    looked_as (λ log. seen.Answers log questions.Load (Ok answer)) IsGoingOn number a b
+    (λ log says. (found.0, subst (λ (x : Answer). seen.Answers log questions.Load (Ok x)) found.1 says)) turned
+
+-- this is its host's name
+pub home_so : (number : ℕ) (a b : Sessions) (answer : Answer) (name : List ℕ) → answer ≡ answers.Home name
+    → Turned number a b (Looks (λ log. seen.Answers log questions.Home (Ok answer))) → Turned number a b (Looks (λ log. seen.Answers log questions.Home (Ok (answers.Home name))))
+home_so number a b answer name is turned =
+    looked_as (λ log. seen.Answers log questions.Home (Ok answer)) (λ log. seen.Answers log questions.Home (Ok (answers.Home name))) number a b
+    (λ log says. subst (λ (x : Answer). seen.Answers log questions.Home (Ok x)) is says) turned
+
+-- a session was asked, and all else is as before
+pub asks_of : {Says : Known journal.Entry → Known journal.Entry → Type 0} (number : ℕ) (d d' : Known Entry) (s s' : Sessions) (l : Lines) (h : List HostFacts) → d' ≡ d
+    → Turned number s s' Says → OthersStay number s s' → AsksSession Says number (pumping d s l h) (pumping d' s' l h)
+asks_of number d d' s s' l h same turned others = record {
+  turned = turned;
+  others = others;
+  same = ap (λ (k : Known Entry). pumping k s' l h) same;
+}
+
+line_in : (o : Option Line) → IsSome o → (line : Line) × (o ≡ Some line)
+line_in (Some line) some = (line, refl)
+line_in None some = absurd (true≢false (sym some))
+
+-- the session was met before
+pub met_before : (number : ℕ) (a : Pumping) → IsSome (line_of a.lines number) → Meets number a a (Ok tt)
+met_before number a some =
+    let line = line_in (line_of a.lines number) some in
+    was_met line.0 line.1
+
+-- all were tried
+pub each_all : {A : Type 0} {Does : A → Step} {a b : Pumping} {result : Result ⊤ AllocError} (xs : List A) (i : ℕ) → length xs ≤ i → Each Does a (take i xs) b result
+    → Each Does a xs b result
+each_all {A} {Does} {a} {b} {result} xs i whole each = subst (λ (ys : List A). Each Does a ys b result) (take_all i xs whole) each
+
+-- a host was polled
+pub polls_of : {X : Type 0} (facts : X → HostFacts) (moment : Option ℕ) (place : ℕ) (d d' : Known Entry) (s s' : Sessions) (l : Lines) (stands : List X) (was is : X) (result : Result ⊤ AllocError)
+    → d' ≡ d → place < length stands → was ≡ get_or stands place was → (facts is).name ≡ (facts was).name
+    → PollsHost moment (record { kept = (facts was).kept; ends = (facts was).ends; sessions = s }) (record { kept = (facts is).kept; ends = (facts is).ends; sessions = s' }) result
+    → PollsAt moment place (pumping d s l (map facts stands)) (pumping d' s' l (map facts (set stands place is))) result
+polls_of facts moment place d d' s s' l stands was is result same within read name polls =
+    record {
+      host = facts was;
+      later = facts is;
+      name = name;
+      turned = host_turns facts stands place was is within read;
+      polls = polls;
+      same = ap (λ (k : Known Entry). pumping k s' l (map facts (set stands place is))) same;
+    }
+
+-- a session was told, and its wire isn't cut
+pub tells_of : (moment : Option ℕ) (number : ℕ) (a b : Sessions) (line later : Line) (ends : Ends) (result : Result ⊤ AllocError)
+    → OnOk result ((on : ℕ) → later.stage ≡ stages.Opened on → on ≡ ends.failures)
+    → Turned number a b (λ old new. Moves moment (side old line ends) (side new later ends))
+    → Turned number a b (λ old new. TellsCut moment (side old line ends) (side new later ends) result)
+tells_of moment number a b line later ends result uncut turned =
+    turned_as number a b (λ old new. Moves moment (side old line ends) (side new later ends)) (λ old new. TellsCut moment (side old line ends) (side new later ends) result)
+    (λ k m moves. by k m result uncut moves) turned
+  where
+    by : (k m : Known journal.Entry) (result : Result ⊤ AllocError) → OnOk result ((on : ℕ) → later.stage ≡ stages.Opened on → on ≡ ends.failures)
+        → Moves moment (side k line ends) (side m later ends) → TellsCut moment (side k line ends) (side m later ends) result
+    by k m (Ok done) uncut moves = (moves, λ cut. cut.2 (uncut cut.0 cut.1))
+    by k m (Err error) uncut moves = moves
+
+-- ---- a wire is closed
+
+closes_as : (R : Side → Type 0) (change : Told → Told) (known : Known journal.Entry) (line : Line) (e f : Ends) → Changes change e f
+    → R (side known line (record e { told = f.told })) → R (side known line f)
+closes_as R change known line e f changes is = subst (λ (ends : Ends). R (side known line ends)) (ends_are change (λ count. count) (λ count. count) e f changes) is
+
+pub wire_closed : (known : Known journal.Entry) (line : Line) (e f : Ends) → line.stage ≡ stages.Opened e.failures → Changes (closed_too line.wire) e f
+    → ClosesWire (side known line e) (side known (record line { stage = stages.Lost }) f) (Ok tt)
+wire_closed known line e f is changes =
+    closes_as (λ t. ClosesWire (side known line e) t (Ok tt)) (closed_too line.wire) known (record line { stage = stages.Lost }) e f changes (closes_it f.told is changes.told)
+
+pub wire_not : (known : Known journal.Entry) (line : Line) (e f : Ends) (error : AllocError) → Changes (λ told. told) e f
+    → ClosesWire (side known line e) (side known line f) (Err error)
+wire_not known line e f error changes =
+    closes_as (λ t. ClosesWire (side known line e) t (Err error)) (λ told. told) known line e f changes (wants_memory f.told error changes.told)
+
+-- ---- the directory
+
+-- the directory was asked, and all else is as before
+pub directory_asked : {Says : Known Entry → Known Entry → Type 0} (d d' : Known Entry) (s s' : Sessions) (l : Lines) (h : List HostFacts) → Says d d' → IsUnchanged s s'
+    → AsksDirectory Says (pumping d s l h) (pumping d' s' l h)
+directory_asked d d' s s' l h says unchanged = record { learns = says; sessions = unchanged; same = refl }
+
+pub removes_not : (number : ℕ) (sid : List ℕ) (a : Pumping) (result : Result ⊤ AllocError) → IsErr result → Removes number sid a a result
+removes_not number sid a (Ok done) err = absurd (true≢false (sym err))
+removes_not number sid a (Err error) err = removed_not error
+
+-- there was no memory for the name of its host
+pub meets_not : (number : ℕ) (d d' : Known Entry) (s s' : Sessions) (l : Lines) (h : List HostFacts) (result : Result ⊤ AllocError) → IsErr result → d' ≡ d
+    → Turned number s s' (Looks (λ log. Unit {0})) → OthersStay number s s' → Meets number (pumping d s l h) (pumping d' s' l h) result
+meets_not number d d' s s' l h (Ok done) err same asked others = absurd (true≢false (sym err))
+meets_not number d d' s s' l h (Err error) err same asked others = met_not error l (asks_of number d d' s s' l h same asked others) refl
+
+-- the first that passes the test, where each is known by something else
+first_of_map : {A B : Type 0} (test : B → Bool) (f : A → B) (xs : List A) (place : ℕ) → IsFirstPlace (λ x. test (f x)) xs place → IsFirstPlace test (map f xs) place
+first_of_map test f [] place first = first
+first_of_map test f (x ∷ xs) zero first = first
+first_of_map test f (x ∷ xs) (suc place) first = (first.0, first_of_map test f xs place first.1)
+
+any_of_map : {A B : Type 0} (test : B → Bool) (f : A → B) (xs : List A) → list_any test (map f xs) ≡ list_any (λ x. test (f x)) xs
+any_of_map test f [] = refl
+any_of_map test f (x ∷ xs) = ap (λ (b : Bool). test (f x) || b) (any_of_map test f xs)
+
+-- a new line, to the first host of that name
+pub new_line : {X : Type 0} (facts : X → HostFacts) (number opening : ℕ) (text name : List ℕ) (stands : List X) (found : Option ℕ) (line : Line) → text ≡ name → opening ≡ number
+    → IfSome found (λ place. IsFirstPlace (λ stand. bytes_eq (facts stand).name text) stands place)
+    → IfNone found (list_any (λ stand. bytes_eq (facts stand).name text) stands ≡ false)
+    → line.host ≡ found → line.wire ≡ opening * most_streams → line.stage ≡ stages.Unopened → line.kept ≡ None
+    → IsNewLine number name (map facts stands) line
+new_line facts number opening text name stands found line same small first none host wire stage kept =
+    subst (λ (n : List ℕ). IsNewLine number n (map facts stands) line) same
+    (record {
+      wire = wire ∙ ap (λ (n : ℕ). n * most_streams) small;
+      stage = stage;
+      kept = kept;
+      place = subst (λ (o : Option ℕ). IfSome o (λ place. IsFirstPlace (λ h. bytes_eq h.name text) (map facts stands) place)) (sym host) (placed found first);
+      nowhere = λ is. any_of_map (λ h. bytes_eq h.name text) facts stands ∙ (missing found (sym host ∙ is) none);
+    })
+  where
+    placed : (o : Option ℕ) → IfSome o (λ place. IsFirstPlace (λ stand. bytes_eq (facts stand).name text) stands place)
+        → IfSome o (λ place. IsFirstPlace (λ h. bytes_eq h.name text) (map facts stands) place)
+    placed None told = tt
+    placed (Some place) told = first_of_map (λ h. bytes_eq h.name text) facts stands place told
+
+    missing : (o : Option ℕ) → o ≡ None → IfNone o (list_any (λ stand. bytes_eq (facts stand).name text) stands ≡ false)
+        → list_any (λ stand. bytes_eq (facts stand).name text) stands ≡ false
+    missing None is told = told
+    missing (Some place) is told = absurd (none-some place (sym is))
+
+-- the line of a session was made and kept, or there was no memory for that
+pub meets_so : (number : ℕ) (name : List ℕ) (d d' : Known Entry) (s s' : Sessions) (l l' : Lines) (h : List HostFacts) (line : Line) (result : Result ⊤ AllocError) → d' ≡ d
+    → Turned number s s' (Looks (λ log. seen.Answers log questions.Home (Ok (answers.Home name)))) → OthersStay number s s' → IsNewLine number name h line
+    → OnOk result (line_of l' number ≡ Some line) → OnOk result ((other : ℕ) → other ≢ number → line_of l' other ≡ line_of l other)
+    → OnErr result (IsUnchanged l l') → Meets number (pumping d s l h) (pumping d' s' l' h) result
+meets_so number name d d' s s' l l' h line (Ok done) same asked others new kept beside unchanged =
+    met name l' line (asks_of number d d' s s' l h same asked others) new kept beside
+meets_so number name d d' s s' l l' h line (Err error) same asked others new kept beside unchanged =
+    met_not error l' (asks_of number d d' s s' l h same (looked_as (λ log. seen.Answers log questions.Home (Ok (answers.Home name))) (λ log. Unit {0}) number s s' (λ log says. tt) asked) others) unchanged
+
+-- ---- a wire that was opened
+
+pub on_ok : {P : Type 0} (result : Result ⊤ AllocError) → P → OnOk result P
+on_ok (Ok done) p = p
+on_ok (Err error) p = tt
+
+pub ok_so : {P Q : Type 0} (result : Result ⊤ AllocError) → (P → Q) → OnOk result P → OnOk result Q
+ok_so (Ok done) by p = by p
+ok_so (Err error) by p = tt
+
+-- a session has no host among these
+pub opened_nowhere : (o : Option Line) (count : ℕ) → IfSome o (λ line. IfSome line.host (λ place. count ≤ place))
+    → IfSome o (λ line. IfSome line.host (λ place. place < count → line.stage ≢ stages.Unopened))
+opened_nowhere None count none = tt
+opened_nowhere (Some line) count none = by line.host none
+  where
+    by : (host : Option ℕ) → IfSome host (λ place. count ≤ place) → IfSome host (λ place. place < count → line.stage ≢ stages.Unopened)
+    by None none = tt
+    by (Some place) none = λ less. absurd (omega (arith, none, less))
+
+-- a line that was lent is opened
+pub opened_line : (number : ℕ) (old new : Lines) (was is : Line) (count : ℕ) → line_of old number ≡ Some was → WritesThrough nat_cmp (nat_cmp number) old is new
+    → is.stage ≢ stages.Unopened → HasOpened number new count
+opened_line number old new was is count before written opened =
+    subst (λ (o : Option Line). IfSome o (λ line. IfSome line.host (λ place. place < count → line.stage ≢ stages.Unopened)))
+    (sym (line_turns number old new was is before written).after) (by is.host)
+  where
+    by : (host : Option ℕ) → IfSome host (λ place. place < count → is.stage ≢ stages.Unopened)
+    by None = tt
+    by (Some place) = λ less. opened
+
+-- the line that is lent was opened
+pub was_opened : {o : Option Line} {count place : ℕ} (line : Line) → IfSome o (λ line. IfSome line.host (λ place. place < count → line.stage ≢ stages.Unopened))
+    → o ≡ Some line → line.host ≡ Some place → place < count → line.stage ≢ stages.Unopened
+was_opened {o} {count} {place} line opened is host less =
+    subst (λ (h : Option ℕ). IfSome h (λ place. place < count → line.stage ≢ stages.Unopened)) host
+    (subst (λ (x : Option Line). IfSome x (λ line. IfSome line.host (λ place. place < count → line.stage ≢ stages.Unopened))) is opened) less
+
+-- ---- a removal
+
+pub removes_refused : (number : ℕ) (sid name : List ℕ) (d d' : Known Entry) (s : Sessions) (l : Lines) (h : List HostFacts) (error : AllocError) (result : Result ⊤ AllocError)
+    → IsErr result → name ≡ sid
+    → Calls (λ e. e.caller) (λ before made. RepliesTo before (directory_calls.Remove name) (Err error) made) d d'
+    → Removes number sid (pumping d s l h) (pumping d' s l h) result
+removes_refused number sid name d d' s l h error (Ok done) err is called = absurd (true≢false (sym err))
+removes_refused number sid name d d' s l h error (Err other) err is called =
+    refused other (record { learns = subst (λ (n : List ℕ). Calls (λ e. e.caller) (λ before made. RepliesTo before (directory_calls.Remove n) (Err other) made) d d') is called; sessions = refl; same = refl })
+
+pub removes_so : (number : ℕ) (sid name : List ℕ) (d d' k : Known Entry) (s s' : Sessions) (l l' : Lines) (h : List HostFacts) (reply : DirectoryReply)
+    → name ≡ sid → k ≡ d'
+    → Calls (λ e. e.caller) (λ before made. RepliesTo before (directory_calls.Remove name) (Ok reply) made) d d'
+    → line_of l' number ≡ None → ((other : ℕ) → other ≢ number → line_of l' other ≡ line_of l other) → held s' number ≡ None → OthersStay number s s'
+    → Removes number sid (pumping d s l h) (pumping k s' l' h) (Ok tt)
+removes_so number sid name d d' k s s' l l' h reply is same called line lines gone others =
+    subst (λ (x : Known Entry). Removes number sid (pumping d s l h) (pumping x s' l' h) (Ok tt)) (sym same)
+    (removed d' s' l' reply (subst (λ (n : List ℕ). Calls (λ e. e.caller) (λ before made. RepliesTo before (directory_calls.Remove n) (Ok reply) made) d d') is called) line lines gone others)
+
+-- ---- a session is found
+
+pub is_found : (P : ℕ → Type 0) (o : Option ℕ) (number : ℕ) → o ≡ Some number → IfSome o P → P number
+is_found P o number is found = subst (λ (x : Option ℕ). IfSome x P) is found
+
+pub found_named : (old new : Sessions) (number : ℕ) (text sid : List ℕ) → text ≡ sid → IsFound old new number text → IsFound old new number sid
+found_named old new number text sid same found = subst (λ (s : List ℕ). IsFound old new number s) same found
+
+missing_named : (d d' : Known Entry) (text sid : List ℕ) → text ≡ sid
+    → Calls (λ e. e.caller) (λ before made. (made ≡ None) × (live_at before text ≡ None)) d d'
+    → Calls (λ e. e.caller) (λ before made. (made ≡ None) × (live_at before sid ≡ None)) d d'
+missing_named d d' text sid same called = subst (λ (s : List ℕ). Calls (λ e. e.caller) (λ before made. (made ≡ None) × (live_at before s ≡ None)) d d') same called
+
+-- the directory was asked for a session, and none of that name is live
+pub asks_missing : (d d' : Known Entry) (s s' : Sessions) (l : Lines) (h : List HostFacts) (text sid : List ℕ) (found : Option ℕ) → found ≡ None → text ≡ sid
+    → IfNone found (IsUnchanged s s' × Calls (λ e. e.caller) (λ before made. (made ≡ None) × (live_at before text ≡ None)) d d')
+    → AsksDirectory (Calls (λ e. e.caller) (λ before made. (made ≡ None) × (live_at before sid ≡ None))) (pumping d s l h) (pumping d' s' l h)
+asks_missing d d' s s' l h text sid None is same told = directory_asked d d' s s' l h (missing_named d d' text sid same told.1) told.0
+asks_missing d d' s s' l h text sid (Some number) is same told = absurd (none-some number (sym is))
+
+pub found_held : (old new : Sessions) (number : ℕ) (sid : List ℕ) → IsFound old new number sid → IsSome (held new number)
+found_held old new number sid found = subst IsSome (sym found.holds.is) refl
+
+-- ---- the end of a turn
+
+pub not_asked_so : {moment : Option ℕ} (a b : Pumping) (result : Result ℕ AllocError) → IsErr result → AsksDirectory (Looks (λ log. Unit {0})) a b → Turns moment a b result
+not_asked_so a b (Ok count) err asked = absurd (true≢false (sym err))
+not_asked_so a b (Err error) err asked = not_asked error asked
+
+pub shut_nobody_so : {moment : Option ℕ} (a b : Pumping) (result : Result ⊤ AllocError) → IsErr result → AsksDirectory (Looks (λ log. Unit {0})) a b → ShutsDown moment a b result
+shut_nobody_so a b (Ok done) err asked = absurd (true≢false (sym err))
+shut_nobody_so a b (Err error) err asked = shuts_nobody error asked
+
+pub counted_so : {b : Pumping} (a : Pumping) (done asked : Result ⊤ AllocError) (result : Result ℕ AllocError) → done ≡ asked → CountsLive a b done result → CountsLive a b asked result
+counted_so {b} a done asked result is counts = subst (λ (r : Result ⊤ AllocError). CountsLive a b r result) is counts
+
+pub counted_live : {b : Pumping} (a : Pumping) (done : Result ⊤ AllocError) (live : List LiveSession) (count : ℕ) → done ≡ Ok tt → count ≡ length live → AsksLive live a b
+    → CountsLive a b done (Ok count)
+counted_live {b} a done live count is same asks =
+    subst (λ (n : ℕ). CountsLive a b done (Ok n)) (sym same) (counted_so a (Ok tt) done (Ok (length live)) (sym is) (counted live asks))
+
+pub all_places : {Does : ℕ → Step} {X : Type 0} (facts : X → HostFacts) {a b : Pumping} {result : Result ⊤ AllocError} (stands : List X) → EachPlace Does a (length stands) b result
+    → EachPlace Does a (length (map facts stands)) b result
+all_places {Does} facts {a} {b} {result} stands each = subst (λ (n : ℕ). EachPlace Does a n b result) (sym (length-map stands facts)) each
