@@ -1,27 +1,29 @@
 -- Whether a session of a name is held, and what its pass made.
-use Rattle.std.proofs.Common.{◌≡◌, ◌≤◌, ◌<◌, ◌+◌, ℕ, Bool, true, false, cond, List, [], Option, Some, None, length, refl, sym, ◌∙◌, ap, subst, inl, inr, arith}
-use Rattle.std.specs.Prelude.{OnErr, Result, Ok, Err, bytes_eq}
+use Rattle.std.proofs.Common.{◌≡◌, ◌≤◌, ◌<◌, ◌+◌, ℕ, Bool, true, false, cond, List, [], ◌∷◌, Option, Some, None, length, refl, sym, ◌∙◌, ap, subst, inl, inr, arith}
+use Rattle.std.specs.Prelude.{All, Contains, OnErr, Result, Ok, Err, bytes_eq}
 use Rattle.std.specs.declared.alloc.AllocError.{AllocError}
-use Rattle.std.proofs.lemmas.List.Elements.{All-filter}
+use Rattle.std.proofs.lemmas.List.Elements.{All-cons, All-contains, All-filter, All-head, All-map, All-nil, All-tail}
 use Rattle.bosh_types.specs.Limits.{most_openings}
 use Rattle.parked_gate.specs.Histories.{Appends}
 use Rattle.parked_gate.specs.Passes.{Calls, Known, known}
 use Rattle.session_table.specs.declared.calls.DirectoryCall.TheVariants as calls
 use Rattle.session_table.specs.declared.calls.DirectoryReply.{DirectoryReply}
+use Rattle.session_table.specs.declared.calls.LiveSession.{LiveSession}
 use Rattle.session_table.specs.declared.calls.Opened.{Opened}
 use Rattle.session_table.specs.declared.entry.Entry.{Entry}
 use Rattle.session_table.specs.declared.handle.SessionHandle.{SessionHandle}
 use Rattle.session_table.specs.declared.opening.Opening.{Opening}
 use Rattle.session_table.specs.History.{IsLegal, live_of, openings_of}
 use Rattle.session_table.specs.Keeping.{session_of}
-use Rattle.session_table.specs.Purses.{IsFound, IsNotHeld, OpensOrNot, OthersStay, Sessions, found_of, held, own_entries}
-use Rattle.session_table.specs.Replies.{Finds, Opens, RepliesTo}
+use Rattle.session_table.specs.Purses.{IsFound, IsNotHeld, IsNumberOf, OpensOrNot, OthersStay, Sessions, found_of, held, own_entries}
+use Rattle.session_table.specs.Replies.{Finds, Opens, RepliesTo, live_sessions}
 use Rattle.session_table.specs.Sessions.{OpenedSession}
 use Rattle.session_table.specs.Sids.{IsSidOf}
 use Rattle.session_table.proofs.KeepingLemmas.{Numbers, all_below, opened_below}
 use Rattle.session_table.proofs.LiveLists.{filter_below, named_all}
 use Rattle.session_table.proofs.PassLemmas.{enters_nothing, finds, found_by_name, holds_found}
 use Rattle.session_table.proofs.PurseLemmas.{others_beside}
+use Rattle.session_table.proofs.SidLemmas.{one_number}
 
 some_same : {X : Type 0} (x y : X) → Some x ≡ Some y → x ≡ y
 some_same x y is = cc
@@ -40,6 +42,9 @@ unnumbered sessions sid found is numbers number few named = absurd (none_some nu
 module _ (sessions : Sessions) (sid : List ℕ) (found : Option ℕ) (n : ℕ) (is : found ≡ Some n) (numbers : Numbers sid found) where
   same_number : (number : ℕ) → number ≤ most_openings → IsSidOf sid number → held sessions number ≡ held sessions n
   same_number number few named = ap (held sessions) (some_same number n (sym (numbers number few named) ∙ is))
+
+  pub numbered_so : IsNumberOf sid n
+  numbered_so number few named = some_same n number (sym is ∙ numbers number few named)
 
   pub nothing_held : held sessions n ≡ None → IsNotHeld sessions sid
   nothing_held none number few named = ap (own_entries sid) (same_number number few named ∙ none)
@@ -67,6 +72,35 @@ found_number log sid x legal found =
           (named_all (λ (s : OpenedSession). IsSidOf s.sid s.number) sid (live_of log) (session_of x) (All-filter _ (λ (s : OpenedSession). IsSidOf s.sid s.number) (openings_of log) legal.named) found.live),
     )
 
+-- what the directory tells of a live session
+abbrev told_as : OpenedSession → LiveSession
+told_as session = record { sid = session.sid; number = session.number }
+
+abbrev IsTold : LiveSession → Type 0
+IsTold session = (number : ℕ) → IsNumberOf session.sid number → number ≡ session.number
+
+-- live sessions are told under their numbers
+pub live_numbered : (log : List Entry) → IsLegal log → (session : LiveSession) → Contains (live_sessions log) session
+    → (number : ℕ) → IsNumberOf session.sid number → number ≡ session.number
+live_numbered log legal session is =
+    All-contains IsTold (live_sessions log) session (All-map IsTold told_as (live_of log)
+    (told (live_of log) (all_below _ (live_of log) (filter_below _ _ (openings_of log) (opened_below log)))
+    (All-filter _ (λ (s : OpenedSession). IsSidOf s.sid s.number) (openings_of log) legal.named))) is
+  where
+    Below : OpenedSession → Type 0
+    Below s = s.number < length (openings_of log) + 1
+
+    Named : OpenedSession → Type 0
+    Named s = IsSidOf s.sid s.number
+
+    told : (ss : List OpenedSession) → All Below ss → All Named ss → All (λ s. IsTold (told_as s)) ss
+    told [] low named = All-nil (λ s. IsTold (told_as s))
+    told (s ∷ ss) low named =
+        let below : s.number < length (openings_of log) + 1 = All-head Below s ss low in
+        All-cons (λ s. IsTold (told_as s)) s ss
+        (λ number of. of s.number (omega (arith, below, legal.few_opened)) (All-head Named s ss named))
+        (told ss (All-tail Below s ss low) (All-tail Named s ss named))
+
 -- who was found is held, and nothing of it was
 pub held_found : (sid text : List ℕ) (reply : DirectoryReply) (x : SessionHandle) (old_pass new_pass : Known Entry) (old new : Sessions) (number : ℕ)
     → IsLegal new_pass.seen → Calls (λ e. e.caller) (λ log made. RepliesTo log (calls.Find text) (Ok reply) made) old_pass new_pass
@@ -79,6 +113,7 @@ held_found sid text reply x old_pass new_pass old new number legal called is sam
     let of = found_number called.before sid x (subst IsLegal seen legal) found in
     record {
       holds = holds_found called.before sid text reply called.made x new number is called.says same numbered there;
+      of_name = λ told few named. numbered ∙ one_number sid x.number told of.0 few of.1 named;
       others = others_beside old new number x.number numbered others;
       own = subst (λ n. own_entries sid (held new n) ≡ own_entries sid (held old n)) (sym numbered)
           (ap (own_entries sid) there ∙ (own_none sid x found.mine ∙ sym (not_held x.number of.0 of.1)));

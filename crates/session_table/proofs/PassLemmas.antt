@@ -1,5 +1,5 @@
 -- What a pass of the directory knows after a call or a question, and what a call was replied.
-use Rattle.std.proofs.Common.{◌≡◌, ◌≢◌, ℕ, Bool, true, false, cond, List, [], ◌∷◌, ◌++◌, length, Option, Some, None, refl, sym, ◌∙◌, ap, subst, append_assoc}
+use Rattle.std.proofs.Common.{◌≡◌, ℕ, Bool, true, false, cond, List, [], ◌∷◌, ◌++◌, length, Option, Some, None, refl, sym, ◌∙◌, ap, subst, append_assoc}
 use Rattle.std.specs.Prelude.{Result, Ok, Err, bytes_eq}
 use Rattle.std.specs.Option.{option_to_list}
 use Rattle.std.specs.declared.alloc.AllocError.{AllocError}
@@ -10,15 +10,12 @@ use Rattle.parked_gate.specs.Passes.{Calls, Grows, Known, Looks}
 use Rattle.session_table.specs.declared.calls.DirectoryCall.TheVariants as calls
 use Rattle.session_table.specs.declared.calls.DirectoryReply.{DirectoryReply}
 use Rattle.session_table.specs.declared.calls.DirectoryReply.TheVariants as replies
-use Rattle.session_table.specs.declared.calls.Opened.{Opened}
 use Rattle.session_table.specs.declared.entry.Entry.{Entry}
 use Rattle.session_table.specs.declared.handle.SessionHandle.{SessionHandle}
-use Rattle.session_table.specs.declared.opening.Opening.{Opening}
 use Rattle.session_table.specs.History.{live_at, live_of}
 use Rattle.session_table.specs.Purses.{Holds, Sessions, found_of, held}
 use Rattle.session_table.specs.Replies.{Finds, RepliesTo}
 use Rattle.session_table.specs.Sessions.{OpenedSession, named}
-use Rattle.session_table.proofs.LiveLists.{tested}
 
 -- ---- what a pass knows
 

@@ -1,5 +1,5 @@
 -- What a worker holds, as its sessions are called, opened and let go.
-use Rattle.std.proofs.Common.{◌≡◌, ◌≢◌, ◌==◌, ℕ, Bool, true, false, cond, List, [], ◌∷◌, map, filter, Option, Some, None, refl, sym, ◌∙◌, ap, subst}
+use Rattle.std.proofs.Common.{◌≡◌, ◌==◌, ℕ, Bool, true, false, cond, List, [], ◌∷◌, map, filter, Option, Some, None, refl, sym, ◌∙◌, ap, subst}
 use Rattle.std.specs.Prelude.{IsSome, Ok, bytes_eq, ◌||◌}
 use Rattle.std.specs.BTreeMap.{UpdatesBy, WritesThrough, is_at}
 use Rattle.std.specs.List.{list_any}

@@ -1,5 +1,5 @@
 -- The number at the end of a session's name.
-use Rattle.std.proofs.Common.{◌≡◌, ◌⊎◌, ◌^◌, ◌≤◌, ◌<◌, ◌+◌, ◌-◌, ℕ, Bool, true, false, List, [], ◌∷◌, ◌++◌, Result, Ok, length, get_or, drop, refl, sym, ◌∙◌, ap, subst, inl, inr, ⊎_elim, length-append, arith}
+use Rattle.std.proofs.Common.{◌≡◌, ◌^◌, ◌≤◌, ◌<◌, ◌+◌, ◌-◌, ℕ, Bool, true, false, List, [], ◌∷◌, Result, Ok, length, get_or, drop, refl, sym, ◌∙◌, ap, subst, length-append, arith}
 use Rattle.std.proofs.Math.Seq.{drop-append_seam}
 use Rattle.std.proofs.lemmas.List.{get_or_append_left, get_or-append_right}
 use Rattle.std.proofs.lemmas.Bool.Decides.{nat_tests}

@@ -1,7 +1,7 @@
 -- Handles of sessions.
 use Rattle.std.specs.Prelude.{◌≡◌, []}
 use Rattle.std.specs.Arc.{arc_value}
-use Rattle.parked_gate.specs.Passes.{gate_of, known, IsLegalPass}
+use Rattle.parked_gate.specs.Passes.{gate_of, known}
 use Rattle.session_table.specs.declared.handle.SessionHandle.{SessionHandle}
 
 -- two handles of one session, each with a pass of its gate

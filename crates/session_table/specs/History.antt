@@ -1,5 +1,5 @@
 -- The history of a directory: which sessions were opened, and which of them are live.
-use Rattle.std.specs.Prelude.{◌≡◌, ℕ, ◌≤◌, List, length, All, Contains, Option, Some, None}
+use Rattle.std.specs.Prelude.{ℕ, ◌≤◌, List, length, All, Contains, Option, Some, None}
 use Rattle.std.specs.List.{filter_map}
 use Rattle.std.specs.Option.{option_map}
 use Rattle.bosh_types.specs.Limits.{most_sessions, most_openings}

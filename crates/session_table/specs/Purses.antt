@@ -45,9 +45,14 @@ own_entries sid (Some handle) = if bytes_eq handle.sid sid then (known handle.pa
 abbrev pub IsNotHeld : Sessions → List ℕ → Type 0
 IsNotHeld sessions sid = (number : ℕ) → number ≤ most_openings → IsSidOf sid number → own_entries sid (held sessions number) ≡ []
 
--- the session of this name is held under this number: by the handle that was held, or by one that made no entry yet
+-- where the name has an opening number at its end, it is this one
+abbrev pub IsNumberOf : List ℕ → ℕ → Type 0
+IsNumberOf sid number = (told : ℕ) → told ≤ most_openings → IsSidOf sid told → number ≡ told
+
+-- the session of this name is held under its number: by the handle that was held, or by one that made no entry yet
 pub record IsFound (old new : Sessions) (number : ℕ) (sid : List ℕ) : Type 0 where
   pub holds : Holds new number sid
+  pub of_name : IsNumberOf sid number
   pub others : OthersStay number old new
   pub own : own_entries sid (held new number) ≡ own_entries sid (held old number)
 

@@ -9,7 +9,7 @@ ghost use Rattle.session_core.specs.Journal.{IsAllowed};
 ghost use Rattle.session_journal.specs.Calls.{call_in};
 ghost use Rattle.session_journal.specs.Seen.{Answers, RepliesTo};
 ghost use Rattle.session_table.specs.History.{live_at};
-ghost use Rattle.session_table.specs.Purses.{Holds, IsFound, IsNotHeld, KeepsLive, OpensInto, OpensOrNot, OthersStay, StaysBeside, Turned, found_of, held};
+ghost use Rattle.session_table.specs.Purses.{Holds, IsFound, IsNotHeld, IsNumberOf, KeepsLive, OpensInto, OpensOrNot, OthersStay, StaysBeside, Turned, found_of, held};
 ghost use Rattle.session_table.specs.Replies.{MayOpen};
 ghost use Rattle.session_table.specs.Serving.{PollsAs, WaitsAs};
 
@@ -50,6 +50,7 @@ impl Purse {
     /// The opening number under which the session of this name is held.
     fn held_as(&self, sid: &[u8]) -> Option<u64>
         ensures held { IfSome result (λ number. Holds self.now.sessions number sid.now) }
+        ensures of_name { IfSome result (λ number. IsNumberOf sid.now number) }
         ensures not_held { IfNone result (IsNotHeld self.now.sessions sid.now) }
     {
         let sessions = &self.sessions;

@@ -1,5 +1,5 @@
 use Rattle.std.proofs.Common.{sym}
-use Rattle.session_table.proofs.HoldingLemmas.{held_otherwise, nothing_held, unnumbered}
+use Rattle.session_table.proofs.HoldingLemmas.{held_otherwise, nothing_held, numbered_so, unnumbered}
 use Rattle.session_table.proofs.PurseLemmas.{holds_named}
 use Rattle.session_table.proofs.purse.Purse.held_as.Goals as goal
 
@@ -17,3 +17,6 @@ pub returns-clause-not_held : goal.returns-clause-not_held
 returns-clause-not_held c =
     held_otherwise c.args.self.now.sessions c.args.sid.now c.number_in.result c.in-Some.number c.in-Some.is c.number_in.ensures c.in-Some-get.session.now c.as_slice.result.now c.eq.result
     (sym c.in-Some-get.ensures.value) c.as_slice.ensures c.eq.ensures c.if-eq.false
+
+pub returns-then-eq-clause-of_name : goal.returns-then-eq-clause-of_name
+returns-then-eq-clause-of_name c = numbered_so c.args.self.now.sessions c.args.sid.now c.number_in.result c.in-Some.number c.in-Some.is c.number_in.ensures
