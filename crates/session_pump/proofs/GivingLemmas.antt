@@ -1,9 +1,11 @@
 -- What becomes of what is given to a session, and moves with it.
 use Rattle.std.proofs.Common.{◌≡◌, ◌≢◌, ◌/◌, ◌+◌, ℕ, List, length, Option, Some, None, Result, Ok, Err, refl, sym, subst, ap, ◌∙◌, false, true≢false}
 use Rattle.std.specs.Bool.{⊤}
+use Rattle.std.specs.Prelude.{is_some, ◌||◌, true}
 use Rattle.std.specs.Result.{IsErr}
 use Rattle.std.specs.declared.alloc.AllocError.{AllocError}
 use Rattle.bosh_types.specs.declared.ending.Closing.{Closing}
+use Rattle.bosh_types.specs.declared.ending.Ending.{Ending}
 use Rattle.parked_gate.specs.Passes.{Known, Looks}
 use Rattle.session_core.specs.declared.replies.Taken.{Taken}
 use Rattle.session_core.specs.declared.replies.Taken.TheVariants as takings
@@ -23,14 +25,14 @@ use Rattle.xmpp_backend.specs.Told.{given_too}
 use Rattle.xmpp_backend.specs.declared.backend.Given.{Given}
 use Rattle.xmpp_backend.specs.declared.backend.Given.TheVariants as given
 use Rattle.session_pump.specs.Ends.{Changes, Ends, GivesOn, HasFailed, Shifts}
-use Rattle.session_pump.specs.Giving.{FindsNoRoom, GiveMoves, Gives, GivesOnce, GivesTimes, HadNoRoom, HostSide, IsAsked, LacksRoom, PollGave, PollsHost, PollsOut, Refuses, Tried, again, asks, called, does_nothing, fails, finds_nothing, gave_much, gives, had_no_room, had_nothing, has_failed, has_room, is_full, is_refused, lacks_room, lets_go, more, most_polls, moves, never, none, polls, wants_memory}
+use Rattle.session_pump.specs.Giving.{FindsNoRoom, GiveMoves, Gives, GivesOnce, GivesTimes, HadNoRoom, HasRoom, HostSide, IsAsked, IsReady, LacksRoom, OnceReady, PollGave, PollsHost, PollsOut, Refuses, Takes, Tried, again, asks, called, does_nothing, fails, finds_nothing, finds_room, gave_much, gives, had_no_room, had_nothing, has_failed, has_room, is_full, is_refused, lacks_room, lets_go, more, most_polls, moves, never, none, polls, wants_memory}
 use Rattle.session_pump.specs.Sides.{Called, ClosesStream, IsAt}
 use Rattle.bosh_types.specs.Limits.{most_streams}
 use Rattle.session_pump.specs.declared.line.Owing.{Owing}
 use Rattle.session_pump.specs.declared.giving.Giving.{Giving}
 use Rattle.session_pump.specs.declared.giving.Giving.TheVariants as givings
 use Rattle.session_pump.proofs.MovesLemmas.{ends_are}
-use Rattle.session_pump.proofs.TurnedLemmas.{turned_as}
+use Rattle.session_pump.proofs.TurnedLemmas.{turned_as, turned_then}
 
 says_so : (moment : Option ℕ) (now : ℕ) (text : List ℕ) (giving : Giving) (reply : Reply) (k m : Known Entry)
     → (giving ≡ givings.Done → (taken : Taken) × (reply ≡ replies.Back taken) × (taken ≢ takings.Full)) → (giving ≡ givings.Full → reply ≡ replies.Back takings.Full)
@@ -85,21 +87,33 @@ pub is_asked : {moment : Option ℕ} (kept : Option Owing) (owing : Owing) (ends
     → Turned owing.number s t IsAsked → OthersStay owing.number s t → GiveMoves moment (host kept ends s) (host (Some owing) ends t)
 is_asked {moment} kept owing ends s t is turned others = kept_by moment kept owing ends s (host (Some owing) ends t) is (more none (asks owing t refl turned others))
 
+-- it was given once that was ready
+once_ready : (owing : Owing) (s t u : Sessions) (Given : Known Entry → Known Entry → Type 0) → Turned owing.number s t (IsReady owing) → Turned owing.number t u Given
+    → Turned owing.number s u (OnceReady owing Given)
+once_ready owing s t u Given ready turned = turned_then owing.number s t u (IsReady owing) Given (OnceReady owing Given) (λ k l m is given. (l, is, given)) ready turned
+
+both_stay : (number : ℕ) (s t u : Sessions) → OthersStay number s t → OthersStay number t u → OthersStay number s u
+both_stay number s t u first second other apart = second other apart ∙ first other apart
+
 -- its session took it
 pub is_taken : {moment : Option ℕ} (kept : Option Owing) (owing : Owing) (ends : Ends) (s t u : Sessions) (giving : Giving) → kept ≡ Some owing → giving ≡ givings.Done
-    → Turned owing.number s t IsAsked → OthersStay owing.number s t
+    → Turned owing.number s t (IsReady owing) → OthersStay owing.number s t
     → Turned owing.number t u (Gives moment owing.given (Ok giving)) → OthersStay owing.number t u → GiveMoves moment (host kept ends s) (host None ends u)
-is_taken {moment} kept owing ends s t u giving is done asked stay turned others =
-    gives_then (is_asked kept owing ends s t is asked stay)
-    (more none (gives owing u refl (subst (λ g. Turned owing.number t u (Gives moment owing.given (Ok g))) done turned) others))
+is_taken {moment} kept owing ends s t u giving is done ready stay turned others =
+    kept_by moment kept owing ends s (host None ends u) is
+    (more none (gives owing u refl
+    (once_ready owing s t u (Takes moment owing.given) ready (subst (λ g. Turned owing.number t u (Gives moment owing.given (Ok g))) done turned))
+    (both_stay owing.number s t u stay others)))
 
 -- its session has no room
 pub is_full_for : {moment : Option ℕ} (kept : Option Owing) (owing later : Owing) (ends : Ends) (s t u : Sessions) (giving : Giving) → kept ≡ Some owing → giving ≡ givings.Full
-    → later.number ≡ owing.number → later.given ≡ owing.given → Turned owing.number s t IsAsked → OthersStay owing.number s t
+    → later.number ≡ owing.number → later.given ≡ owing.given → later.was_refused ≡ true → Turned owing.number s t (IsReady owing) → OthersStay owing.number s t
     → Turned owing.number t u (Gives moment owing.given (Ok giving)) → OthersStay owing.number t u → GiveMoves moment (host kept ends s) (host (Some later) ends u)
-is_full_for {moment} kept owing later ends s t u giving is full number same asked stay turned others =
-    gives_then (is_asked kept owing ends s t is asked stay)
-    (more none (is_refused owing later u refl number same (subst (λ g. Turned owing.number t u (Gives moment owing.given (Ok g))) full turned) others))
+is_full_for {moment} kept owing later ends s t u giving is full number same marked ready stay turned others =
+    kept_by moment kept owing ends s (host (Some later) ends u) is
+    (more none (is_refused owing later u refl number same marked
+    (once_ready owing s t u (Refuses moment owing.given) ready (subst (λ g. Turned owing.number t u (Gives moment owing.given (Ok g))) full turned))
+    (both_stay owing.number s t u stay others)))
 
 -- there was no memory for it
 pub is_wanted : {moment : Option ℕ} (kept : Option Owing) (owing : Owing) (ends : Ends) (s t u : Sessions) → kept ≡ Some owing
@@ -114,9 +128,9 @@ polled_as kept owing e f s same = ap (λ (ends : Ends). host (Some owing) ends s
 
 -- the back end gave something on a wire that was opened
 pub has_polled : (kept kept' : Option Owing) (owing : Owing) (wire : ℕ) (what : Given) (e f : Ends) (s : Sessions) → kept ≡ None → kept' ≡ Some owing
-    → owing.number ≡ wire / most_streams → owing.given ≡ what → GivesOn wire what e f
+    → owing.number ≡ wire / most_streams → owing.given ≡ what → owing.was_refused ≡ false → GivesOn wire what e f
     → PollGave (host kept e s) (host kept' f s)
-has_polled kept kept' owing wire what e f s empty is number same found =
+has_polled kept kept' owing wire what e f s empty is number same fresh found =
     let shifts = subst (λ g. Shifts (given_too wire g) (λ count. count) counted_on e f) (sym same) found.1 in
     record {
       owing = owing;
@@ -124,6 +138,7 @@ has_polled kept kept' owing wire what e f s empty is number same found =
       told = f.told;
       empty = empty;
       number = number;
+      fresh = fresh;
       opened = found.0;
       given = shifts.told;
       is = ap (λ (k : Option Owing). host k f s) is ∙ polled_as kept owing e f s (ends_are (given_too wire owing.given) (λ count. count) counted_on e f shifts);
@@ -210,9 +225,6 @@ over_after first (has_failed ends rest empty failed) = has_failed ends (gives_th
 over_after first (had_no_room full) = had_no_room (no_room_after first full)
 over_after first (gave_much times rest empty) = gave_much (times_after first times) rest empty
 
-refuses_so : {moment : Option ℕ} {what : Given} {k m : Known Entry} → Refuses moment what k m → FindsNoRoom moment what k m
-refuses_so refuses = is_full refuses
-
 -- there is no room for what is kept, by what the session answered
 pub has_no_room : {moment : Option ℕ} (kept : Option Owing) (owing : Owing) (ends : Ends) (s t : Sessions) → kept ≡ Some owing
     → Turned owing.number s t (Looks (LacksRoom owing.given)) → OthersStay owing.number s t → HadNoRoom moment (host kept ends s) (host (Some owing) ends t)
@@ -225,27 +237,27 @@ has_no_room {moment} kept owing ends s t is looked others = record {
   kept = is;
   number = refl;
   given = refl;
-  found = turned_as owing.number s t (Looks (LacksRoom owing.given)) (FindsNoRoom moment owing.given) (λ k m looks. lacks_room looks) looked;
+  found = turned_as owing.number s t (Looks (LacksRoom owing.given)) (FindsNoRoom moment owing) (λ k m looks. lacks_room looks) looked;
   others = others;
   is = refl;
 }
 
 -- its session refused it
 pub was_refused : {moment : Option ℕ} (kept : Option Owing) (owing later : Owing) (ends : Ends) (s t u : Sessions) (giving : Giving) → kept ≡ Some owing → giving ≡ givings.Full
-    → later.number ≡ owing.number → later.given ≡ owing.given → Turned owing.number s t IsAsked → OthersStay owing.number s t
+    → later.number ≡ owing.number → later.given ≡ owing.given → Turned owing.number s t (IsReady owing) → OthersStay owing.number s t
     → Turned owing.number t u (Gives moment owing.given (Ok giving)) → OthersStay owing.number t u → HadNoRoom moment (host kept ends s) (host (Some later) ends u)
-was_refused {moment} kept owing later ends s t u giving is full number same asked stay turned others = record {
-  before = host (Some owing) ends t;
-  moves = is_asked kept owing ends s t is asked stay;
+was_refused {moment} kept owing later ends s t u giving is full number same ready stay turned others = record {
+  before = host kept ends s;
+  moves = none;
   owing = owing;
   later = later;
   sessions = u;
-  kept = refl;
+  kept = is;
   number = number;
   given = same;
-  found = turned_as owing.number t u (Refuses moment owing.given) (FindsNoRoom moment owing.given) (λ k m refuses. refuses_so refuses)
-      (subst (λ g. Turned owing.number t u (Gives moment owing.given (Ok g))) full turned);
-  others = others;
+  found = turned_as owing.number s u (OnceReady owing (Refuses moment owing.given)) (FindsNoRoom moment owing) (λ k m refuses. is_full refuses)
+      (once_ready owing s t u (Refuses moment owing.given) ready (subst (λ g. Turned owing.number t u (Gives moment owing.given (Ok g))) full turned));
+  others = both_stay owing.number s t u stay others;
   is = refl;
 }
 
@@ -265,6 +277,24 @@ lacks_so number a b what answer found turned =
     (λ log says. subst (λ (x : Given). LacksRoom x log) (sym found.2) (found.0, subst (λ (x : Answer). Answers log questions.Load (Ok x)) found.3 says, found.4))
     looks)
     turned
+
+has_room_by : (what : Given) (log : List Entry) (answer : Answer)
+    → ((text : List ℕ) → what ≡ given.Stanza text
+    → (waiting : Waiting) × (ending : Option Ending) × (answer ≡ answers.Load waiting ending) × ((is_some ending || has_room waiting (length text)) ≡ true))
+    → Answers log questions.Load (Ok answer) → HasRoom what log
+has_room_by (given.Stanza text) log answer says answered =
+    let found = says text refl in
+    (found.0, found.1, subst (λ (x : Answer). Answers log questions.Load (Ok x)) found.2 answered, found.3)
+has_room_by (given.Closed closing) log answer says answered = tt
+
+-- the session answered that there is room, or that it has ended
+pub ready_so : (number : ℕ) (a b : Sessions) (owing : Owing) (answer : Answer)
+    → ((text : List ℕ) → owing.given ≡ given.Stanza text
+    → (waiting : Waiting) × (ending : Option Ending) × (answer ≡ answers.Load waiting ending) × ((is_some ending || has_room waiting (length text)) ≡ true))
+    → Turned number a b (Looks (λ log. Answers log questions.Load (Ok answer))) → Turned number a b (IsReady owing)
+ready_so number a b owing answer says turned =
+    turned_as number a b (Looks (λ log. Answers log questions.Load (Ok answer))) (IsReady owing)
+    (λ k m looks. finds_room (looks_as (λ log answered. has_room_by owing.given log answer says answered) looks)) turned
 
 -- there was no memory for it
 pub polls_err : {moment : Option ℕ} {h j : HostSide} (result : Result ⊤ AllocError) → IsErr result → GiveMoves moment h j → PollsHost moment h j result

@@ -1,7 +1,8 @@
 -- What the back end of a host gave, on its way to the sessions, and the moves that the pump makes with it.
-use Rattle.std.specs.Prelude.{◌≡◌, ◌≢◌, ◌+◌, ◌/◌, ◌&&◌, ℕ, ⊤, Bool, false, nat_lt, nat_le, List, length, Option, Some, None, Result, Ok, Err}
+use Rattle.std.specs.Prelude.{◌≡◌, ◌≢◌, ◌+◌, ◌/◌, ◌&&◌, ◌||◌, ℕ, ⊤, Bool, true, false, is_some, nat_lt, nat_le, List, length, Option, Some, None, Result, Ok, Err}
 use Rattle.std.specs.declared.alloc.AllocError.{AllocError}
 use Rattle.bosh_types.specs.Limits.{most_streams, most_waiting, waiting_bytes}
+use Rattle.bosh_types.specs.declared.ending.Ending.{Ending}
 use Rattle.parked_gate.specs.Passes.{Known, Looks}
 use Rattle.session_core.specs.declared.replies.Taken.{Taken}
 use Rattle.session_core.specs.declared.replies.Taken.TheVariants as takings
@@ -57,6 +58,31 @@ Gives moment what (Ok givings.Done) old new = Takes moment what old new
 Gives moment what (Ok givings.Full) old new = Refuses moment what old new
 Gives moment what (Err error) old new = Tried old new
 
+-- whether a stanza of so many bytes may wait beside what waits
+abbrev pub has_room : Waiting → ℕ → Bool
+has_room waiting bytes = nat_lt waiting.items most_waiting && nat_le (waiting.bytes + bytes) waiting_bytes
+
+-- the session hasn't ended, and so much waits in it that the stanza has no room; for a closing there is always room
+abbrev pub LacksRoom : Given → List Entry → Type 0
+LacksRoom (given.Stanza text) log = (waiting : Waiting) × Answers log questions.Load (Ok (answers.Load waiting None)) × (has_room waiting (length text) ≡ false)
+LacksRoom (given.Closed closing) log = ⊥
+
+-- the session has ended, or there is room in it for the stanza
+abbrev pub HasRoom : Given → List Entry → Type 0
+HasRoom (given.Stanza text) log =
+    (waiting : Waiting) × (ending : Option Ending) × Answers log questions.Load (Ok (answers.Load waiting ending))
+    × ((is_some ending || has_room waiting (length text)) ≡ true)
+HasRoom (given.Closed closing) log = Unit {0}
+
+-- what is kept wasn't refused before, or its session was asked for room just now and has it
+pub data IsReady (owing : Owing) : Known Entry → Known Entry → Type 0 where
+  is_new : {k : Known Entry} → owing.was_refused ≡ false → IsReady owing k k
+  finds_room : {k m : Known Entry} → Looks (HasRoom owing.given) k m → IsReady owing k m
+
+-- it is given only then
+abbrev pub OnceReady : Owing → (Known Entry → Known Entry → Type 0) → Known Entry → Known Entry → Type 0
+OnceReady owing Given k m = (l : Known Entry) × IsReady owing k l × Given l m
+
 -- its back end gave this on a wire that was opened, and it is kept for that wire's session; nothing was kept before
 pub record PollGave (h i : HostSide) : Type 0 where
   pub owing : Owing
@@ -64,12 +90,13 @@ pub record PollGave (h i : HostSide) : Type 0 where
   pub told : Option Told
   pub empty : h.kept ≡ None
   pub number : owing.number ≡ wire / most_streams
+  pub fresh : owing.was_refused ≡ false
   pub opened : WasOpened h.ends.told wire
   pub given : Becomes h.ends.told told (given_too wire owing.given)
   pub is : i ≡ record h { kept = Some owing; ends = record h.ends { told = told; answers = counted_on h.ends.answers } }
 
 -- One move of the pump for a host. What its back end gives is kept until its session takes it, and nothing more is polled till
--- then. No move is made but these.
+-- then; where the session had no room for it, it is given again only once that says that it has. No move is made but these.
 pub data GiveMove (moment : Option ℕ) : HostSide → HostSide → Type 0 where
   polls : {h i : HostSide} → PollGave h i → GiveMove moment h i
   finds_nothing : {h : HostSide} (told : Option Told) → h.kept ≡ None → StaysAs h.ends.told told
@@ -77,11 +104,11 @@ pub data GiveMove (moment : Option ℕ) : HostSide → HostSide → Type 0 where
   fails : {h : HostSide} (ends : Ends) → h.kept ≡ None → HasFailed h.ends ends → GiveMove moment h (record h { ends = ends })
   does_nothing : {h : HostSide} (told : Option Told) → StaysAs h.ends.told told → GiveMove moment h (record h { ends = record h.ends { told = told } })
   gives : {h : HostSide} (owing : Owing) (sessions : Sessions) → h.kept ≡ Some owing
-      → Turned owing.number h.sessions sessions (Takes moment owing.given) → OthersStay owing.number h.sessions sessions
+      → Turned owing.number h.sessions sessions (OnceReady owing (Takes moment owing.given)) → OthersStay owing.number h.sessions sessions
       → GiveMove moment h (record h { kept = None; sessions = sessions })
   is_refused : {h : HostSide} (owing later : Owing) (sessions : Sessions) → h.kept ≡ Some owing
-      → later.number ≡ owing.number → later.given ≡ owing.given
-      → Turned owing.number h.sessions sessions (Refuses moment owing.given) → OthersStay owing.number h.sessions sessions
+      → later.number ≡ owing.number → later.given ≡ owing.given → later.was_refused ≡ true
+      → Turned owing.number h.sessions sessions (OnceReady owing (Refuses moment owing.given)) → OthersStay owing.number h.sessions sessions
       → GiveMove moment h (record h { kept = Some later; sessions = sessions })
   asks : {h : HostSide} (owing : Owing) (sessions : Sessions) → h.kept ≡ Some owing
       → Turned owing.number h.sessions sessions IsAsked → OthersStay owing.number h.sessions sessions
@@ -109,19 +136,10 @@ pub data GivesTimes (moment : Option ℕ) : ℕ → HostSide → HostSide → Ty
 abbrev pub GivesOnce : Option ℕ → HostSide → HostSide → Type 0
 GivesOnce moment h j = (i : HostSide) × GiveMoves moment h i × PollGave i j
 
--- whether a stanza of so many bytes may wait beside what waits
-abbrev pub has_room : Waiting → ℕ → Bool
-has_room waiting bytes = nat_lt waiting.items most_waiting && nat_le (waiting.bytes + bytes) waiting_bytes
-
--- the session hasn't ended, and so much waits in it that the stanza has no room; for a closing there is always room
-abbrev pub LacksRoom : Given → List Entry → Type 0
-LacksRoom (given.Stanza text) log = (waiting : Waiting) × Answers log questions.Load (Ok (answers.Load waiting None)) × (has_room waiting (length text) ≡ false)
-LacksRoom (given.Closed closing) log = ⊥
-
--- the session refused what is given, or was looked at and lacks room for it
-pub data FindsNoRoom (moment : Option ℕ) (what : Given) : Known Entry → Known Entry → Type 0 where
-  is_full : {k m : Known Entry} → Refuses moment what k m → FindsNoRoom moment what k m
-  lacks_room : {k m : Known Entry} → Looks (LacksRoom what) k m → FindsNoRoom moment what k m
+-- the session refused what is given, or was asked for room and lacks it
+pub data FindsNoRoom (moment : Option ℕ) (owing : Owing) : Known Entry → Known Entry → Type 0 where
+  is_full : {k m : Known Entry} → OnceReady owing (Refuses moment owing.given) k m → FindsNoRoom moment owing k m
+  lacks_room : {k m : Known Entry} → Looks (LacksRoom owing.given) k m → FindsNoRoom moment owing k m
 
 -- moves, and then the session for which something is kept had no room for it
 pub record HadNoRoom (moment : Option ℕ) (h j : HostSide) : Type 0 where
@@ -133,7 +151,7 @@ pub record HadNoRoom (moment : Option ℕ) (h j : HostSide) : Type 0 where
   pub kept : before.kept ≡ Some owing
   pub number : later.number ≡ owing.number
   pub given : later.given ≡ owing.given
-  pub found : Turned owing.number before.sessions sessions (FindsNoRoom moment owing.given)
+  pub found : Turned owing.number before.sessions sessions (FindsNoRoom moment owing)
   pub others : OthersStay owing.number before.sessions sessions
   pub is : j ≡ record before { kept = Some later; sessions = sessions }
 

@@ -1,5 +1,6 @@
 // What a back end gave goes to its session.
-ghost use Rattle.std.specs.Prelude.{◌≡◌, ◌≢◌, ℕ, IsSome, IsTrue, List, None, Ok, false, length};
+ghost use Rattle.std.specs.Prelude.{◌≡◌, ◌≢◌, ◌||◌, ℕ, IsSome, IsTrue, List, None, Ok, Option, false, is_some, length, true};
+ghost use Rattle.bosh_types.specs.declared.ending.Ending.{Ending};
 ghost use Rattle.body_cutter.specs.Cutting.{is_stanza};
 ghost use Rattle.parked_gate.specs.Passes.{Looks};
 ghost use Rattle.session_core.specs.declared.replies.Taken.{Taken};
@@ -9,7 +10,7 @@ ghost use Rattle.session_journal.specs.declared.asking.Answer.TheVariants as ans
 ghost use Rattle.session_journal.specs.declared.call.Reply.TheVariants as replies;
 ghost use Rattle.session_table.specs.Purses.{OthersStay, Turned, held};
 ghost use Rattle.xmpp_backend.specs.declared.backend.Given.TheVariants as given;
-ghost use Rattle.session_pump.specs.Giving.{Gives, IsAsked, LacksRoom, has_room};
+ghost use Rattle.session_pump.specs.Giving.{Gives, IsAsked, IsReady, LacksRoom, has_room};
 
 use crate::line::Owing;
 use crate::serving::close_stream;
@@ -121,6 +122,7 @@ pub(crate) fn may_take<R: Wait>(
     requires { IsSome (held purse.old.sessions owing.now.number) }
     ensures asked { Turned owing.now.number purse.old.sessions purse.new.sessions IsAsked }
     ensures full { result ≡ Ok false → Turned owing.now.number purse.old.sessions purse.new.sessions (Looks (LacksRoom owing.now.given)) }
+    ensures ready { result ≡ Ok true → Turned owing.now.number purse.old.sessions purse.new.sessions (IsReady owing.now) }
     ensures others { OthersStay owing.now.number purse.old.sessions purse.new.sessions }
     ensures directory { purse.new.directory ≡ purse.old.directory }
 {
@@ -133,7 +135,9 @@ pub(crate) fn may_take<R: Wait>(
 
 // Whether there is room for what is given by what the session answered, or it has ended.
 fn says_room(answer: &Answer, what: &Given) -> bool
-    ensures { result ≡ false → (waiting : Waiting) × (text : List ℕ) × (what.now ≡ given.Stanza text) × (answer.now ≡ answers.Load waiting None) × (has_room waiting (length text) ≡ false) }
+    requires { (waiting : Waiting) × (ending : Option Ending) × (answer.now ≡ answers.Load waiting ending) }
+    ensures full { result ≡ false → (waiting : Waiting) × (text : List ℕ) × (what.now ≡ given.Stanza text) × (answer.now ≡ answers.Load waiting None) × (has_room waiting (length text) ≡ false) }
+    ensures room { result ≡ true → (text : List ℕ) → what.now ≡ given.Stanza text → (waiting : Waiting) × (ending : Option Ending) × (answer.now ≡ answers.Load waiting ending) × ((is_some ending || has_room waiting (length text)) ≡ true) }
 {
     match what {
         Given::Stanza(stanza) => has_room_for(answer, stanza.len()),
@@ -143,7 +147,9 @@ fn says_room(answer: &Answer, what: &Given) -> bool
 
 // Whether there is room for a stanza of so many bytes.
 fn has_room_for(answer: &Answer, bytes: usize) -> bool
-    ensures { result ≡ false → (waiting : Waiting) × (answer.now ≡ answers.Load waiting None) × (has_room waiting bytes ≡ false) }
+    requires { (waiting : Waiting) × (ending : Option Ending) × (answer.now ≡ answers.Load waiting ending) }
+    ensures full { result ≡ false → (waiting : Waiting) × (answer.now ≡ answers.Load waiting None) × (has_room waiting bytes ≡ false) }
+    ensures room { result ≡ true → (waiting : Waiting) × (ending : Option Ending) × (answer.now ≡ answers.Load waiting ending) × ((is_some ending || has_room waiting bytes) ≡ true) }
 {
     match answer {
         Answer::Load { waiting, ending } => {
@@ -152,7 +158,7 @@ fn has_room_for(answer: &Answer, bytes: usize) -> bool
             }
             fits(*waiting, bytes)
         }
-        Answer::Home(_) => true,
+        Answer::Home(_) => unreachable!(),
     }
 }
 

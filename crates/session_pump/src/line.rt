@@ -38,18 +38,6 @@ pub struct Owing {
     pub ghost proper: { IsTrue (is_proper given) },
 }
 
-impl Owing {
-    /// The same, once the session had no room for it.
-    pub(crate) fn refused(self) -> Owing
-        ensures number { result.number ≡ self.number }
-        ensures given { result.given ≡ self.given }
-    {
-        let mut owing = self;
-        owing.was_refused = true;
-        owing
-    }
-}
-
 impl Line {
     pub(crate) fn new(host: Option<usize>, number: u32) -> Line
         ensures host { result.host ≡ host }

@@ -166,6 +166,7 @@ fn owing(wire: Wire, given: Given) -> Owing
     requires { IsTrue (is_proper given) }
     ensures number { result.number ≡ wire / most_streams }
     ensures given { result.given ≡ given }
+    ensures fresh { result.was_refused ≡ false }
 {
     Owing {
         number: wire.number() / u64::from(MOST_STREAMS),

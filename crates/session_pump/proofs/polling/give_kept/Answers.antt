@@ -17,12 +17,12 @@ returns-then-not-branch-clause-gives g c ends = is_asked _ c.in-Some.owing _ _ _
 
 pub returns-in-Ok-Done-clause-gives : goal.returns-in-Ok-Done-clause-gives
 returns-in-Ok-Done-clause-gives g c ends =
-    is_taken _ c.in-Some.owing _ _ _ _ _ c.in-Some.is c.in-Ok-Done.field-0-is c.in_ok-may_take.ensures.asked c.in_ok-may_take.ensures.others
+    is_taken _ c.in-Some.owing _ _ _ _ _ c.in-Some.is c.in-Ok-Done.field-0-is (c.in_ok-may_take.ensures.ready (search rules)) c.in_ok-may_take.ensures.others
     c.in-Ok-Done.ensures.gives c.in-Ok-Done.ensures.others
 
 pub returns-in-Ok-Full-clause-gives : goal.returns-in-Ok-Full-clause-gives
 returns-in-Ok-Full-clause-gives g c ends =
-    is_full_for _ c.in-Some.owing _ _ _ _ _ _ c.in-Some.is c.in-Ok-Full.field-0-is refl refl c.in_ok-may_take.ensures.asked c.in_ok-may_take.ensures.others
+    is_full_for _ c.in-Some.owing _ _ _ _ _ _ c.in-Some.is c.in-Ok-Full.field-0-is refl refl refl (c.in_ok-may_take.ensures.ready (search rules)) c.in_ok-may_take.ensures.others
     c.in-Ok-Full.ensures.gives c.in-Ok-Full.ensures.others
 
 pub returns-in-Err-clause-gives : goal.returns-in-Err-clause-gives
@@ -35,5 +35,5 @@ returns-then-not-branch-clause-full g c is ends = has_no_room _ c.in-Some.owing 
 
 pub returns-in-Ok-Full-clause-full : goal.returns-in-Ok-Full-clause-full
 returns-in-Ok-Full-clause-full g c is ends =
-    was_refused _ c.in-Some.owing _ _ _ _ _ _ c.in-Some.is c.in-Ok-Full.field-0-is refl refl c.in_ok-may_take.ensures.asked c.in_ok-may_take.ensures.others
+    was_refused _ c.in-Some.owing _ _ _ _ _ _ c.in-Some.is c.in-Ok-Full.field-0-is refl refl (c.in_ok-may_take.ensures.ready (search rules)) c.in_ok-may_take.ensures.others
     c.in-Ok-Full.ensures.gives c.in-Ok-Full.ensures.others
