@@ -1,14 +1,15 @@
 -- What the parser of words says of the options.
-use Rattle.std.proofs.Common.{◌≡◌, ◌≢◌, ℕ, List, [], ◌∷◌, Option, Some, None, Result, Ok, Err, IfOk, true, ap, sym, refl, ◌∙◌, inl, inr, codes}
-use Rattle.clap.specs.Words.{App, HasKind, Kinds, Row, Text, fault_of, first_of, first_value, is_simple, is_simple_and_free, kind_of, matches_of, rows_of}
+use Rattle.std.proofs.Common.{◌≡◌, ◌≢◌, ◌⊎◌, ℕ, List, [], ◌∷◌, Bool, Option, Some, None, Result, Ok, Err, IfOk, true, false, ap, sym, refl, subst, ◌∙◌, inl, inr, codes}
+use Rattle.clap.specs.Words.{App, HasKind, IsAmong, Kinds, Row, Text, fault_of, first_of, first_value, is_simple, is_simple_and_free, kind_of, matches_of, rows_of}
 use Rattle.clap.specs.declared.error.Error.{Error}
-use Rattle.clap.specs.declared.error.kind.ErrorKind.TheVariants.{OutOfMemory}
+use Rattle.clap.specs.declared.error.kind.ErrorKind.{ErrorKind}
+use Rattle.clap.specs.declared.error.kind.ErrorKind.TheVariants.{DisplayHelp, DisplayVersion, OutOfMemory}
 use Rattle.clap.specs.declared.parser.matches.Found.{Found}
 use Rattle.clap.proofs.OnLiterals.{clap_on_literals}
 use Rattle.clap.proofs.WalkLemmas.{first_value-rows}
 use Rattle.bosh_main.specs.declared.options.ServeOptions.{ServeOptions}
 use Rattle.bosh_main.specs.declared.options.Wanted.{Wanted}
-use Rattle.bosh_main.specs.Options.{number_in, options_by, options_from, options_of, options_wanted, serve_app}
+use Rattle.bosh_main.specs.Options.{Asks, MayAsk, ShowsWhatIsAsked, is_shown, number_in, options_by, options_from, options_of, options_wanted, serve_app}
 
 pub serve_is_simple : is_simple serve_app ≡ true
 unfolding clap_on_literals
@@ -39,3 +40,47 @@ by_fault (kind ∷ kinds) rows error has mistake = refl
 pub none_wanted : {E : Type 0} (result : Result Wanted E) (P : Type 0) (options : Option ServeOptions) → IfOk result (λ wanted. options_wanted wanted ≡ None) → IfOk result (λ _. P) → (P → options ≡ None) → IfOk result (λ wanted. options_wanted wanted ≡ options)
 none_wanted (Ok wanted) P options none mistake by = none ∙ sym (by mistake)
 none_wanted (Err e) P options none mistake by = tt
+
+true_false : true ≡ false → ⊥
+true_false eq = cc eq
+
+no_kinds : (kind : ErrorKind) (kinds : Kinds) → kinds ≡ [] → kinds ≡ kind ∷ [] → ⊥
+no_kinds kind kinds none one = let never : kind ∷ [] ≡ [] = sym one ∙ none in cc never
+
+-- without a fault nothing is asked for
+pub asked_by_none : (kinds : Kinds) (wanted : Wanted) → kinds ≡ [] → is_shown wanted ≡ false → ShowsWhatIsAsked kinds wanted
+asked_by_none kinds wanted none hidden = (
+  λ shown. let never : true ≡ false = sym shown ∙ hidden in absurd (true_false never),
+  λ asks. elim asks [
+    | inl help ↦ absurd (no_kinds DisplayHelp kinds none help)
+    | inr version ↦ absurd (no_kinds DisplayVersion kinds none version)
+  ],
+)
+
+only_kind : (k kind : ErrorKind) → (k ≡ kind) ⊎ ⊥ → k ≡ kind
+only_kind k kind (inl is) = is
+only_kind k kind (inr none) = absurd none
+
+-- what is asked for is told by the kind of the error
+pub asked_by_kind : (kinds : Kinds) (error : Error) → HasKind kinds error → kind_of error ≢ OutOfMemory → (wanted : Wanted)
+    → (is_shown wanted ≡ true → (kind_of error ≡ DisplayHelp) ⊎ (kind_of error ≡ DisplayVersion))
+    → ((kind_of error ≡ DisplayHelp) ⊎ (kind_of error ≡ DisplayVersion) → is_shown wanted ≡ true) → ShowsWhatIsAsked kinds wanted
+asked_by_kind kinds error (inl memory) mistake wanted shows shown = absurd (mistake memory)
+asked_by_kind kinds error (inr among) mistake wanted shows shown = (
+  λ is. elim (shows is) [
+    | inl help ↦ inl (subst (λ kind. IsAmong kind kinds) help among)
+    | inr version ↦ inr (subst (λ kind. IsAmong kind kinds) version among)
+  ],
+  λ asks. elim asks [
+    | inl help ↦ shown (inl (only_kind _ _ (subst (λ (kinds : Kinds). IsAmong (kind_of error) kinds) help among)))
+    | inr version ↦ shown (inr (only_kind _ _ (subst (λ (kinds : Kinds). IsAmong (kind_of error) kinds) version among)))
+  ],
+)
+
+pub asked_by_fault : {E : Type 0} (kinds : Kinds) (error : Error) → HasKind kinds error → (result : Result Wanted E)
+    → IfOk result (λ _. kind_of error ≢ OutOfMemory)
+    → IfOk result (λ wanted. is_shown wanted ≡ true → (kind_of error ≡ DisplayHelp) ⊎ (kind_of error ≡ DisplayVersion))
+    → IfOk result (λ wanted. (kind_of error ≡ DisplayHelp) ⊎ (kind_of error ≡ DisplayVersion) → is_shown wanted ≡ true)
+    → IfOk result (λ wanted. ShowsWhatIsAsked kinds wanted)
+asked_by_fault kinds error has (Ok wanted) mistake shows shown = asked_by_kind kinds error has mistake wanted shows shown
+asked_by_fault kinds error has (Err e) mistake shows shown = tt

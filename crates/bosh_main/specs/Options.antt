@@ -1,8 +1,9 @@
 -- The words of the command `serve`.
-use Rattle.std.specs.Prelude.{ℕ, ◌&&◌, nat_le, Bool, true, List, [], ◌∷◌, Option, Some, None, String, codes, map, string_bytes, option_map, if◌then◌else◌}
+use Rattle.std.specs.Prelude.{ℕ, ◌≡◌, ◌⊎◌, ◌&&◌, nat_le, Bool, true, false, List, [], ◌∷◌, Option, Some, None, String, codes, map, string_bytes, option_map, if◌then◌else◌}
 use Rattle.std.specs.Str.{bytes_eq}
 use Rattle.std.specs.Global.{Global}
-use Rattle.clap.specs.Words.{App, Kinds, Row, Rule, Text, fault_of, first_of, matches_of, new_app, new_rule, with_rule}
+use Rattle.clap.specs.Words.{App, IsAmong, Kinds, Row, Rule, Text, fault_of, first_of, matches_of, new_app, new_rule, with_rule}
+use Rattle.clap.specs.declared.error.kind.ErrorKind.TheVariants.{DisplayHelp, DisplayVersion}
 use Rattle.bosh_types.specs.Rid.{rid_of}
 use Rattle.bosh_main.specs.declared.options.ServeOptions.{ServeOptions}
 use Rattle.bosh_main.specs.declared.options.Wanted.{Wanted}
@@ -18,8 +19,12 @@ workers_rule = record (new_rule (codes "workers")) { long = Some (codes "workers
 abbrev pub connections_rule : Rule
 connections_rule = record (new_rule (codes "connections")) { long = Some (codes "connections"); value_names = 1; defaults = codes "0" ∷ [] }
 
+-- the same, and it tells its version
+abbrev pub with_version : App → App
+with_version app = record app { top = record app.top { has_version = true } }
+
 abbrev pub serve_app : App
-serve_app = with_rule (with_rule (with_rule (new_app (codes "serve")) port_rule) workers_rule) connections_rule
+serve_app = with_rule (with_rule (with_rule (with_version (new_app (codes "serve"))) port_rule) workers_rule) connections_rule
 
 -- the number that a text writes in plain decimal, without a sign or a leading zero
 abbrev pub plain_number : Text → Option ℕ
@@ -54,9 +59,32 @@ abbrev pub options_in : List Text → Option ServeOptions
 options_in words = options_by (fault_of serve_app words) (matches_of serve_app words)
 
 abbrev pub options_wanted : Wanted → Option ServeOptions
-options_wanted (wanted.Help text) = None
+options_wanted (wanted.Shown text) = None
 options_wanted (wanted.Serve options) = Some options
 options_wanted wanted.Nothing = None
+
+-- a text is to be shown
+abbrev pub is_shown : Wanted → Bool
+is_shown (wanted.Shown text) = true
+is_shown (wanted.Serve options) = false
+is_shown wanted.Nothing = false
+
+-- the parser of words may tell that help is wanted, or the version
+abbrev pub MayAsk : Kinds → Type 0
+MayAsk kinds = IsAmong DisplayHelp kinds ⊎ IsAmong DisplayVersion kinds
+
+-- it tells just that
+abbrev pub Asks : Kinds → Type 0
+Asks kinds = (kinds ≡ DisplayHelp ∷ []) ⊎ (kinds ≡ DisplayVersion ∷ [])
+
+-- The text is shown only where help or the version may be what is asked for, and wherever it is
+abbrev pub ShowsWhatIsAsked : Kinds → Wanted → Type 0
+ShowsWhatIsAsked kinds wanted = (is_shown wanted ≡ true → MayAsk kinds) × (Asks kinds → is_shown wanted ≡ true)
+
+-- what the parser of words may find of words of `serve`: faults, or that a text is asked for
+abbrev pub serve_findings : List (String Global) → Kinds
+serve_findings [] = []
+serve_findings (first ∷ rest) = if bytes_eq (string_bytes first) (codes "serve") then fault_of serve_app (map (λ word. string_bytes word) (first ∷ rest)) else []
 
 -- the first word names the command
 abbrev pub serve_options : List (String Global) → Option ServeOptions

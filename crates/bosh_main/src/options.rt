@@ -1,7 +1,7 @@
 // The words of the command `serve`.
-ghost use Rattle.std.specs.Prelude.{◌≡◌, ◌≢◌, ◌≤◌, ℕ, IfOk, IfSome, None, map, option_map, string_bytes};
-ghost use Rattle.clap.specs.Words.{app_of, first_value, found_of, kind_of};
-ghost use Rattle.bosh_main.specs.Options.{number_in, options_from, options_in, options_of, options_wanted, plain_number, serve_app};
+ghost use Rattle.std.specs.Prelude.{◌≡◌, ◌≢◌, ◌≤◌, ◌⊎◌, ℕ, true, false, IfOk, IfSome, None, map, option_map, string_bytes};
+ghost use Rattle.clap.specs.Words.{app_of, fault_of, first_value, found_of, kind_of};
+ghost use Rattle.bosh_main.specs.Options.{ShowsWhatIsAsked, is_shown, number_in, options_from, options_in, options_of, options_wanted, plain_number, serve_app};
 
 use bosh_server::ServePlan;
 use bosh_types::Rid;
@@ -19,12 +19,15 @@ pub struct ServeOptions {
 /// What the words ask for.
 #[derive(Drop)]
 pub enum Wanted {
-    /// This text is to be shown.
-    Help(String),
+    /// This text is to be shown: help, or the version.
+    Shown(String),
     Serve(ServeOptions),
     /// They are no command.
     Nothing,
 }
+
+/// The version of the program.
+pub const VERSION: &str = "0.1.0";
 
 const WORKERS: u32 = 64;
 
@@ -52,6 +55,7 @@ fn serve_command<'a>(alloc: Global) -> Result<Command<'a>, AllocError>
         .about(
             "Serves XMPP over BOSH at http://127.0.0.1:PORT/http-bind, with an echo at echo.localhost and a room at room.localhost",
         )
+        .version(VERSION)
         .arg(port)?
         .arg(workers)?
         .arg(connections)
@@ -59,7 +63,8 @@ fn serve_command<'a>(alloc: Global) -> Result<Command<'a>, AllocError>
 
 /// Reads the words, of which the first is the command's. The only error is want of memory.
 pub fn read_options(alloc: Global, words: &[String]) -> Result<Wanted, AllocError>
-    ensures { IfOk result (λ wanted. options_wanted wanted ≡ options_in (map (λ word. string_bytes word) words.now)) }
+    ensures options { IfOk result (λ wanted. options_wanted wanted ≡ options_in (map (λ word. string_bytes word) words.now)) }
+    ensures shows { IfOk result (λ wanted. ShowsWhatIsAsked (fault_of serve_app (map (λ word. string_bytes word) words.now)) wanted) }
 {
     let command = serve_command(alloc)?;
     match command.try_get_matches_from(words) {
@@ -71,16 +76,21 @@ pub fn read_options(alloc: Global, words: &[String]) -> Result<Wanted, AllocErro
 fn without_matches(alloc: Global, error: &Error) -> Result<Wanted, AllocError>
     ensures none { IfOk result (λ wanted. options_wanted wanted ≡ None) }
     ensures mistake { IfOk result (λ _. kind_of error.now ≢ ErrorKind.OutOfMemory) }
+    ensures shows { IfOk result (λ wanted. is_shown wanted ≡ true → (kind_of error.now ≡ ErrorKind.DisplayHelp) ⊎ (kind_of error.now ≡ ErrorKind.DisplayVersion)) }
+    ensures shown { IfOk result (λ wanted. (kind_of error.now ≡ ErrorKind.DisplayHelp) ⊎ (kind_of error.now ≡ ErrorKind.DisplayVersion) → is_shown wanted ≡ true) }
 {
     match error.kind() {
         ErrorKind::OutOfMemory => Err(AllocError),
-        ErrorKind::DisplayHelp => Ok(Wanted::Help(format!(in alloc; "{error}")?)),
+        ErrorKind::DisplayHelp | ErrorKind::DisplayVersion => {
+            Ok(Wanted::Shown(format!(in alloc; "{error}")?))
+        }
         _ => Ok(Wanted::Nothing),
     }
 }
 
 fn wanted_by(matches: &ArgMatches<'_>) -> Wanted
-    ensures { options_wanted result ≡ options_of (λ id. first_value (found_of matches.now) id) }
+    ensures options { options_wanted result ≡ options_of (λ id. first_value (found_of matches.now) id) }
+    ensures shows { is_shown result ≡ false }
 {
     match options(matches) {
         Some(options) => Wanted::Serve(options),

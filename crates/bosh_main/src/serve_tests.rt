@@ -114,14 +114,16 @@ fn a_port_that_is_taken_is_named(rt: HostRuntime) -> Result<(), Fail> {
 }
 
 #[test]
-fn help_is_shown(rt: HostRuntime) -> Result<(), Fail> {
-    let shown = shown(&rt, rt.alloc(), "serve --help", &[])?;
-    assert_eq!(rt; shown.status, DONE);
-    assert!(rt;
-        shown
-            .written
-            .as_slice()
-            .starts_with(b"Serves XMPP over BOSH at")
-    );
+fn what_is_asked_for_is_shown(rt: HostRuntime) -> Result<(), Fail> {
+    let rows: [(&str, &[u8]); 3] = [
+        ("serve --help", b"Serves XMPP over BOSH at"),
+        ("serve --port 5280 -h", b"Serves XMPP over BOSH at"),
+        ("serve --version", b"serve 0.1.0\n"),
+    ];
+    for (line, front) in rows {
+        let shown = shown(&rt, rt.alloc(), line, &[])?;
+        assert_eq!(rt; shown.status, DONE, "of {line:?}");
+        assert!(rt; shown.written.as_slice().starts_with(front), "of {line:?}");
+    }
     Ok(())
 }

@@ -2,7 +2,7 @@
 ghost use Rattle.std.specs.Prelude.{◌≡◌, ◌≢◌, ◌≤◌, [], ◌∷◌, Contains, IfOk, IfSome, IsSome, None, codes};
 ghost use Rattle.std.specs.Io.KnownBytes.{Appends};
 ghost use Rattle.bosh_ports.specs.Faults.{HasRisen};
-ghost use Rattle.bosh_main.specs.Options.{options_wanted, serve_options};
+ghost use Rattle.bosh_main.specs.Options.{Asks, MayAsk, ShowsWhatIsAsked, options_wanted, serve_findings, serve_options};
 ghost use Rattle.bosh_main.specs.Serving.{Served, served_line};
 
 use crate::options::{ServeOptions, Wanted, read_options};
@@ -52,9 +52,14 @@ where
     ensures write_fault { result ≡ 5 → HasRisen (K.faults sink.old) (K.faults sink.new) }
     ensures write_counts { result ≢ 5 → K.faults sink.new ≡ K.faults sink.old }
 
-    // Words that say how to serve have another status than 2, and with 0 they were served so, unless help was asked for.
+    // Words that say how to serve have another status than 2, and with 0 they were served so.
     ensures accepted { IsSome (serve_options words.now) → result ≢ 2 }
     ensures done { result ≡ 0 → IfSome (serve_options words.now) (λ options. Served options.plan.connections (N.counts outside.old.net) (N.counts outside.new.net) (K.given sink.old) (K.given sink.new)) }
+
+    // Other words have the status 2, but for want of memory, where they don't ask for help or the version; where they ask for
+    // just that, they have another.
+    ensures refused { serve_options words.now ≡ None → (MayAsk (serve_findings words.now) → ⊥) → Contains (2 ∷ 6 ∷ []) result }
+    ensures asked { Asks (serve_findings words.now) → result ≢ 2 }
 
     // Other words serve nobody, and with 2 nothing is written.
     ensures unserved { serve_options words.now ≡ None → (outside.new.net ≡ outside.old.net) × (outside.new.spawner ≡ outside.old.spawner) }
@@ -63,13 +68,14 @@ where
     match wanted(alloc, words) {
         Err(AllocError) => NO_MEMORY,
         Ok(Wanted::Nothing) => WRONG_WORDS,
-        Ok(Wanted::Help(text)) => status_given(sink, text.as_bytes()),
+        Ok(Wanted::Shown(text)) => status_given(sink, text.as_bytes()),
         Ok(Wanted::Serve(options)) => serve(rt, alloc, &options, sink, errors, outside, hosts),
     }
 }
 
 fn wanted(alloc: Global, words: &[String]) -> Result<Wanted, AllocError>
-    ensures { IfOk result (λ wanted. options_wanted wanted ≡ serve_options words.now) }
+    ensures options { IfOk result (λ wanted. options_wanted wanted ≡ serve_options words.now) }
+    ensures shows { IfOk result (λ wanted. ShowsWhatIsAsked (serve_findings words.now) wanted) }
 {
     let Some(first) = words.first() else {
         return Ok(Wanted::Nothing);

@@ -3,7 +3,7 @@ use Rattle.std.proofs.lemmas.Result.{IfOk-weaker}
 use Rattle.clap.specs.declared.builder.arg.Arg.{Arg}
 use Rattle.clap.specs.Simple.{app_of_fields}
 use Rattle.clap.specs.Words.{App, Rule, app_of, new_app, rule_of, with_rule}
-use Rattle.bosh_main.specs.Options.{connections_rule, port_rule, workers_rule}
+use Rattle.bosh_main.specs.Options.{connections_rule, port_rule, with_version, workers_rule}
 use Rattle.bosh_main.proofs.options.serve_command.Goals as goal
 
 pub returns : goal.returns
@@ -31,7 +31,8 @@ returns c =
     let connections_local : global c.default_value-connections.result ≡ false =
     ap global c.default_value-connections.ensures ∙ ap global c.help-3.ensures ∙ ap global c.value_name-3.ensures ∙ ap global c.long-3.ensures ∙ c.new-3.ensures.optional.1 in
     let bare : app_of c.about.result ≡ new_app (codes "serve") = ap app_of_fields c.about.ensures ∙ c.new-4.ensures.app in
-    let one : app_of c.in_ok-arg.field-0 ≡ with_rule (new_app (codes "serve")) port_rule = c.in_ok-arg.ensures.shape port_local ∙ ap₂ with_rule bare port_is in
-    let two : app_of c.in_ok-arg-2.field-0 ≡ with_rule (with_rule (new_app (codes "serve")) port_rule) workers_rule =
+    let told : app_of c.version.result ≡ with_version (new_app (codes "serve")) = ap app_of_fields c.version.ensures ∙ ap with_version bare in
+    let one : app_of c.in_ok-arg.field-0 ≡ with_rule (with_version (new_app (codes "serve"))) port_rule = c.in_ok-arg.ensures.shape port_local ∙ ap₂ with_rule told port_is in
+    let two : app_of c.in_ok-arg-2.field-0 ≡ with_rule (with_rule (with_version (new_app (codes "serve"))) port_rule) workers_rule =
     c.in_ok-arg-2.ensures.shape workers_local ∙ ap₂ with_rule one workers_is in
     IfOk-weaker c.arg-3.result _ _ (λ command adds. adds.shape connections_local ∙ ap₂ with_rule two connections_is) c.arg-3.ensures
