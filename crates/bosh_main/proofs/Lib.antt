@@ -1,3 +1,4 @@
+pub mod NumberLemmas
 mod OptionLemmas
 mod OptionRows
 mod StatusLemmas

@@ -1,3 +1,4 @@
+pub mod Number
 pub mod Run
 pub mod Serving
 pub mod Options

@@ -1,10 +1,12 @@
 // The program: it hands its words and the real streams to the top calls.
 #![tactic(auto)]
 
+mod command;
 #[cfg(test)]
 mod limit_tests;
 #[cfg(test)]
 mod loopback_tests;
+mod number;
 mod options;
 mod run;
 #[cfg(test)]

@@ -412,20 +412,49 @@ fn nothing_is_asked_for_after_the_end(rt: HostRuntime) -> Result<(), Fail> {
     Ok(())
 }
 
+// The status of these words over a script, and what was given.
+fn run_words(alloc: Global, words: &[&str], script: &[u8]) -> Result<(u8, Vec<u8>), Fail> {
+    let mut all = Vec::new(alloc);
+    for word in words {
+        all.push(String::from_str(alloc, word)?)?;
+    }
+    let mut source = MemorySource::new(Vec::from_slice(alloc, script)?, Vec::new(alloc));
+    let mut sink = MemorySink::new(alloc, Vec::new(alloc));
+    let status = run_local(alloc, &all, &mut source, &mut sink);
+    Ok((status, Vec::from_slice(alloc, sink.as_slice())?))
+}
+
 #[test]
 fn other_words_are_no_command(rt: HostRuntime) -> Result<(), Fail> {
-    let rows: [&[&str]; 4] = [&[], &["Drive"], &["drive", "now"], &["pair"]];
+    let rows: [&[&str]; 8] = [
+        &[],
+        &["Drive"],
+        &["drive", "now"],
+        &["pair", "1"],
+        &["load"],
+        &["load", "01"],
+        &["load", "18446744073709551616"],
+        &["load", "1", "2"],
+    ];
     for row in rows {
-        let mut words = Vec::new(rt.alloc());
-        for word in row {
-            words.push(String::from_str(rt.alloc(), word)?)?;
-        }
-        let script = Vec::from_slice(rt.alloc(), b"open 5\nend\n")?;
-        let mut source = MemorySource::new(script, Vec::new(rt.alloc()));
-        let mut sink = MemorySink::new(rt.alloc(), Vec::new(rt.alloc()));
-        let status = run_local(rt.alloc(), &words, &mut source, &mut sink);
+        let (status, given) = run_words(rt.alloc(), row, b"open 5\nend\n")?;
         assert_eq!(rt; status, WRONG_WORDS);
-        assert_eq!(rt; sink.as_slice(), b"".as_slice());
+        assert_eq!(rt; given.as_slice(), b"".as_slice());
     }
+    Ok(())
+}
+
+#[test]
+fn two_ends_meet(rt: HostRuntime) -> Result<(), Fail> {
+    let script = b"host h\nclient 10 60 1 0 0\nsend\nreturn 1\n".as_slice();
+    let (status, given) = run_words(rt.alloc(), &["pair"], script)?;
+    assert_eq!(rt; status, BAD_SCRIPT);
+    assert!(rt; given.as_slice().ends_with(b"bad 4 copy\n"));
+    let (status, given) = run_words(rt.alloc(), &["load", "1"], b"")?;
+    assert_eq!(rt; status, DONE);
+    assert_eq!(rt;
+        given.as_slice(),
+        b"load 1 requests 133 copies 563 put 489 in 489 given 251 got 251 over none\n".as_slice()
+    );
     Ok(())
 }
