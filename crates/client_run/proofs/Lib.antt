@@ -1,11 +1,14 @@
 pub mod AddingLemmas
+pub mod Crossing
 pub mod EndLemmas
 pub mod HandingLemmas
 pub mod HistoryLemmas
 pub mod InputLemmas
 pub mod LineLemmas
 pub mod MoveLemmas
+pub mod RanLemmas
 pub mod RiseLemmas
+pub mod RunningLemmas
 pub mod TalkLemmas
 pub mod TurnLemmas
 pub mod WorkAdds

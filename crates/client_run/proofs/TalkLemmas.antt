@@ -65,7 +65,7 @@ and_second : (a b : Bool) → (a && b) ≡ true → b ≡ true
 and_second true b is = is
 and_second false b is = absurd (cc)
 
-handed_spoken : (es : List Entry) → list_all (is_entry is_hand_out) es ≡ true → IsSpoken [] es
+pub handed_spoken : (es : List Entry) → list_all (is_entry is_hand_out) es ≡ true → IsSpoken [] es
 handed_spoken [] is = record { only = refl; open_yet = refl; put = refl }
 handed_spoken (e ∷ es) is =
     let first = handed_entry e.entered (and_first (is_entry is_hand_out e) (list_all (is_entry is_hand_out) es) is) in

@@ -6,6 +6,8 @@ pub mod History
 pub mod Input
 pub mod Lines
 pub mod Queueing
+pub mod Ran
+pub mod Running
 pub mod Talking
 pub mod Worked
 pub mod Working

@@ -9,7 +9,7 @@ use crate::object::ClientObject;
 use crate::site::Site;
 use bosh_client::{Answered, ClientEnd, Next};
 use bosh_types::{Rid, Text};
-use parked_gate::Pass;
+use parked_gate::{Gate, Pass};
 use server_ports::Clock;
 use std::alloc::AllocError;
 use std::sync::Wait;
@@ -47,16 +47,16 @@ pub(crate) fn give<R: Wait, C: Clock>(
 }
 
 /// Looks how the client ended, if it did.
-pub(crate) fn look<R: Wait, C: Clock>(
+pub(crate) fn look<R: Wait>(
     rt: &R,
-    site: &Site<'_, C>,
+    gate: &Gate<ClientObject>,
     pass: &mut Pass<ClientObject>,
 ) -> Option<ClientEnd>
-    requires { IsPassOf site.now.gate.now pass.old }
-    ensures pass { IsPassOf site.now.gate.now pass.new }
+    requires { IsPassOf gate.now pass.old }
+    ensures pass { IsPassOf gate.now pass.new }
     ensures looks { LooksBy (known pass.old) (known pass.new) result }
 {
-    match site.gate.look(rt, pass, &Question::Ended) {
+    match gate.look(rt, pass, &Question::Ended) {
         Ok(Answer::Ended(end)) => end,
         Ok(Answer::Copy(_)) => unreachable!(),
         Err(AllocError) => unreachable!(),

@@ -5,16 +5,22 @@
 mod asking;
 mod call;
 mod carrying;
+mod crew;
 mod draining;
+mod ends;
 mod entry;
 mod fault;
+mod gathering;
+mod job;
 mod line;
 mod object;
 mod queueing;
+mod running;
 mod site;
 mod talking;
 #[cfg(test)]
 mod tests;
+mod watch;
 mod worked;
 mod working;
 
@@ -22,6 +28,7 @@ pub use call::{Answer, Call, Question, Reply};
 pub use draining::{Written, drain};
 pub use entry::{Entered, Entry};
 pub use object::ClientObject;
+pub use running::{ClientRan, Outside, Place, run_client};
 pub use site::Site;
 pub use talking::{Talked, talk};
 pub use worked::Worked;

@@ -14,6 +14,7 @@ use std::alloc::{AllocError, Global};
 use std::sync::Wait;
 use std::test::Fail;
 
+mod runs;
 mod talks;
 
 /// A client that begins with the id 1000, and lets requests be held so long.

@@ -131,7 +131,7 @@ where
             }
             Next::RidsSpent => return Ok(Worked::Done),
             Next::Nothing => {
-                if let Some(end) = look(rt, site, pass) {
+                if let Some(end) = look(rt, site.gate, pass) {
                     return Ok(ended_by(end));
                 }
                 if bell.wait() == Woken::Silent {

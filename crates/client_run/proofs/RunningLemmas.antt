@@ -1,0 +1,255 @@
+-- What the ends of workers tell, and that a client that is over stays so.
+use Rattle.std.proofs.Common.{◌≡◌, ℕ, zero, suc, ◌<◌, ◌≤◌, ◌⊎◌, Bool, true, false, ◌&&◌, ◌||◌, List, [], ◌∷◌, ◌++◌, Some, None, inl, inr, refl, sym, ◌∙◌, ap, subst, arith, length-append}
+use Rattle.std.specs.Prelude.{Option, Result, Ok, Err, is_some, nat_lt}
+use Rattle.std.proofs.lemmas.Bool.{ltb-true}
+use Rattle.std.proofs.lemmas.Bool.Decides.{nat_tests}
+use Rattle.std.specs.List.{list_all}
+use Rattle.std.specs.Option.{option_or}
+use Rattle.std.proofs.lemmas.List.Folds.{list_all-append}
+use Rattle.std.specs.declared.alloc.AllocError.{AllocError}
+use Rattle.bosh_client.specs.declared.replies.ClientEnd.{ClientEnd}
+use Rattle.bosh_client.specs.PlainClient.{PlainClient, Taken, end_of, first_end, has_ended, next_id}
+use Rattle.bosh_client.specs.Runs as plain
+use Rattle.bosh_client.specs.Runs.{called, step}
+use Rattle.bosh_client.proofs.RunLemmas.{step_by}
+use Rattle.bosh_ports.specs.Faults.{HasRisen}
+use Rattle.bosh_ports.proofs.FaultLemmas.{HasRisen-after, HasRisen-before}
+use Rattle.bosh_types.specs.Rid.{greatest_rid}
+use Rattle.parked_gate.specs.Histories.{StartsWith}
+use Rattle.parked_gate.specs.Passes.{Known}
+use Rattle.server_ports.specs.Counts.{Counts, RisesWith, added}
+use Rattle.server_ports.specs.Events.{Event}
+use Rattle.client_run.specs.declared.entry.Entered.{Entered}
+use Rattle.client_run.specs.declared.entry.Entered.TheVariants.{Setup, Called as IsCalled}
+use Rattle.client_run.specs.declared.entry.Entry.{Entry}
+use Rattle.client_run.specs.declared.gathering.Gathered.{Gathered}
+use Rattle.client_run.specs.declared.gathering.Gathered.TheVariants as gathered
+use Rattle.client_run.specs.declared.worked.Worked.{Worked}
+use Rattle.client_run.specs.declared.worked.Worked.TheVariants as worked
+use Rattle.client_run.specs.Adding.{AddsOnly, is_entry, is_of_worker}
+use Rattle.client_run.specs.Calls.{call_in}
+use Rattle.client_run.specs.History.{After, client_begun, client_by, client_from, client_in}
+use Rattle.client_run.specs.Running.{GatheredTells, Gathers, IsEndOf, IsOver, WasOver, finishes, gathered_of, is_end_of, is_failed, is_over, is_over_by, worse_of}
+use Rattle.client_run.specs.Worked.{IsDone, Works, is_end, is_fault}
+use Rattle.client_run.specs.Working.{Side, side_of}
+use Rattle.client_run.proofs.RiseLemmas.{moves_count, starts_later}
+
+-- A client that is over stays so.
+
+abbrev pub OverOn : PlainClient → PlainClient → Type 0
+OverOn c d = IsOver c → IsOver d
+
+or_true : (a : Bool) → (a || true) ≡ true
+or_true true = refl
+or_true false = refl
+
+option_later : (o : Option ClientEnd) (before after : Option ClientEnd) → (is_some before ≡ true → is_some after ≡ true) → is_some (option_or o before) ≡ true → is_some (option_or o after) ≡ true
+option_later None before after later is = later is
+option_later (Some end) before after later is = refl
+
+ended_later : (answers : List (ℕ × Taken)) (answer : ℕ × Taken) → is_some (first_end answers) ≡ true → is_some (first_end (answers ++ answer ∷ [])) ≡ true
+ended_later [] answer is = absurd (cc)
+ended_later (one ∷ answers) answer is = option_later one.1.tells.end (first_end answers) (first_end (answers ++ answer ∷ [])) (ended_later answers answer) is
+
+over_step : (c : PlainClient) (call : plain.Call) → OverOn c (step c call).0
+over_step c call =
+    step_by c (λ done. OverOn c done.0) (λ reply nothing over. over) (λ item over. over)
+    (λ now due left over. more_requests c _ over)
+    (λ rid t made none reads over. more_answers c (rid, t) over) (λ payload at over. over) call
+  where
+    more_requests : (c : PlainClient) (request : _) → IsOver c → IsOver (record c { requests = c.requests ++ request ∷ [] })
+    more_requests c request (inl ended) = inl ended
+    more_requests c request (inr left) = inr (omega (arith, left, length-append c.requests (request ∷ [])))
+
+    more_answers : (c : PlainClient) (answer : ℕ × Taken) → IsOver c → IsOver (record c { answers = c.answers ++ answer ∷ [] })
+    more_answers c answer (inl ended) = inl (ended_later c.answers answer ended)
+    more_answers c answer (inr left) = inr left
+
+some_same : {X : Type 0} (x y : X) → Some x ≡ Some y → x ≡ y
+some_same x y is = cc
+
+-- a client after more entries
+from_entered : (es rest : List Entry) (c d : PlainClient) (x : Entered) → ((n : PlainClient) → client_from n es ≡ Some d → client_from n (es ++ rest) ≡ client_from d rest)
+    → client_by (λ n. client_from n es) c x ≡ Some d → client_by (λ n. client_from n (es ++ rest)) c x ≡ client_from d rest
+from_entered es rest c d (Setup setup) later is = absurd (cc)
+from_entered es rest c d (IsCalled call) later is = later (step c (call_in call)).0 is
+
+from_more : (es rest : List Entry) (c d : PlainClient) → client_from c es ≡ Some d → client_from c (es ++ rest) ≡ client_from d rest
+from_more [] rest c d is = ap (λ n. client_from n rest) (some_same c d is)
+from_more (e ∷ es) rest c d is = from_entered es rest c d e.entered (λ n. from_more es rest n d) is
+
+over_entered : (es : List Entry) (c d : PlainClient) (x : Entered) → ((n : PlainClient) → client_from n es ≡ Some d → IsOver n → IsOver d) → client_by (λ n. client_from n es) c x ≡ Some d → IsOver c → IsOver d
+over_entered es c d (Setup setup) later is over = absurd (cc)
+over_entered es c d (IsCalled call) later is over = later (step c (call_in call)).0 is (over_step c (call_in call) over)
+
+over_from : (es : List Entry) (c d : PlainClient) → client_from c es ≡ Some d → IsOver c → IsOver d
+over_from [] c d is over = subst IsOver (some_same c d is) over
+over_from (e ∷ es) c d is over = over_entered es c d e.entered (λ n. over_from es n d) is over
+
+begun_more : (es rest : List Entry) (c d : PlainClient) (x : Entered) → client_begun x es ≡ Some c → client_begun x (es ++ rest) ≡ Some d → IsOver c → IsOver d
+begun_more es rest c d (Setup setup) is later over = over_from rest c d (sym (from_more es rest _ c is) ∙ later) over
+begun_more es rest c d (IsCalled call) is later over = absurd (cc)
+
+over_later : (log rest : List Entry) (c d : PlainClient) → client_in log ≡ Some c → client_in (log ++ rest) ≡ Some d → IsOver c → IsOver d
+unfolding client_in
+over_later [] rest c d is later over = absurd (cc)
+over_later (e ∷ es) rest c d is later over = begun_more es rest c d e.entered is later over
+
+-- it is over still, at any later time
+pub still_over : (seen : List Entry) (c : PlainClient) → WasOver seen → client_in seen ≡ Some c → IsOver c
+still_over seen c was is = over_later was.log was.begins.0 was.over.plain c was.over.is (sym (ap client_in was.begins.1) ∙ is) was.over.holds
+
+pub was_later : (seen later : List Entry) → WasOver seen → StartsWith later seen → WasOver later
+was_later seen later was begins = record { log = was.log; begins = starts_later was.log seen later was.begins begins; over = was.over }
+
+-- What a worker's end tells, as a test.
+
+to_over : (c : PlainClient) → IsOver c → is_over c ≡ true
+to_over c (inl ended) = ap (λ b. b || nat_lt greatest_rid (next_id c)) ended
+to_over c (inr left) = ap (λ b. has_ended c || b) (grind (arith, nat_tests, left)) ∙ or_true (has_ended c)
+
+from_or : (a b : Bool) → (a || b) ≡ true → (a ≡ true) ⊎ (b ≡ true)
+from_or true b is = inl refl
+from_or false b is = inr is
+
+from_over : (c : PlainClient) → is_over c ≡ true → IsOver c
+from_over c is = by_case (from_or (has_ended c) (nat_lt greatest_rid (next_id c)) is)
+  where
+    by_case : (has_ended c ≡ true) ⊎ (nat_lt greatest_rid (next_id c) ≡ true) → IsOver c
+    by_case (inl ended) = inl ended
+    by_case (inr left) = inr (ltb-true greatest_rid (next_id c) left)
+
+to_test : (log : List Entry) → After log IsOver → is_over_by (client_in log) ≡ true
+to_test log after = ap is_over_by after.is ∙ to_over after.plain after.holds
+
+from_test : (log : List Entry) (o : Option PlainClient) → client_in log ≡ o → is_over_by o ≡ true → After log IsOver
+from_test log None is over = absurd (cc)
+from_test log (Some c) is over = record { plain = c; is = is; holds = from_over c over }
+
+and_both : (a b : Bool) → a ≡ true → b ≡ true → (a && b) ≡ true
+and_both a b one two = ap (λ x. x && b) one ∙ two
+
+from_and : (a b : Bool) → (a && b) ≡ true → (a ≡ true) × (b ≡ true)
+from_and true b is = (refl, is)
+from_and false b is = absurd (cc)
+
+-- What the end of a worker tells.
+
+pub some_risen : (old new : ℕ) → HasRisen old new → old ≤ new → 0 < new
+some_risen zero new risen falls = omega (arith, risen (omega arith))
+some_risen (suc old) new risen falls = omega (arith, falls)
+
+ended_is : (o : Option ClientEnd) (end : ClientEnd) → o ≡ Some end → is_some o ≡ true
+ended_is o end is = ap is_some is
+
+done_over : (c : PlainClient) → IsDone c → IsOver c
+done_over c (inl end) = inl (ended_is (end_of c) _ end)
+done_over c (inr none) = inr none.1
+
+pub all_none : (old : Known Entry) → old.mine ≡ [] → list_all (is_entry is_of_worker) old.mine ≡ true
+all_none old none = ap (λ es. list_all (is_entry is_of_worker) es) none
+
+pub all_kept : (old new : Known Entry) → list_all (is_entry is_of_worker) old.mine ≡ true → AddsOnly is_of_worker old new → list_all (is_entry is_of_worker) new.mine ≡ true
+all_kept old new all adds =
+    ap (λ es. list_all (is_entry is_of_worker) es) adds.mine ∙ list_all-append (is_entry is_of_worker) old.mine adds.added ∙ ap (λ b. b && list_all (is_entry is_of_worker) adds.added) all ∙ adds.holds
+
+module _ (moment : Option ℕ) (start : Side) (known : Known Entry) (events : Option (List Event)) (counts : Counts) where
+  some_test : (n : ℕ) → 0 < n → nat_lt 0 n ≡ true
+  some_test n some = grind (arith, nat_tests, some)
+
+  finishing : After known.seen IsOver → 0 < counts.dialled → list_all (is_entry is_of_worker) known.mine ≡ true → finishes known counts ≡ true
+  finishing over dialled mine = and_both _ _ (to_test known.seen over) (and_both _ _ (some_test counts.dialled dialled) mine)
+
+  -- a worker whose own entries were requests and answers alone before
+  pub end_by : (worked : Worked) → Works moment start known events counts None (Ok worked)
+      → (is_fault worked ≡ true → HasRisen start.counts.faults counts.faults) → (is_end worked ≡ true → HasRisen start.counts.dialled counts.dialled)
+      → list_all (is_entry is_of_worker) known.mine ≡ true → IsEndOf (Ok worked) known counts
+  unfolding is_end_of
+  end_by worked.Done works fault dialled mine =
+      finishing (record { plain = works.ends.plain; is = works.ends.is; holds = done_over works.ends.plain works.ends.holds })
+      (some_risen start.counts.dialled counts.dialled (dialled refl) (moves_count moment start (side_of known events counts None works.hand works.row) works.moves).dialled) mine
+  end_by (worked.Ended condition) works fault dialled mine =
+      finishing (record { plain = works.ends.plain; is = works.ends.is; holds = inl (ended_is (end_of works.ends.plain) _ works.ends.holds) })
+      (some_risen start.counts.dialled counts.dialled (dialled refl) (moves_count moment start (side_of known events counts None works.hand works.row) works.moves).dialled) mine
+  end_by worked.DialFault works fault dialled mine = some_test counts.faults (some_risen start.counts.faults counts.faults (fault refl) (moves_count moment start (side_of known events counts None works.hand works.row) works.moves).faults)
+  end_by worked.ReadFault works fault dialled mine = some_test counts.faults (some_risen start.counts.faults counts.faults (fault refl) (moves_count moment start (side_of known events counts None works.hand works.row) works.moves).faults)
+  end_by worked.WriteFault works fault dialled mine = some_test counts.faults (some_risen start.counts.faults counts.faults (fault refl) (moves_count moment start (side_of known events counts None works.hand works.row) works.moves).faults)
+  end_by worked.Silent works fault dialled mine = refl
+
+pub end_wanting : (error : AllocError) (known : Known Entry) (counts : Counts) → IsEndOf (Err error) known counts
+unfolding is_end_of
+end_wanting error known counts = refl
+
+-- what a pass has seen besides is nothing to a fault
+pub end_failed : (worked : Result Worked AllocError) (old new : Known Entry) (counts : Counts) → is_failed worked ≡ true → IsEndOf worked old counts → IsEndOf worked new counts
+unfolding is_end_of
+end_failed (Ok worked.Done) old new counts failed end = absurd (cc)
+end_failed (Ok (worked.Ended condition)) old new counts failed end = absurd (cc)
+end_failed (Ok worked.DialFault) old new counts failed end = end
+end_failed (Ok worked.ReadFault) old new counts failed end = end
+end_failed (Ok worked.WriteFault) old new counts failed end = end
+end_failed (Ok worked.Silent) old new counts failed end = absurd (cc)
+end_failed (Err error) old new counts failed end = refl
+
+-- Ends that are taken.
+
+risen_added : (old theirs : ℕ) → 0 < theirs → HasRisen old (added old theirs)
+risen_added old theirs some = λ small. omega (arith, small, some)
+
+falls_added : (old theirs : ℕ) → old ≤ added old theirs
+falls_added old theirs = omega arith
+
+module _ (old new other : Known Entry) (counts later theirs : Counts) (begins : StartsWith new.seen old.seen) (others : StartsWith new.seen other.seen) (mine : new.mine ≡ old.mine)
+    (faults : RisesWith counts.faults later.faults theirs.faults) (back : later ≡ record counts { faults = later.faults; dialled = added counts.dialled theirs.dialled }) where
+  dialled_is : later.dialled ≡ added counts.dialled theirs.dialled
+  dialled_is = ap (λ c. c.dialled) back
+
+  finished_tells : finishes other theirs ≡ true → GatheredTells new.seen counts later gathered.Over
+  finished_tells is =
+      let parts = from_and (is_over_by (client_in other.seen)) _ is in (
+        record { log = other.seen; begins = others; over = from_test other.seen (client_in other.seen) refl parts.0 },
+        subst (HasRisen counts.dialled) (sym dialled_is) (risen_added counts.dialled theirs.dialled (ltb-true 0 theirs.dialled (from_and (nat_lt 0 theirs.dialled) _ parts.1).0)),
+      )
+
+  tells_by : (worked : Result Worked AllocError) → IsEndOf worked other theirs → GatheredTells new.seen counts later (gathered_of worked)
+  unfolding is_end_of
+  tells_by (Ok worked.Done) end = finished_tells end
+  tells_by (Ok (worked.Ended condition)) end = finished_tells end
+  tells_by (Ok worked.DialFault) end = faults.risen (ltb-true 0 theirs.faults end)
+  tells_by (Ok worked.ReadFault) end = faults.risen (ltb-true 0 theirs.faults end)
+  tells_by (Ok worked.WriteFault) end = faults.risen (ltb-true 0 theirs.faults end)
+  tells_by (Ok worked.Silent) end = tt
+  tells_by (Err error) end = tt
+
+  pub gathered_by : (worked : Result Worked AllocError) (result : Gathered) → result ≡ gathered_of worked → IsEndOf worked other theirs → Gathers old new counts later result
+  gathered_by worked result is end = record {
+    begins = begins;
+    mine = mine;
+    faults = faults.never_falls;
+    dialled = subst (λ n. counts.dialled ≤ n) (sym dialled_is) (falls_added counts.dialled theirs.dialled);
+    tells = subst (GatheredTells new.seen counts later) (sym is) (tells_by worked end);
+  }
+
+-- both tell
+both_tell : (seen last : List Entry) (a b c : Counts) (first second : Gathered) → StartsWith last seen → a.faults ≤ b.faults → b.faults ≤ c.faults → a.dialled ≤ b.dialled → b.dialled ≤ c.dialled
+    → GatheredTells seen a b first → GatheredTells last b c second → GatheredTells last a c (worse_of first second)
+both_tell seen last a b c gathered.NetFault second begins f1 f2 d1 d2 one two = HasRisen-after a.faults b.faults c.faults one f2
+both_tell seen last a b c gathered.Over gathered.NetFault begins f1 f2 d1 d2 one two = HasRisen-before a.faults b.faults c.faults f1 f2 two
+both_tell seen last a b c gathered.Over gathered.Over begins f1 f2 d1 d2 one two = (two.0, HasRisen-before a.dialled b.dialled c.dialled d1 d2 two.1)
+both_tell seen last a b c gathered.Over gathered.NoMemory begins f1 f2 d1 d2 one two = tt
+both_tell seen last a b c gathered.NoMemory gathered.NetFault begins f1 f2 d1 d2 one two = HasRisen-before a.faults b.faults c.faults f1 f2 two
+both_tell seen last a b c gathered.NoMemory gathered.Over begins f1 f2 d1 d2 one two = tt
+both_tell seen last a b c gathered.NoMemory gathered.NoMemory begins f1 f2 d1 d2 one two = tt
+
+pub gathered_both : (old mid new : Known Entry) (a b c : Counts) (first second result : Gathered) → Gathers old mid a b first → Gathers mid new b c second → result ≡ worse_of first second → Gathers old new a c result
+gathered_both old mid new a b c first second result one two is = record {
+  begins = starts_later old.seen mid.seen new.seen one.begins two.begins;
+  mine = two.mine ∙ one.mine;
+  faults = omega (arith, one.faults, two.faults);
+  dialled = omega (arith, one.dialled, two.dialled);
+  tells = subst (GatheredTells new.seen a c) (sym is) (both_tell mid.seen new.seen a b c first second two.begins one.faults two.faults one.dialled two.dialled one.tells two.tells);
+}
+
+-- what a joined pass has of its own
+pub longer_mine : (old new : Known Entry) (seen : List Entry) → new ≡ record old { seen = seen } → new.mine ≡ old.mine
+longer_mine old new seen is = ap (λ known. known.mine) is

@@ -1,0 +1,9 @@
+use Rattle.parked_gate.specs.Passes.{known}
+use Rattle.client_run.proofs.RanLemmas.{concluded_none, concluded_some}
+use Rattle.client_run.proofs.running.conclude.Goals as goal
+
+pub returns-in-Some-clause-concludes : goal.returns-in-Some-clause-concludes
+returns-in-Some-clause-concludes g c = concluded_some (known c.args.pass.now) (known c.look.new.pass) c.in-Some.end c.ran_by.result c.in-Some.ensures.looks c.ran_by.ensures
+
+pub returns-in-None-clause-concludes : goal.returns-in-None-clause-concludes
+returns-in-None-clause-concludes g c = concluded_none (known c.args.pass.now) (known c.look.new.pass) c.in-None.ensures.looks

@@ -1,0 +1,22 @@
+use Rattle.std.proofs.Common.{◌∙◌, ap}
+use Rattle.std.specs.Prelude.{Ok}
+use Rattle.parked_gate.specs.Passes.{known}
+use Rattle.client_run.specs.declared.talking.Talked.TheVariants as talked
+use Rattle.client_run.proofs.RanLemmas.{finish_as, finish_failed, finish_read, finish_wanting, finish_written}
+use Rattle.client_run.proofs.running.finish.Goals as goal
+
+pub returns-in-Err-clause-finishes : goal.returns-in-Err-clause-finishes
+returns-in-Err-clause-finishes g c = finish_wanting _ _ _ _ _ _ _
+
+pub returns-in-Done-clause-finishes : goal.returns-in-Done-clause-finishes
+returns-in-Done-clause-finishes g c =
+    finish_as c.args.talked (Ok talked.Done) c.args.gathered (known c.args.pass.now) (known c.end.new.pass) (g.K.Sink.faults c.args.sink.now) (g.K.Sink.faults c.end.new.sink) c.end.result (c.in-Ok.is ∙ ap (λ t. Ok t) c.in-Done.is) c.end.ensures.finishes
+
+pub returns-in-Bad-clause-finishes : goal.returns-in-Bad-clause-finishes
+returns-in-Bad-clause-finishes g c = finish_failed c.args.talked _ _ _ _ _ c.in-Bad.line (c.in-Ok.is ∙ ap (λ t. Ok t) c.in-Bad.is)
+
+pub returns-in-ReadFault-clause-finishes : goal.returns-in-ReadFault-clause-finishes
+returns-in-ReadFault-clause-finishes g c = finish_read c.args.talked _ _ _ _ _ (c.in-Ok.is ∙ ap (λ t. Ok t) c.in-ReadFault.is)
+
+pub returns-in-WriteFault-clause-finishes : goal.returns-in-WriteFault-clause-finishes
+returns-in-WriteFault-clause-finishes g c = finish_written c.args.talked _ _ _ _ _ (c.in-Ok.is ∙ ap (λ t. Ok t) c.in-WriteFault.is)

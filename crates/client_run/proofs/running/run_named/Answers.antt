@@ -1,0 +1,33 @@
+use Rattle.std.proofs.Common.{◌≡◌, subst}
+use Rattle.std.specs.Prelude.{IfNone, IfSome}
+use Rattle.bosh_ports.specs.Faults.{HasRisen}
+use Rattle.parked_gate.specs.Passes.{known}
+use Rattle.client_run.specs.Ran.{ConversesBy, scene_of}
+use Rattle.client_run.specs.Running.{Gathers}
+use Rattle.client_run.proofs.RanLemmas.{ran_finished, ran_net, ran_spawn, ran_wanting}
+use Rattle.client_run.proofs.running.run_named.Goals as goal
+
+pub returns-in-Err-clause-ran : goal.returns-in-Err-clause-ran
+returns-in-Err-clause-ran g c = ran_wanting _ _ _ _
+
+pub returns-in-Err-hire_both-clause-ran : goal.returns-in-Err-hire_both-clause-ran
+returns-in-Err-hire_both-clause-ran g c = ran_wanting _ _ _ _
+
+pub returns-in-None-clause-ran : goal.returns-in-None-clause-ran
+returns-in-None-clause-ran g c =
+    ran_net _ _ _ (subst (λ h. IfNone h (HasRisen (g.N.Network.counts c.args.outside.now.net).faults (g.N.Network.counts c.hire_both.new.net).faults)) c.in-None.is c.in-Ok-hire_both.ensures.failed)
+
+pub returns-clause-ran : goal.returns-clause-ran
+returns-clause-ran g c =
+    let hired = subst (λ h. IfSome h (λ _. g.N.Network.counts c.hire_both.new.net ≡ g.N.Network.counts c.args.outside.now.net)) c.in-Some.is c.in-Ok-hire_both.ensures.hired in
+    ran_finished (g.S.Source.left c.args.source.now)
+    (scene_of (known c.args.pass.now) (g.N.Network.counts c.args.outside.now.net) (g.P.Spawner.refusals c.args.outside.now.spawner) (g.S.Source.faults c.args.source.now) (g.K.Sink.faults c.args.sink.now))
+    (known c.converse-talked.new.pass) (known c.gather_two-gathered.new.pass) (known c.finish.new.pass) (g.S.Source.faults c.converse-talked.new.source) (g.K.Sink.faults c.converse-talked.new.sink) (g.K.Sink.faults c.finish.new.sink)
+    (g.P.Spawner.refusals c.start_both-started.new.spawner) (g.N.Network.counts c.gather_two-gathered.new.net) c.converse-talked.result c.gather_two-gathered.result
+    (subst (λ k. ConversesBy (g.S.Source.left c.args.source.now) k (known c.converse-talked.new.pass) (g.S.Source.faults c.args.source.now) (g.S.Source.faults c.converse-talked.new.source) (g.K.Sink.faults c.args.sink.now) (g.K.Sink.faults c.converse-talked.new.sink) c.converse-talked.result)
+    c.in-Ok-hire_both.ensures.known c.converse-talked.ensures.converses)
+    (subst (λ n. Gathers (known c.converse-talked.new.pass) (known c.gather_two-gathered.new.pass) n (g.N.Network.counts c.gather_two-gathered.new.net) c.gather_two-gathered.result) hired c.gather_two-gathered.ensures.gathers)
+    c.converse-talked.ensures.sink_faults c.finish.ensures.sink_faults c.finish.result c.finish.ensures.finishes
+
+pub returns-then-started-ne2-clause-ran : goal.returns-then-started-ne2-clause-ran
+returns-then-started-ne2-clause-ran g c = ran_spawn _ _ _ (c.start_both-started.ensures.refused c.if-started-ne2.true)

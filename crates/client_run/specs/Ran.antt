@@ -1,0 +1,96 @@
+-- How a client ran, and why.
+use Rattle.std.specs.Prelude.{◌≡◌, ◌⊎◌, ℕ, List, Option, Some, None, IfSome, Result, Ok, Err}
+use Rattle.std.specs.declared.alloc.AllocError.{AllocError}
+use Rattle.bosh_client.specs.PlainClient.{PlainClient, end_of}
+use Rattle.bosh_ports.specs.Faults.{HasRisen}
+use Rattle.bosh_types.specs.declared.condition.Condition.{Condition}
+use Rattle.line_reader.specs.Lines.{lines_of}
+use Rattle.parked_gate.specs.Passes.{Known}
+use Rattle.server_ports.specs.Counts.{Counts}
+use Rattle.client_run.specs.declared.entry.Entry.{Entry}
+use Rattle.client_run.specs.declared.gathering.Gathered.{Gathered}
+use Rattle.client_run.specs.declared.gathering.Gathered.TheVariants as gathered
+use Rattle.client_run.specs.declared.running.ClientRan.{ClientRan}
+use Rattle.client_run.specs.declared.running.ClientRan.TheVariants as ran
+use Rattle.client_run.specs.declared.talking.Talked.{Talked}
+use Rattle.client_run.specs.declared.talking.Talked.TheVariants as talked
+use Rattle.client_run.specs.Adding.{Adds, AddsOnly, IsTalk, is_hand_out}
+use Rattle.client_run.specs.History.{After}
+use Rattle.client_run.specs.Input.{IsFirstBad}
+use Rattle.client_run.specs.Running.{WasOver}
+use Rattle.client_run.specs.Worked.{IsDone}
+
+-- where a running client stands: what its pass knows, the counts of the network, and how often the spawner refused, the source failed,
+-- and the sink
+pub record Scene : Type 0 where
+  pub known : Known Entry
+  pub counts : Counts
+  pub refusals : ℕ
+  pub reads : ℕ
+  pub writes : ℕ
+
+abbrev pub scene_of : Known Entry → Counts → ℕ → ℕ → ℕ → Scene
+scene_of known counts refusals reads writes = record { known = known; counts = counts; refusals = refusals; reads = reads; writes = writes }
+
+-- it ran to the end of its client: this holds of the client as it was seen last; a link was dialled; and the pass's own entries are
+-- those of talking over the input
+pub record Ran (input : Option (List ℕ)) (s t : Scene) (P : PlainClient → Type 0) : Type 0 where
+  pub after : After t.known.seen P
+  pub dialled : HasRisen s.counts.dialled t.counts.dialled
+  pub adds : Adds s.known t.known (IsTalk input)
+
+abbrev pub EndsWith : Condition → PlainClient → Type 0
+EndsWith condition c = end_of c ≡ Some (record { condition = Some condition })
+
+-- each answer with its cause: a count that rose, a line of the input, or the client's end
+unfoldable pub RanBy : Option (List ℕ) → Scene → Scene → Result ClientRan AllocError → Type 0
+RanBy input s t (Ok ran.SpawnFault) = HasRisen s.refusals t.refusals
+RanBy input s t (Ok ran.NetFault) = HasRisen s.counts.faults t.counts.faults
+RanBy input s t (Ok (ran.Bad n)) = IfSome input (λ bytes. IsFirstBad (lines_of bytes) n)
+RanBy input s t (Ok ran.ReadFault) = HasRisen s.reads t.reads
+RanBy input s t (Ok ran.WriteFault) = HasRisen s.writes t.writes
+RanBy input s t (Ok (ran.Ended condition)) = Ran input s t (EndsWith condition)
+RanBy input s t (Ok ran.Done) = Ran input s t IsDone
+RanBy input s t (Err error) = Unit {0}
+
+-- what talking came to, by its causes
+unfoldable pub ConversesBy : Option (List ℕ) → Known Entry → Known Entry → ℕ → ℕ → ℕ → ℕ → Result Talked AllocError → Type 0
+ConversesBy input old new reads later_reads writes later_writes (Ok talked.Done) = Adds old new (IsTalk input)
+ConversesBy input old new reads later_reads writes later_writes (Ok (talked.Bad n)) = IfSome input (λ bytes. IsFirstBad (lines_of bytes) n)
+ConversesBy input old new reads later_reads writes later_writes (Ok talked.ReadFault) = HasRisen reads later_reads
+ConversesBy input old new reads later_reads writes later_writes (Ok talked.WriteFault) = HasRisen writes later_writes
+ConversesBy input old new reads later_reads writes later_writes (Err error) = Unit {0}
+
+-- how the end of the client is told
+abbrev pub ran_by : Option Condition → ClientRan
+ran_by None = ran.Done
+ran_by (Some condition) = ran.Ended condition
+
+-- the client that was over ended so
+unfoldable pub Concludes : Known Entry → Known Entry → ClientRan → Type 0
+Concludes old new ran.SpawnFault = ⊥
+Concludes old new ran.NetFault = ⊥
+Concludes old new (ran.Bad n) = ⊥
+Concludes old new ran.ReadFault = ⊥
+Concludes old new ran.WriteFault = ⊥
+Concludes old new (ran.Ended condition) = After new.seen (EndsWith condition)
+Concludes old new ran.Done = WasOver old.seen → After new.seen IsDone
+
+-- what is written last was handed out, and then it is seen how the client ended
+pub record Closes (old new : Known Entry) (ran : ClientRan) : Type 0 where
+  pub last : Known Entry
+  pub handed : AddsOnly is_hand_out old last
+  pub mine : new.mine ≡ last.mine
+  pub begins : WasOver old.seen → WasOver last.seen
+  pub concludes : Concludes last new ran
+
+-- how it ran, by what talking and the workers came to
+unfoldable pub FinishesBy : Result Talked AllocError → Gathered → Known Entry → Known Entry → ℕ → ℕ → Result ClientRan AllocError → Type 0
+FinishesBy t g old new writes later (Ok ran.SpawnFault) = ⊥
+FinishesBy t g old new writes later (Ok ran.NetFault) = g ≡ gathered.NetFault
+FinishesBy t g old new writes later (Ok (ran.Bad n)) = t ≡ Ok (talked.Bad n)
+FinishesBy t g old new writes later (Ok ran.ReadFault) = t ≡ Ok talked.ReadFault
+FinishesBy t g old new writes later (Ok ran.WriteFault) = (t ≡ Ok talked.WriteFault) ⊎ HasRisen writes later
+FinishesBy t g old new writes later (Ok (ran.Ended condition)) = (t ≡ Ok talked.Done) × (g ≡ gathered.Over) × Closes old new (ran.Ended condition)
+FinishesBy t g old new writes later (Ok ran.Done) = (t ≡ Ok talked.Done) × (g ≡ gathered.Over) × Closes old new ran.Done
+FinishesBy t g old new writes later (Err error) = Unit {0}

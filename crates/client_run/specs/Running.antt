@@ -1,0 +1,109 @@
+-- How workers come back to who started them.
+use Rattle.std.specs.Prelude.{◌≡◌, ◌⊎◌, ◌<◌, ◌≤◌, ◌&&◌, ◌||◌, nat_lt, Bool, true, false, IsTrue, List, Option, Some, None, Result, Ok, Err}
+use Rattle.std.specs.List.{list_all}
+use Rattle.std.specs.declared.alloc.AllocError.{AllocError}
+use Rattle.bosh_client.specs.PlainClient.{PlainClient, has_ended, next_id}
+use Rattle.bosh_ports.specs.Faults.{HasRisen}
+use Rattle.bosh_types.specs.Rid.{greatest_rid}
+use Rattle.parked_gate.specs.Histories.{StartsWith}
+use Rattle.parked_gate.specs.Passes.{Known}
+use Rattle.server_ports.specs.Counts.{Counts}
+use Rattle.client_run.specs.declared.entry.Entry.{Entry}
+use Rattle.client_run.specs.declared.gathering.Gathered.{Gathered}
+use Rattle.client_run.specs.declared.gathering.Gathered.TheVariants as gathered
+use Rattle.client_run.specs.declared.talking.Talked.{Talked}
+use Rattle.client_run.specs.declared.talking.Talked.TheVariants as talked
+use Rattle.client_run.specs.declared.worked.Worked.{Worked}
+use Rattle.client_run.specs.declared.worked.Worked.TheVariants as worked
+use Rattle.client_run.specs.Adding.{is_entry, is_of_worker}
+use Rattle.client_run.specs.History.{After, client_in}
+
+-- no more comes of a client: it ended, or no request id is left
+abbrev pub IsOver : PlainClient → Type 0
+IsOver c = (has_ended c ≡ true) ⊎ (greatest_rid < next_id c)
+
+-- the same as a test, and of the client after these entries
+abbrev pub is_over : PlainClient → Bool
+is_over c = has_ended c || nat_lt greatest_rid (next_id c)
+
+abbrev pub is_over_by : Option PlainClient → Bool
+is_over_by None = false
+is_over_by (Some c) = is_over c
+
+-- a worker ended with its client: it dialled, and of its own entries are requests and answers alone
+abbrev pub finishes : Known Entry → Counts → Bool
+finishes known counts = is_over_by (client_in known.seen) && (nat_lt 0 counts.dialled && list_all (is_entry is_of_worker) known.mine)
+
+-- what the end of a worker tells of its pass and its share: this, or that the share failed
+unfoldable pub is_end_of : Result Worked AllocError → Known Entry → Counts → Bool
+is_end_of (Ok worked.Done) known counts = finishes known counts
+is_end_of (Ok (worked.Ended condition)) known counts = finishes known counts
+is_end_of (Ok worked.DialFault) known counts = nat_lt 0 counts.faults
+is_end_of (Ok worked.ReadFault) known counts = nat_lt 0 counts.faults
+is_end_of (Ok worked.WriteFault) known counts = nat_lt 0 counts.faults
+is_end_of (Ok worked.Silent) known counts = true
+is_end_of (Err error) known counts = true
+
+abbrev pub IsEndOf : Result Worked AllocError → Known Entry → Counts → Type 0
+IsEndOf worked known counts = IsTrue (is_end_of worked known counts)
+
+abbrev pub is_done : Talked → Bool
+is_done talked.Done = true
+is_done (talked.Bad n) = false
+is_done talked.ReadFault = false
+is_done talked.WriteFault = false
+
+abbrev pub is_silent : Worked → Bool
+is_silent worked.Done = false
+is_silent (worked.Ended condition) = false
+is_silent worked.DialFault = false
+is_silent worked.ReadFault = false
+is_silent worked.WriteFault = false
+is_silent worked.Silent = true
+
+abbrev pub is_failed : Result Worked AllocError → Bool
+is_failed (Ok worked.Done) = false
+is_failed (Ok (worked.Ended condition)) = false
+is_failed (Ok worked.DialFault) = true
+is_failed (Ok worked.ReadFault) = true
+is_failed (Ok worked.WriteFault) = true
+is_failed (Ok worked.Silent) = false
+is_failed (Err error) = true
+
+-- at some time the client was over
+pub record WasOver (seen : List Entry) : Type 0 where
+  pub log : List Entry
+  pub begins : StartsWith seen log
+  pub over : After log IsOver
+
+-- a worker that left since the other one had failed tells nothing of its own, as one that had no memory
+abbrev pub gathered_of : Result Worked AllocError → Gathered
+gathered_of (Ok worked.Done) = gathered.Over
+gathered_of (Ok (worked.Ended condition)) = gathered.Over
+gathered_of (Ok worked.DialFault) = gathered.NetFault
+gathered_of (Ok worked.ReadFault) = gathered.NetFault
+gathered_of (Ok worked.WriteFault) = gathered.NetFault
+gathered_of (Ok worked.Silent) = gathered.NoMemory
+gathered_of (Err error) = gathered.NoMemory
+
+-- a fault goes before want of memory
+abbrev pub worse_of : Gathered → Gathered → Gathered
+worse_of gathered.NetFault second = gathered.NetFault
+worse_of gathered.Over second = second
+worse_of gathered.NoMemory gathered.NetFault = gathered.NetFault
+worse_of gathered.NoMemory gathered.Over = gathered.NoMemory
+worse_of gathered.NoMemory gathered.NoMemory = gathered.NoMemory
+
+-- what the ends that were taken tell: the client was over and was dialled for, or the network failed
+abbrev pub GatheredTells : List Entry → Counts → Counts → Gathered → Type 0
+GatheredTells seen old new gathered.Over = WasOver seen × HasRisen old.dialled new.dialled
+GatheredTells seen old new gathered.NetFault = HasRisen old.faults new.faults
+GatheredTells seen old new gathered.NoMemory = Unit {0}
+
+-- ends were taken: the pass has seen more, no entry is its own besides, and no count falls
+pub record Gathers (old new : Known Entry) (counts later : Counts) (result : Gathered) : Type 0 where
+  pub begins : StartsWith new.seen old.seen
+  pub mine : new.mine ≡ old.mine
+  pub faults : counts.faults ≤ later.faults
+  pub dialled : counts.dialled ≤ later.dialled
+  pub tells : GatheredTells new.seen counts later result

@@ -1,0 +1,309 @@
+// The whole of a running client.
+ghost use Rattle.std.specs.Prelude.{◌≡◌, ◌≤◌, Ok, true, false};
+ghost use Rattle.std.specs.Arc.{arc_value};
+ghost use Rattle.parked_gate.specs.Passes.{IsPassOf, gate_of, known};
+ghost use Rattle.client_run.specs.Ran.{Concludes, ConversesBy, FinishesBy, RanBy, ran_by, scene_of};
+ghost use Rattle.client_run.specs.Running.{is_done};
+
+use crate::asking::look;
+use crate::crew::{Both, Crew, hire_both, start_both};
+use crate::draining::{Written, drain};
+use crate::ends::{Ends, Naming};
+use crate::gathering::{Gathered, gather_one, gather_two};
+use crate::object::ClientObject;
+use crate::queueing::terminate;
+use crate::talking::{Talked, talk};
+use bosh_ports::{Bell, Link, Sink, Source};
+use bosh_types::Condition;
+use parked_gate::{Gate, Pass};
+use server_ports::{Clock, Network, Spawner};
+use std::alloc::{AllocError, Global};
+use std::marker::Brand;
+use std::sync::{Arc, Wait};
+use std::thread::Threads;
+
+/// How a client ran: the first of these that holds.
+#[derive(Clone, Copy, Debug, PartialEq, Eq)]
+pub enum ClientRan {
+    /// A worker could not be started.
+    SpawnFault,
+    /// The network gave no share, or a worker ended by a fault.
+    NetFault,
+    /// This line of the input is the first that is no stanza, or it is the 1,000,001st.
+    Bad { line: u64 },
+    /// The source failed.
+    ReadFault,
+    /// The sink failed.
+    WriteFault,
+    /// The first terminal answer that the client took has this condition.
+    Ended(Condition),
+    /// It has none, or no request id is left.
+    Done,
+}
+
+/// A client behind its gate, and the port at which its manager listens.
+#[derive(Drop)]
+pub struct Place<'p> {
+    pub alloc: Global,
+    pub gate: &'p Arc<Gate<ClientObject>>,
+    pub port: u16,
+}
+
+/// What a client runs over besides its input and its output.
+#[derive(Drop)]
+pub struct Outside<N, C, B, P> {
+    pub net: N,
+    pub clock: C,
+    pub bell: B,
+    pub spawner: P,
+}
+
+/// Runs a client over an input: two workers send what it has to send, and take its answers, while this thread puts the lines of
+/// the input and writes what is handed out. Before the answer both workers ended, and what was handed out last is written. Where
+/// anything fails, a terminate is queued. The only error is want of memory. The jobs wait for this thread, so the spawner has to
+/// give threads.
+pub fn run_client<R, S, K, N, C, B, P>(
+    rt: &R,
+    place: &Place<'_>,
+    pass: &mut Pass<ClientObject>,
+    source: &mut S,
+    sink: &mut K,
+    outside: &mut Outside<N, C, B, P>,
+) -> Result<ClientRan, AllocError>
+where
+    R: Wait + Threads + Copy + Send + Drop + 'static,
+    S: Source,
+    K: Sink,
+    N: Network + Send + Drop + 'static,
+    N::Link: Send + Drop + 'static,
+    C: Clock + Send + Drop + 'static,
+    B: Bell + Send + Drop + 'static,
+    P: Spawner,
+    requires { IsPassOf (arc_value place.now.gate.now) pass.old }
+    ensures pass { IsPassOf (arc_value place.now.gate.now) pass.new }
+
+    // Each answer has its cause.
+    ensures ran { RanBy (S.left source.old) (scene_of (known pass.old) (N.counts outside.old.net) (P.refusals outside.old.spawner) (S.faults source.old) (K.faults sink.old))
+        (scene_of (known pass.new) (N.counts outside.new.net) (P.refusals outside.new.spawner) (S.faults source.new) (K.faults sink.new)) result }
+    ensures sink_faults { K.faults sink.old ≤ K.faults sink.new }
+{
+    run_named::<Brand, R, S, K, N, C, B, P>(rt, place, pass, source, sink, outside)
+}
+
+// The same at a gate with a name.
+fn run_named<J, R, S, K, N, C, B, P>(
+    rt: &R,
+    place: &Place<'_>,
+    pass: &mut Pass<ClientObject>,
+    source: &mut S,
+    sink: &mut K,
+    outside: &mut Outside<N, C, B, P>,
+) -> Result<ClientRan, AllocError>
+where
+    J: Naming + Send + Sync + 'static,
+    R: Wait + Threads + Copy + Send + Drop + 'static,
+    S: Source,
+    K: Sink,
+    N: Network + Send + Drop + 'static,
+    N::Link: Send + Drop + 'static,
+    C: Clock + Send + Drop + 'static,
+    B: Bell + Send + Drop + 'static,
+    P: Spawner,
+    requires pass { IsPassOf (arc_value place.now.gate.now) pass.old }
+    requires named { gate_of (arc_value place.now.gate.now) ≡ J.gate }
+    ensures pass { IsPassOf (arc_value place.now.gate.now) pass.new }
+    ensures ran { RanBy (S.left source.old) (scene_of (known pass.old) (N.counts outside.old.net) (P.refusals outside.old.spawner) (S.faults source.old) (K.faults sink.old))
+        (scene_of (known pass.new) (N.counts outside.new.net) (P.refusals outside.new.spawner) (S.faults source.new) (K.faults sink.new)) result }
+    ensures sink_faults { K.faults sink.old ≤ K.faults sink.new }
+{
+    let Place { alloc, gate, port } = *place;
+    let ends = match new_ends::<J, N>(alloc) {
+        Ok(ends) => ends,
+        Err(AllocError) => return Err(AllocError),
+    };
+    let crew = Crew {
+        rt,
+        alloc,
+        gate,
+        clock: &outside.clock,
+        port,
+        ends: &ends,
+    };
+    let hired = match hire_both(&crew, pass, &mut outside.net, &mut outside.bell) {
+        Ok(hired) => hired,
+        Err(AllocError) => return Err(AllocError),
+    };
+    let Both { first, second } = match hired {
+        Some(both) => both,
+        None => {
+            let _ = terminate(rt, gate, pass, &mut outside.bell);
+            return Ok(ClientRan::NetFault);
+        }
+    };
+    let started = start_both(rt, &mut outside.spawner, first, second);
+    if started != 2 {
+        give_up(
+            rt,
+            gate,
+            pass,
+            &mut outside.net,
+            &mut outside.bell,
+            &ends,
+            started,
+        );
+        return Ok(ClientRan::SpawnFault);
+    }
+    let talked = converse(rt, alloc, gate, pass, source, sink, &mut outside.bell);
+    let gathered = gather_two(rt, gate, pass, &mut outside.net, &ends);
+    finish(rt, gate, pass, sink, talked, gathered)
+}
+
+// The session is to end since a worker was refused, and the end of the other is waited for.
+fn give_up<J: Naming, R: Wait, N: Network + Drop, B: Bell>(
+    rt: &R,
+    gate: &Gate<ClientObject>,
+    pass: &mut Pass<ClientObject>,
+    net: &mut N,
+    bell: &mut B,
+    ends: &Ends<J, N>,
+    started: u32,
+)
+    requires pass { IsPassOf gate.now pass.old }
+    requires named { gate_of gate.now ≡ J.gate }
+    ensures { IsPassOf gate.now pass.new }
+{
+    let _ = terminate(rt, gate, pass, bell);
+    if started == 1 {
+        gather_one(rt, gate, pass, net, ends);
+        return;
+    }
+}
+
+fn new_ends<J: Naming, N: Network + Drop>(alloc: Global) -> Result<Arc<Ends<J, N>>, AllocError> {
+    match Arc::new(alloc, Ends::with_room(alloc, 2)?) {
+        Ok(ends) => Ok(ends),
+        Err(_) => Err(AllocError),
+    }
+}
+
+// Talks, and queues a terminate where that doesn't end well. The only error is want of memory.
+fn converse<R: Wait, S: Source, K: Sink, B: Bell>(
+    rt: &R,
+    alloc: Global,
+    gate: &Gate<ClientObject>,
+    pass: &mut Pass<ClientObject>,
+    source: &mut S,
+    sink: &mut K,
+    bell: &mut B,
+) -> Result<Talked, AllocError>
+    requires { IsPassOf gate.now pass.old }
+    ensures pass { IsPassOf gate.now pass.new }
+    ensures converses { ConversesBy (S.left source.old) (known pass.old) (known pass.new) (S.faults source.old) (S.faults source.new) (K.faults sink.old) (K.faults sink.new) result }
+    ensures sink_faults { K.faults sink.old ≤ K.faults sink.new }
+{
+    let talked = match talk(rt, alloc, gate, pass, source, sink, bell) {
+        Ok(talked) => talked,
+        Err(AllocError) => {
+            let _ = terminate(rt, gate, pass, bell);
+            return Err(AllocError);
+        }
+    };
+    if is_done(talked) {
+        return Ok(talked);
+    }
+    let _ = terminate(rt, gate, pass, bell);
+    Ok(talked)
+}
+
+fn is_done(talked: Talked) -> bool
+    ensures { result ≡ is_done talked }
+{
+    match talked {
+        Talked::Done => true,
+        Talked::Bad { .. } => false,
+        Talked::ReadFault => false,
+        Talked::WriteFault => false,
+    }
+}
+
+// Writes what was handed out last, and says how the client ran.
+fn finish<R: Wait, K: Sink>(
+    rt: &R,
+    gate: &Gate<ClientObject>,
+    pass: &mut Pass<ClientObject>,
+    sink: &mut K,
+    talked: Result<Talked, AllocError>,
+    gathered: Gathered,
+) -> Result<ClientRan, AllocError>
+    requires { IsPassOf gate.now pass.old }
+    ensures pass { IsPassOf gate.now pass.new }
+    ensures finishes { FinishesBy talked gathered (known pass.old) (known pass.new) (K.faults sink.old) (K.faults sink.new) result }
+    ensures sink_faults { K.faults sink.old ≤ K.faults sink.new }
+{
+    let talked = match talked {
+        Ok(talked) => talked,
+        Err(AllocError) => return Err(AllocError),
+    };
+    match talked {
+        Talked::Done => end(rt, gate, pass, sink, gathered),
+        Talked::Bad { line } => {
+            let _ = drain(rt, gate, pass, sink);
+            Ok(ClientRan::Bad { line })
+        }
+        Talked::ReadFault => {
+            let _ = drain(rt, gate, pass, sink);
+            Ok(ClientRan::ReadFault)
+        }
+        Talked::WriteFault => Ok(ClientRan::WriteFault),
+    }
+}
+
+// The same where the talk ended well.
+fn end<R: Wait, K: Sink>(
+    rt: &R,
+    gate: &Gate<ClientObject>,
+    pass: &mut Pass<ClientObject>,
+    sink: &mut K,
+    gathered: Gathered,
+) -> Result<ClientRan, AllocError>
+    requires { IsPassOf gate.now pass.old }
+    ensures pass { IsPassOf gate.now pass.new }
+    ensures finishes { FinishesBy (Ok Talked.Done) gathered (known pass.old) (known pass.new) (K.faults sink.old) (K.faults sink.new) result }
+    ensures sink_faults { K.faults sink.old ≤ K.faults sink.new }
+{
+    let written = match drain(rt, gate, pass, sink) {
+        Ok(written) => written,
+        Err(AllocError) => return Err(AllocError),
+    };
+    match gathered {
+        Gathered::NetFault => return Ok(ClientRan::NetFault),
+        Gathered::NoMemory => return Err(AllocError),
+        Gathered::Over => {}
+    }
+    match written {
+        Written::WriteFault => Ok(ClientRan::WriteFault),
+        Written::Done => Ok(conclude(rt, gate, pass)),
+    }
+}
+
+// How the client ended.
+fn conclude<R: Wait>(rt: &R, gate: &Gate<ClientObject>, pass: &mut Pass<ClientObject>) -> ClientRan
+    requires { IsPassOf gate.now pass.old }
+    ensures pass { IsPassOf gate.now pass.new }
+    ensures mine { (known pass.new).mine ≡ (known pass.old).mine }
+    ensures concludes { Concludes (known pass.old) (known pass.new) result }
+{
+    match look(rt, gate, pass) {
+        Some(end) => ran_by(end.condition),
+        None => ClientRan::Done,
+    }
+}
+
+fn ran_by(condition: Option<Condition>) -> ClientRan
+    ensures { result ≡ ran_by condition }
+{
+    match condition {
+        Some(condition) => ClientRan::Ended(condition),
+        None => ClientRan::Done,
+    }
+}
