@@ -1,3 +1,5 @@
+mod AskedLemmas
+mod ClientOptionLemmas
 pub mod NumberLemmas
 mod OptionLemmas
 mod OptionRows

@@ -9,7 +9,7 @@ use Rattle.clap.proofs.OnLiterals.{clap_on_literals}
 use Rattle.clap.proofs.WalkLemmas.{first_value-rows}
 use Rattle.bosh_main.specs.declared.options.ServeOptions.{ServeOptions}
 use Rattle.bosh_main.specs.declared.options.Wanted.{Wanted}
-use Rattle.bosh_main.specs.Options.{Asks, MayAsk, ShowsWhatIsAsked, is_shown, number_in, options_by, options_from, options_of, options_wanted, serve_app}
+use Rattle.bosh_main.specs.Options.{Asks, MayAsk, ShowsWhatIsAsked, number_in, options_by, options_from, options_of, options_wanted, serve_app}
 
 pub serve_is_simple : is_simple serve_app ≡ true
 unfolding clap_on_literals
@@ -48,39 +48,44 @@ no_kinds : (kind : ErrorKind) (kinds : Kinds) → kinds ≡ [] → kinds ≡ kin
 no_kinds kind kinds none one = let never : kind ∷ [] ≡ [] = sym one ∙ none in cc never
 
 -- without a fault nothing is asked for
-pub asked_by_none : (kinds : Kinds) (wanted : Wanted) → kinds ≡ [] → is_shown wanted ≡ false → ShowsWhatIsAsked kinds wanted
-asked_by_none kinds wanted none hidden = (
-  λ shown. let never : true ≡ false = sym shown ∙ hidden in absurd (true_false never),
+pub asked_by_none : (kinds : Kinds) (shown : Bool) → kinds ≡ [] → shown ≡ false → ShowsWhatIsAsked kinds shown
+asked_by_none kinds shown none hidden = (
+  λ is. let never : true ≡ false = sym is ∙ hidden in absurd (true_false never),
   λ asks. elim asks [
     | inl help ↦ absurd (no_kinds DisplayHelp kinds none help)
     | inr version ↦ absurd (no_kinds DisplayVersion kinds none version)
   ],
 )
 
+pub asked_by_none_all : {T E : Type 0} (shown : T → Bool) (kinds : Kinds) → kinds ≡ [] → (result : Result T E) → IfOk result (λ wanted. shown wanted ≡ false)
+    → IfOk result (λ wanted. ShowsWhatIsAsked kinds (shown wanted))
+asked_by_none_all shown kinds none (Ok wanted) hidden = asked_by_none kinds (shown wanted) none hidden
+asked_by_none_all shown kinds none (Err e) hidden = tt
+
 only_kind : (k kind : ErrorKind) → (k ≡ kind) ⊎ ⊥ → k ≡ kind
 only_kind k kind (inl is) = is
 only_kind k kind (inr none) = absurd none
 
 -- what is asked for is told by the kind of the error
-pub asked_by_kind : (kinds : Kinds) (error : Error) → HasKind kinds error → kind_of error ≢ OutOfMemory → (wanted : Wanted)
-    → (is_shown wanted ≡ true → (kind_of error ≡ DisplayHelp) ⊎ (kind_of error ≡ DisplayVersion))
-    → ((kind_of error ≡ DisplayHelp) ⊎ (kind_of error ≡ DisplayVersion) → is_shown wanted ≡ true) → ShowsWhatIsAsked kinds wanted
-asked_by_kind kinds error (inl memory) mistake wanted shows shown = absurd (mistake memory)
-asked_by_kind kinds error (inr among) mistake wanted shows shown = (
+pub asked_by_kind : (kinds : Kinds) (error : Error) → HasKind kinds error → kind_of error ≢ OutOfMemory → (shown : Bool)
+    → (shown ≡ true → (kind_of error ≡ DisplayHelp) ⊎ (kind_of error ≡ DisplayVersion))
+    → ((kind_of error ≡ DisplayHelp) ⊎ (kind_of error ≡ DisplayVersion) → shown ≡ true) → ShowsWhatIsAsked kinds shown
+asked_by_kind kinds error (inl memory) mistake shown shows so = absurd (mistake memory)
+asked_by_kind kinds error (inr among) mistake shown shows so = (
   λ is. elim (shows is) [
     | inl help ↦ inl (subst (λ kind. IsAmong kind kinds) help among)
     | inr version ↦ inr (subst (λ kind. IsAmong kind kinds) version among)
   ],
   λ asks. elim asks [
-    | inl help ↦ shown (inl (only_kind _ _ (subst (λ (kinds : Kinds). IsAmong (kind_of error) kinds) help among)))
-    | inr version ↦ shown (inr (only_kind _ _ (subst (λ (kinds : Kinds). IsAmong (kind_of error) kinds) version among)))
+    | inl help ↦ so (inl (only_kind _ _ (subst (λ (kinds : Kinds). IsAmong (kind_of error) kinds) help among)))
+    | inr version ↦ so (inr (only_kind _ _ (subst (λ (kinds : Kinds). IsAmong (kind_of error) kinds) version among)))
   ],
 )
 
-pub asked_by_fault : {E : Type 0} (kinds : Kinds) (error : Error) → HasKind kinds error → (result : Result Wanted E)
+pub asked_by_fault : {T E : Type 0} (shown : T → Bool) (kinds : Kinds) (error : Error) → HasKind kinds error → (result : Result T E)
     → IfOk result (λ _. kind_of error ≢ OutOfMemory)
-    → IfOk result (λ wanted. is_shown wanted ≡ true → (kind_of error ≡ DisplayHelp) ⊎ (kind_of error ≡ DisplayVersion))
-    → IfOk result (λ wanted. (kind_of error ≡ DisplayHelp) ⊎ (kind_of error ≡ DisplayVersion) → is_shown wanted ≡ true)
-    → IfOk result (λ wanted. ShowsWhatIsAsked kinds wanted)
-asked_by_fault kinds error has (Ok wanted) mistake shows shown = asked_by_kind kinds error has mistake wanted shows shown
-asked_by_fault kinds error has (Err e) mistake shows shown = tt
+    → IfOk result (λ wanted. shown wanted ≡ true → (kind_of error ≡ DisplayHelp) ⊎ (kind_of error ≡ DisplayVersion))
+    → IfOk result (λ wanted. (kind_of error ≡ DisplayHelp) ⊎ (kind_of error ≡ DisplayVersion) → shown wanted ≡ true)
+    → IfOk result (λ wanted. ShowsWhatIsAsked kinds (shown wanted))
+asked_by_fault shown kinds error has (Ok wanted) mistake shows so = asked_by_kind kinds error has mistake (shown wanted) shows so
+asked_by_fault shown kinds error has (Err e) mistake shows so = tt

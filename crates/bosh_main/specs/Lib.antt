@@ -2,3 +2,5 @@ pub mod Number
 pub mod Run
 pub mod Serving
 pub mod Options
+pub mod ClientOptions
+pub mod Asked

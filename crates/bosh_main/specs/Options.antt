@@ -77,9 +77,9 @@ MayAsk kinds = IsAmong DisplayHelp kinds ⊎ IsAmong DisplayVersion kinds
 abbrev pub Asks : Kinds → Type 0
 Asks kinds = (kinds ≡ DisplayHelp ∷ []) ⊎ (kinds ≡ DisplayVersion ∷ [])
 
--- The text is shown only where help or the version may be what is asked for, and wherever it is
-abbrev pub ShowsWhatIsAsked : Kinds → Wanted → Type 0
-ShowsWhatIsAsked kinds wanted = (is_shown wanted ≡ true → MayAsk kinds) × (Asks kinds → is_shown wanted ≡ true)
+-- whether a text is shown: only where help or the version may be what is asked for, and wherever just that is
+abbrev pub ShowsWhatIsAsked : Kinds → Bool → Type 0
+ShowsWhatIsAsked kinds shown = (shown ≡ true → MayAsk kinds) × (Asks kinds → shown ≡ true)
 
 -- what the parser of words may find of words of `serve`: faults, or that a text is asked for
 abbrev pub serve_findings : List (String Global) → Kinds

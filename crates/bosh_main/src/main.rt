@@ -1,6 +1,10 @@
 // The program: it hands its words and the real streams to the top calls.
 #![tactic(auto)]
 
+mod asked;
+mod client_options;
+#[cfg(test)]
+mod client_tests;
 mod command;
 #[cfg(test)]
 mod limit_tests;
@@ -15,11 +19,13 @@ mod served;
 #[cfg(test)]
 mod tests;
 
+use crate::asked::run_asked;
 use crate::run::{NO_MEMORY, run_local, status_without_words};
 use crate::served::run_served;
-use bosh_ports::{ReadSource, RealBell, Sink, WriteSink};
+use bosh_ports::{ReadSource, RealBell, Sink, Source, WriteSink};
 use bosh_server::Outside;
 use bosh_types::{Stanzas, Text};
+use client_run::Outside as ClientOutside;
 use server_ports::{RealClock, RealNames, TcpNetwork, ThreadSpawner, system_seed};
 use session_pump::Host;
 use std::alloc::{AllocError, Global};
@@ -33,10 +39,15 @@ use xmpp_backend::{Backend, Echo, Room};
 
 fn main(rt: HostRuntime) -> ExitCode {
     let status = match words(&rt) {
-        Ok(words) if is_served(&words) => {
+        Ok(words) if is_command(&words, "serve") => {
             let mut sink = WriteSink::new(io::writer(&rt));
             let mut errors = WriteSink::new(rt.stderr());
             serve_for_real(&rt, rt.alloc(), &words, &mut sink, &mut errors).unwrap_or(NO_MEMORY)
+        }
+        Ok(words) if is_command(&words, "client") => {
+            let mut source = ReadSource::new(rt.reader());
+            let mut sink = WriteSink::new(io::writer(&rt));
+            ask_for_real(&rt, rt.alloc(), &words, &mut source, &mut sink).unwrap_or(NO_MEMORY)
         }
         Ok(words) => {
             let mut source = ReadSource::new(rt.reader());
@@ -57,10 +68,10 @@ fn words(rt: &HostRuntime) -> io::Result<Vec<String>> {
     Ok(words)
 }
 
-/// Whether the first word is a command over the network.
-fn is_served(words: &[String]) -> bool {
+/// Whether the first word names this command.
+fn is_command(words: &[String], name: &str) -> bool {
     match words {
-        [first, ..] => first.as_str() == "serve" || first.as_str() == "client",
+        [first, ..] => first.as_str() == name,
         _ => false,
     }
 }
@@ -118,6 +129,48 @@ where
         bell: _bell,
         spawner,
         names: _names,
+    } = outside;
+    spawner.join_all(rt);
+    Ok(status)
+}
+
+/// Runs a client over the real network, with the real clock, bell, threads and names.
+fn ask_for_real<R, I, K>(
+    rt: &R,
+    alloc: Global,
+    words: &[String],
+    source: &mut I,
+    sink: &mut K,
+) -> Result<u8, AllocError>
+where
+    R: Wait
+        + Threads
+        + Files
+        + Clock
+        + Net<Listener = TcpListener, Stream = TcpStream>
+        + Copy
+        + Send
+        + Drop
+        + 'static,
+    I: Source,
+    K: Sink,
+{
+    let Ok(seed) = system_seed(rt) else {
+        return Ok(NO_MEMORY);
+    };
+    let mut names = RealNames::new(alloc, seed);
+    let mut outside = ClientOutside {
+        net: TcpNetwork::new(*rt),
+        clock: RealClock::new(*rt),
+        bell: RealBell::new(alloc, *rt)?,
+        spawner: ThreadSpawner::new(alloc),
+    };
+    let status = run_asked(rt, alloc, words, source, sink, &mut outside, &mut names);
+    let ClientOutside {
+        net: _net,
+        clock: _clock,
+        bell: _bell,
+        spawner,
     } = outside;
     spawner.join_all(rt);
     Ok(status)

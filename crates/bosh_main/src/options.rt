@@ -64,7 +64,7 @@ fn serve_command<'a>(alloc: Global) -> Result<Command<'a>, AllocError>
 /// Reads the words, of which the first is the command's. The only error is want of memory.
 pub fn read_options(alloc: Global, words: &[String]) -> Result<Wanted, AllocError>
     ensures options { IfOk result (λ wanted. options_wanted wanted ≡ options_in (map (λ word. string_bytes word) words.now)) }
-    ensures shows { IfOk result (λ wanted. ShowsWhatIsAsked (fault_of serve_app (map (λ word. string_bytes word) words.now)) wanted) }
+    ensures shows { IfOk result (λ wanted. ShowsWhatIsAsked (fault_of serve_app (map (λ word. string_bytes word) words.now)) (is_shown wanted)) }
 {
     let command = serve_command(alloc)?;
     match command.try_get_matches_from(words) {
@@ -128,7 +128,7 @@ fn options_from(
 }
 
 // The number that the text writes in plain decimal, where it lies within these bounds.
-fn number(text: Option<&str>, least: u32, greatest: u32) -> Option<u32>
+pub(crate) fn number(text: Option<&str>, least: u32, greatest: u32) -> Option<u32>
     ensures number { result ≡ number_in least greatest (option_map (λ text. text.now) text.entry) }
     ensures low { IfSome result (λ n. n ≤ greatest) }
 {

@@ -2,7 +2,7 @@
 ghost use Rattle.std.specs.Prelude.{◌≡◌, ◌≢◌, ◌≤◌, [], ◌∷◌, Contains, IfOk, IfSome, IsSome, None, codes};
 ghost use Rattle.std.specs.Io.KnownBytes.{Appends};
 ghost use Rattle.bosh_ports.specs.Faults.{HasRisen};
-ghost use Rattle.bosh_main.specs.Options.{Asks, MayAsk, ShowsWhatIsAsked, options_wanted, serve_findings, serve_options};
+ghost use Rattle.bosh_main.specs.Options.{Asks, MayAsk, ShowsWhatIsAsked, is_shown, options_wanted, serve_findings, serve_options};
 ghost use Rattle.bosh_main.specs.Serving.{Served, served_line};
 
 use crate::options::{ServeOptions, Wanted, read_options};
@@ -75,7 +75,7 @@ where
 
 fn wanted(alloc: Global, words: &[String]) -> Result<Wanted, AllocError>
     ensures options { IfOk result (λ wanted. options_wanted wanted ≡ serve_options words.now) }
-    ensures shows { IfOk result (λ wanted. ShowsWhatIsAsked (serve_findings words.now) wanted) }
+    ensures shows { IfOk result (λ wanted. ShowsWhatIsAsked (serve_findings words.now) (is_shown wanted)) }
 {
     let Some(first) = words.first() else {
         return Ok(Wanted::Nothing);
@@ -87,7 +87,7 @@ fn wanted(alloc: Global, words: &[String]) -> Result<Wanted, AllocError>
 }
 
 // Gives this text, and answers the status of that.
-fn status_given<K: Sink>(sink: &mut K, text: &[u8]) -> u8
+pub(crate) fn status_given<K: Sink>(sink: &mut K, text: &[u8]) -> u8
     ensures statuses { Contains (0 ∷ 5 ∷ []) result }
     ensures given { result ≡ 0 → Appends (K.given sink.old) (K.given sink.new) text.now }
     ensures fault { result ≡ 5 → HasRisen (K.faults sink.old) (K.faults sink.new) }
