@@ -1,6 +1,10 @@
 -- What the status of a client says, by how it ran.
-use Rattle.std.proofs.Common.{◌≡◌, ◌≤◌, ◌⊎◌, ℕ, zero, suc, true, List, [], ◌∷◌, Option, Some, None, Ok, Contains, inl, inr, refl, sym, ◌∙◌, arith, lit<}
-use Rattle.std.specs.Prelude.{IfSome}
+use Rattle.std.proofs.Common.{◌≡◌, ◌≤◌, ◌⊎◌, ℕ, zero, suc, Bool, true, false, length, List, [], ◌∷◌, Option, Some, None, Ok, Contains, inl, inr, refl, sym, ◌∙◌, arith, lit<}
+use Rattle.std.specs.Prelude.{IfSome, nat_le, ◌&&◌}
+use Rattle.std.proofs.lemmas.Bool.{le-leb}
+use Rattle.session_attrs.specs.Serving.{is_allowed_text}
+use Rattle.session_laws.proofs.Tests.{both_true}
+use Rattle.bosh_client.specs.Setup.{is_setup}
 use Rattle.bosh_ports.specs.Faults.{HasRisen}
 use Rattle.bosh_ports.proofs.FaultLemmas.{HasRisen-after, HasRisen-before}
 use Rattle.line_reader.specs.Lines.{lines_of}
@@ -9,6 +13,8 @@ use Rattle.client_run.specs.declared.running.ClientRan.TheVariants as ran
 use Rattle.client_run.specs.Input.{IsFirstBad}
 use Rattle.client_run.specs.Ran.{RanBy, Scene}
 use Rattle.client_run.specs.Worked.{IsDone}
+use Rattle.bosh_main.specs.ClientOptions.{Fits}
+use Rattle.bosh_main.specs.declared.client_options.ClientOptions.{ClientOptions}
 use Rattle.bosh_main.specs.Asked.{Ended, EndedBadly, HasBad, status_of}
 
 -- a status that is neither 5 nor 6 is that of how the client ran
@@ -32,6 +38,28 @@ asked_status how r (zero, lt, e) = own_listed how r e
 asked_status how r (suc zero, lt, e) = (3, lit< tt, e)
 asked_status how r (suc (suc zero), lt, e) = (4, lit< tt, e)
 asked_status how r (suc (suc (suc k)), lt, e) = absurd (omega (arith, lt))
+
+both_are : (a b : Bool) → a ≡ true → b ≡ true → (a && b) ≡ true
+both_are true b is_a is_b = is_b
+both_are false b is_a is_b = is_a
+
+-- a client may begin with what the words say
+pub begins_with : (options : ClientOptions) (first : ℕ) (seed : List ℕ) → Fits options
+    → is_setup (record { first = first; to = options.to; wait = options.wait; hold = options.hold; ack = true; seed = seed; keys = 0 }) ≡ true
+unfolding is_setup
+begins_with options first seed fits =
+    let host = both_true (nat_le (length options.to) 1023) (is_allowed_text options.to) fits.host in
+    both_are _ _ (both_are _ _ (both_are _ _ (both_are _ _ (le-leb options.wait 120 fits.wait) (le-leb options.hold 4 fits.hold)) refl) host.0) host.1
+
+-- the statuses of a text that is shown, and of a client that runs, are among those of the command
+pub of_shown : (r : ℕ) → Contains (0 ∷ 5 ∷ []) r → Contains (0 ∷ 2 ∷ 3 ∷ 4 ∷ 5 ∷ 6 ∷ 7 ∷ 8 ∷ 9 ∷ []) r
+of_shown r (zero, lt, e) = (0, lit< tt, e)
+of_shown r (suc zero, lt, e) = (4, lit< tt, e)
+of_shown r (suc (suc k), lt, e) = absurd (omega (arith, lt))
+
+pub of_ask : (r : ℕ) → Contains (0 ∷ 3 ∷ 4 ∷ 5 ∷ 6 ∷ 7 ∷ 8 ∷ 9 ∷ []) r → Contains (0 ∷ 2 ∷ 3 ∷ 4 ∷ 5 ∷ 6 ∷ 7 ∷ 8 ∷ 9 ∷ []) r
+of_ask r (zero, lt, e) = (0, lit< tt, e)
+of_ask r (suc k, lt, e) = (suc (suc k), omega (arith, lt), e)
 
 some_bad : (input : Option (List ℕ)) (n : ℕ) → IfSome input (λ bytes. IsFirstBad (lines_of bytes) n) → HasBad input
 some_bad None n by = tt

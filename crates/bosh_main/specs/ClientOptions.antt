@@ -89,9 +89,12 @@ AskedFit (asked.Run options) = Fits options
 AskedFit asked.Nothing = Unit {0}
 
 -- what the parser of words may find of words of `client`: faults, or that a text is asked for
+unfoldable pub client_faults : List Text → Kinds
+client_faults words = fault_of client_app words
+
 abbrev pub client_findings : List (String Global) → Kinds
 client_findings [] = []
-client_findings (first ∷ rest) = if bytes_eq (string_bytes first) (codes "client") then fault_of client_app (map (λ word. string_bytes word) (first ∷ rest)) else []
+client_findings (first ∷ rest) = if bytes_eq (string_bytes first) (codes "client") then client_faults (map (λ word. string_bytes word) (first ∷ rest)) else []
 
 -- the first word names the command
 abbrev pub client_options : List (String Global) → Option ClientOptions

@@ -6,7 +6,8 @@ ghost use Rattle.bosh_client.specs.Setup.{is_setup};
 ghost use Rattle.bosh_ports.specs.Faults.{HasRisen};
 ghost use Rattle.parked_gate.specs.Passes.{IsPassOf, known};
 ghost use Rattle.client_run.specs.Worked.{IsDone};
-ghost use Rattle.bosh_main.specs.ClientOptions.{AskedFit, Fits, client_options, options_asked};
+ghost use Rattle.bosh_main.specs.ClientOptions.{AskedFit, Fits, client_findings, client_options, options_asked, shows_text};
+ghost use Rattle.bosh_main.specs.Options.{Asks, MayAsk, ShowsWhatIsAsked};
 ghost use Rattle.bosh_main.specs.Asked.{Ended, EndedBadly, HasBad, bad_kind, bad_line, ended_line, status_of};
 
 use crate::client_options::{Asked, ClientOptions, First, read_client_options};
@@ -61,8 +62,11 @@ where
     ensures done { result ≡ 0 → IfSome (client_options words.now) (λ _. Ended (I.left source.old) (N.counts outside.old.net) (N.counts outside.new.net) IsDone) }
     ensures ended { result ≡ 9 → EndedBadly (I.left source.old) (N.counts outside.old.net) (N.counts outside.new.net) }
 
-    // Words that say how to run have another status than 2. Other words run no client, and with 2 nothing is written.
+    // Words that say how to run have another status than 2. Other words have it, but for want of memory, where they don't ask for
+    // help or the version; where they ask for just that, they have another. They run no client, and with 2 nothing is written.
     ensures accepted { IsSome (client_options words.now) → result ≢ 2 }
+    ensures refused { client_options words.now ≡ None → (MayAsk (client_findings words.now) → ⊥) → Contains (2 ∷ 6 ∷ []) result }
+    ensures asked { Asks (client_findings words.now) → result ≢ 2 }
     ensures unread { client_options words.now ≡ None → source.new ≡ source.old }
     ensures unrun { client_options words.now ≡ None → outside.new ≡ outside.old }
     ensures unwritten { result ≡ 2 → sink.new ≡ sink.old }
@@ -70,7 +74,7 @@ where
     match asked(alloc, words) {
         Err(AllocError) => NO_MEMORY,
         Ok(Asked::Nothing) => WRONG_WORDS,
-        Ok(Asked::Help(text)) => status_given(sink, text.as_bytes()),
+        Ok(Asked::Shown(text)) => status_given(sink, text.as_bytes()),
         Ok(Asked::Run(options)) => ask(rt, alloc, options, source, sink, outside, names),
     }
 }
@@ -78,6 +82,7 @@ where
 fn asked(alloc: Global, words: &[String]) -> Result<Asked, AllocError>
     ensures options { IfOk result (λ asked. options_asked asked ≡ client_options words.now) }
     ensures fit { IfOk result AskedFit }
+    ensures shows { IfOk result (λ asked. ShowsWhatIsAsked (client_findings words.now) (shows_text asked)) }
 {
     let Some(first) = words.first() else {
         return Ok(Asked::Nothing);

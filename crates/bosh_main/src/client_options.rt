@@ -1,7 +1,7 @@
 // The words of the command `client`.
 ghost use Rattle.std.specs.Prelude.{◌≡◌, ◌≢◌, ◌≤◌, ◌⊎◌, IfOk, IfSome, None, false, map, option_map, string_bytes, true};
-ghost use Rattle.clap.specs.Words.{app_of, fault_of, first_value, found_of, kind_of};
-ghost use Rattle.bosh_main.specs.ClientOptions.{AskedFit, Fits, client_app, client_from, client_in, client_of, first_in, host_in, is_host, options_asked, shows_text};
+ghost use Rattle.clap.specs.Words.{app_of, first_value, found_of, kind_of};
+ghost use Rattle.bosh_main.specs.ClientOptions.{AskedFit, Fits, client_app, client_faults, client_from, client_in, client_of, first_in, host_in, is_host, options_asked, shows_text};
 ghost use Rattle.bosh_main.specs.Options.{ShowsWhatIsAsked};
 
 use crate::options::{VERSION, number};
@@ -88,7 +88,7 @@ fn client_command<'a>(alloc: Global) -> Result<Command<'a>, AllocError>
 pub fn read_client_options(alloc: Global, words: &[String]) -> Result<Asked, AllocError>
     ensures options { IfOk result (λ asked. options_asked asked ≡ client_in (map (λ word. string_bytes word) words.now)) }
     ensures fit { IfOk result AskedFit }
-    ensures shows { IfOk result (λ asked. ShowsWhatIsAsked (fault_of client_app (map (λ word. string_bytes word) words.now)) (shows_text asked)) }
+    ensures shows { IfOk result (λ asked. ShowsWhatIsAsked (client_faults (map (λ word. string_bytes word) words.now)) (shows_text asked)) }
 {
     let command = client_command(alloc)?;
     match command.try_get_matches_from(words) {

@@ -1,7 +1,7 @@
 use Rattle.std.proofs.Common.{◌≡◌, ◌≢◌, [], List, map, string_bytes, subst, true}
 use Rattle.clap.specs.Words.{App, FailsBy, HasMatchesOf, Text, app_of, fault_of, first_value, found_of, is_simple_and_free, kind_of, matches_of}
 use Rattle.clap.specs.declared.error.kind.ErrorKind.TheVariants.{OutOfMemory}
-use Rattle.bosh_main.specs.ClientOptions.{client_app, client_in, client_of, shows_text}
+use Rattle.bosh_main.specs.ClientOptions.{client_app, client_faults, client_in, client_of, shows_text}
 use Rattle.bosh_main.proofs.ClientOptionLemmas.{asked_same, client_by_fault, client_by_rows, client_is_free, client_is_simple, none_asked}
 use Rattle.bosh_main.proofs.OptionLemmas.{asked_by_fault, asked_by_none_all}
 use Rattle.bosh_main.proofs.client_options.read_client_options.Goals as goal
@@ -25,6 +25,7 @@ returns-in-Err-clause-options c =
     (client_by_fault (fault_of client_app words) (matches_of client_app words) c.in-Err.error has)
 
 pub returns-in-Ok-clause-shows : goal.returns-in-Ok-clause-shows
+unfolding client_faults
 returns-in-Ok-clause-shows c =
     let words : List Text = map (λ word. string_bytes word) c.args.words.now in
     let app_is : app_of c.in_ok-command.command ≡ client_app = c.in_ok-command.ensures in
@@ -32,6 +33,7 @@ returns-in-Ok-clause-shows c =
     asked_by_none_all shows_text (fault_of client_app words) none c.asked_by.result c.asked_by.ensures.shows
 
 pub returns-in-Err-clause-shows : goal.returns-in-Err-clause-shows
+unfolding client_faults
 returns-in-Err-clause-shows c =
     let words : List Text = map (λ word. string_bytes word) c.args.words.now in
     let app_is : app_of c.in_ok-command.command ≡ client_app = c.in_ok-command.ensures in
