@@ -1,5 +1,5 @@
 -- What became of a network's links, where it tells that.
-use Rattle.std.specs.Prelude.{◌≡◌, ℕ, ◌-◌, List, [], ◌∷◌, ◌++◌, Option, None, Some, ⊤, IfSome, IsSomeAnd, length, take}
+use Rattle.std.specs.Prelude.{◌≡◌, ◌⊎◌, ℕ, ◌-◌, List, [], ◌∷◌, ◌++◌, Option, None, Some, ⊤, IfSome, IsSomeAnd, length, take}
 
 -- a link began, with the bytes that it has to be taken; or it was retired, with those that were left, and those that it was given
 pub data Event : Type 0 where
@@ -44,9 +44,9 @@ Joins old new share = IfSome new (λ _. IsSomeAnd share (λ theirs. Grows old ne
 abbrev pub IsWithout : Option (List Event) → Type 0
 IsWithout events = IfSome events (λ told. told ≡ [])
 
--- nothing was given to a link yet, where it tells that
-abbrev pub IsUngiven : Option (List ℕ) → Type 0
-IsUngiven given = IfSome given (λ bytes. bytes ≡ [])
+-- nothing was given to a link yet, where it tells that; it does where its network tells these events
+abbrev pub IsUngiven : Option (List Event) → Option (List ℕ) → Type 0
+IsUngiven events given = (given ≡ Some []) ⊎ ((events ≡ None) × IfSome given (λ bytes. bytes ≡ []))
 
 -- the first event is no retiring, so that no link was out before
 abbrev pub BeginsInOrder : List Event → Type 0

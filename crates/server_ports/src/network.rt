@@ -66,14 +66,14 @@ pub trait Network {
         ensures counts { AcceptCounts (counts self.old) (counts self.new) result }
         ensures events { MatchAccepted result (λ link. Begins (events self.old) (events self.new) (Self.Link.left link)) (events self.new ≡ events self.old) (events self.new ≡ events self.old) }
         ensures faultless { MatchAccepted result (λ link. Self.Link.faults link ≡ 0) ⊤ ⊤ }
-        ensures ungiven { MatchAccepted result (λ link. IsUngiven (Self.Link.given link)) ⊤ ⊤ };
+        ensures ungiven { MatchAccepted result (λ link. IsUngiven (events self.new) (Self.Link.given link)) ⊤ ⊤ };
 
     /// A new link to who listens at the port.
     fn dial(&mut self, port: u16) -> Dialled<Self::Link>
         ensures counts { DialCounts (counts self.old) (counts self.new) result }
         ensures events { MatchDialled result (λ link. Begins (events self.old) (events self.new) (Self.Link.left link)) (events self.new ≡ events self.old) }
         ensures faultless { MatchDialled result (λ link. Self.Link.faults link ≡ 0) ⊤ }
-        ensures ungiven { MatchDialled result (λ link. IsUngiven (Self.Link.given link)) ⊤ };
+        ensures ungiven { MatchDialled result (λ link. IsUngiven (events self.new) (Self.Link.given link)) ⊤ };
 
     /// Closes a link and notes what it carried. The count of faults rises exactly where the link's isn't 0.
     fn retire(&mut self, link: Self::Link)
