@@ -30,7 +30,7 @@ use Rattle.client_run.specs.Worked.{EndsBy, IsDone, WasIdle, Works, ended_by, fa
 use Rattle.client_run.specs.Working.{Side, side_of}
 use Rattle.client_run.proofs.RiseLemmas.{row_risen, starts_later}
 
-next_name : (done : PlainClient × Next) (next : Next) → plain.ToNext next ≡ (called plain.ToNext done).1 → next ≡ done.1
+pub next_name : (done : PlainClient × Next) (next : Next) → plain.ToNext next ≡ (called plain.ToNext done).1 → next ≡ done.1
 next_name (c, x) next is = ap (λ reply. elim reply [ plain.ToNext n ↦ n | plain.ToQueue q ↦ next | plain.ToAnswer a ↦ next | plain.ToHandOut p ↦ next ]) is
 
 no_end : (o : Option ClientEnd) → is_some o ≡ false → o ≡ None

@@ -1,4 +1,5 @@
 pub mod AddingLemmas
+pub mod CarriedLemmas
 pub mod Crossing
 pub mod EndLemmas
 pub mod HandingLemmas

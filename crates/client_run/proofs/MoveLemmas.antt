@@ -34,7 +34,7 @@ counted_fault old new faults rises some others = record { risen = rises.risen so
 
 module _ (moment : Option ℕ) (start : Side) where
   pub dialled : (known : Known Entry) (events later : Option (List Event)) (counts next : Counts) (wire : Wire) (hand : Option (ℕ × List ℕ)) (row : ℕ)
-      → Begins events later wire.left → IsUngiven wire.given → wire.kept ≡ [] → next ≡ record counts { dialled = added counts.dialled 1 }
+      → Begins events later wire.left → IsUngiven later wire.given → wire.kept ≡ [] → next ≡ record counts { dialled = added counts.dialled 1 }
       → Moves moment start (side_of known events counts None hand row) → Moves moment start (side_of known later next (Some wire) hand row)
   dialled known events later counts next wire hand row begins ungiven kept counted moves = more moves (dials later next wire refl begins ungiven kept counted)
 

@@ -17,7 +17,7 @@ starts_same xs = ([], sym (append-nil xs))
 pub starts_later : (xs ys zs : List Entry) → StartsWith ys xs → StartsWith zs ys → StartsWith zs xs
 starts_later xs ys zs one two = (one.0 ++ two.0, two.1 ∙ ap (λ front. front ++ two.0) one.1 ∙ append_assoc xs one.0 two.0)
 
-starts_by : (number : ℕ) (before after : List Entry) (made : Option Entry) → Appends (λ e. e.caller) number before made after → StartsWith after before
+pub starts_by : (number : ℕ) (before after : List Entry) (made : Option Entry) → Appends (λ e. e.caller) number before made after → StartsWith after before
 starts_by number before after None is = ([], is ∙ sym (append-nil before))
 starts_by number before after (Some e) is = (e ∷ [], is.0)
 

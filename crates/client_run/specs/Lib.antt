@@ -1,6 +1,7 @@
 pub mod Adding
 pub mod Asking
 pub mod Calls
+pub mod Carried
 pub mod Handing
 pub mod History
 pub mod Input

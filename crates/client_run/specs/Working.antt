@@ -1,6 +1,6 @@
 -- A worker at its work, as it and others see it, and the moves that it makes.
 use Rattle.std.specs.Prelude.{◌≡◌, ℕ, ◌+◌, ◌⊎◌, List, [], Bool, true, false, Option, Some, None, IfSome, Result, Ok, Err}
-use Rattle.std.specs.Io.KnownBytes.{Appends, Keeps}
+use Rattle.std.specs.Io.KnownBytes.{Appends, Consumes, Keeps}
 use Rattle.std.specs.declared.alloc.AllocError.{AllocError}
 use Rattle.bosh_client.specs.declared.replies.Answered.{Answered}
 use Rattle.bosh_client.specs.declared.replies.Answered.TheVariants as answerings
@@ -76,6 +76,10 @@ is_broken answerings.Done = false
 is_broken answerings.Unmade = false
 is_broken answerings.Stale = false
 
+-- some bytes were taken off a link, where it tells its bytes its next ones
+abbrev pub TakesSome : Option (List ℕ) → Option (List ℕ) → Type 0
+TakesSome old new = (taken : List ℕ) × Consumes old new taken
+
 -- the request with this body was given whole
 pub record Sends (old new : Wire) (body : List ℕ) : Type 0 where
   pub given : Appends old.given new.given (post_text body)
@@ -93,11 +97,12 @@ pub record Exchanges (old new : Wire) (body answer : List ℕ) : Type 0 where
   pub sends : Sends old asked body
   pub hears : Hears asked new answer
 
--- a front of the request with this body was given, or all of it, and no answer that was read is taken
+-- a front of the request with this body was given, or all of it, some bytes were taken, and no answer that was read is taken
 pub record Tries (old new : Wire) (body : List ℕ) : Type 0 where
   pub asked : Option (List ℕ)
   pub gives : AppendsFront old.given asked (post_text body)
   pub given : Keeps asked new.given
+  pub left : TakesSome old.left new.left
 
 -- a fault is one more in its row; what is no fault ends the row
 abbrev pub CountsFault : Counts → ℕ → Counts → ℕ → Type 0
@@ -108,7 +113,7 @@ CountsFault counts row later later_row = (HasFailed counts later × (later_row �
 -- these.
 pub data Move (moment : Option ℕ) : Side → Side → Type 0 where
   dials : {s : Side} (events : Option (List Event)) (counts : Counts) (wire : Wire) → s.wire ≡ None
-      → Begins s.events events wire.left → IsUngiven wire.given → wire.kept ≡ [] → counts ≡ record s.counts { dialled = added s.counts.dialled 1 }
+      → Begins s.events events wire.left → IsUngiven events wire.given → wire.kept ≡ [] → counts ≡ record s.counts { dialled = added s.counts.dialled 1 }
       → Move moment s (record s { events = events; counts = counts; wire = Some wire })
   fails_to_dial : {s : Side} (counts : Counts) → s.wire ≡ None → HasFailed s.counts counts
       → Move moment s (record s { counts = counts; row = s.row + 1 })

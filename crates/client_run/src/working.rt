@@ -5,6 +5,7 @@ ghost use Rattle.bosh_ports.specs.Faults.{HasRisen};
 ghost use Rattle.parked_gate.specs.Passes.{IsPassOf, Known, known};
 ghost use Rattle.client_run.specs.declared.entry.Entry.{Entry};
 ghost use Rattle.client_run.specs.Adding.{AddsOnly, is_of_worker};
+ghost use Rattle.client_run.specs.Carried.{CarriesTold};
 ghost use Rattle.client_run.specs.Worked.{FirstBy, Works, ended_by, failed_by, is_end, is_fault};
 ghost use Rattle.client_run.specs.Working.{Moves, Side, side_of, wire_of};
 
@@ -48,6 +49,10 @@ where
 
     // What it added to its own entries is requests and answers.
     ensures adds { AddsOnly is_of_worker (known pass.old) (known pass.new) }
+
+    // Where the network tells its events, its links carried requests of the client and the responses to them, and the answers that
+    // were added are those that were read so.
+    ensures carries { CarriesTold (known pass.old) (known pass.new) (N.events network.old) (N.events network.new) }
 {
     let first = match first_line(site.alloc, network, site.port) {
         Some(first) => first,

@@ -9,7 +9,7 @@ returns-in-Link-clause-dials g c = λ moment start known hand row moves.
     dialled moment start known _ (g.N.Network.events c.dial.new.self) _ (g.N.Network.counts c.dial.new.self)
     (wire_of (g.N.Link.Link.left c.new.result.link) (g.N.Link.Link.given c.new.result.link) c.new.result.reader) hand row
     (subst (λ link. Begins (g.N.Network.events c.args.network.now) (g.N.Network.events c.dial.new.self) (g.N.Link.Link.left link)) (sym c.new.ensures.link) c.in-Link.ensures.events)
-    (subst (λ link. IsUngiven (g.N.Link.Link.given link)) (sym c.new.ensures.link) c.in-Link.ensures.ungiven)
+    (subst (λ link. IsUngiven (g.N.Network.events c.dial.new.self) (g.N.Link.Link.given link)) (sym c.new.ensures.link) c.in-Link.ensures.ungiven)
     c.new.ensures.reader c.in-Link.ensures.counts moves
 
 pub returns-in-Failed-clause-dials : goal.returns-in-Failed-clause-dials

@@ -4,6 +4,7 @@ use Rattle.parked_gate.specs.Passes.{known}
 use Rattle.client_run.specs.Working.{none, side_of, wire_of}
 use Rattle.client_run.specs.Adding.{is_of_worker}
 use Rattle.client_run.proofs.AddingLemmas.{adds_none}
+use Rattle.client_run.proofs.CarriedLemmas.{moves_carry}
 use Rattle.client_run.proofs.WorkAdds.{moves_add}
 use Rattle.client_run.proofs.RiseLemmas.{dialled_risen, moves_count, row_risen}
 use Rattle.client_run.proofs.EndLemmas.{ends_dialled, faults_rise}
@@ -55,3 +56,17 @@ returns-clause-adds g c =
     let served = c.serve-worked.ensures.works start first.0 first.1 in
     moves_add (g.C.Clock.moment c.args.site.now.clock.now) start (side_of (known c.serve-worked.new.pass) (g.N.Network.events c.close.new.network) (g.N.Network.counts c.close.new.network) None served.hand served.row)
     (c.close.ensures.closes (g.C.Clock.moment c.args.site.now.clock.now) start (known c.serve-worked.new.pass) served.hand served.row served.moves)
+
+pub returns-in-None-clause-carries : goal.returns-in-None-clause-carries
+returns-in-None-clause-carries g c =
+    let start = side_of (known c.args.pass.now) (g.N.Network.events c.args.network.now) (g.N.Network.counts c.args.network.now) None None 0 in
+    moves_carry (g.C.Clock.moment c.args.site.now.clock.now) start (side_of (known c.args.pass.now) (g.N.Network.events c.first_line.new.network) (g.N.Network.counts c.first_line.new.network) None None 3)
+    (c.in-None.ensures.dials (g.C.Clock.moment c.args.site.now.clock.now) start (known c.args.pass.now) None none) refl refl refl
+
+pub returns-clause-carries : goal.returns-clause-carries
+returns-clause-carries g c =
+    let start = side_of (known c.args.pass.now) (g.N.Network.events c.args.network.now) (g.N.Network.counts c.args.network.now) None None 0 in
+    let first = c.in-Some.ensures.dials (g.C.Clock.moment c.args.site.now.clock.now) start (known c.args.pass.now) None none in
+    let served = c.serve-worked.ensures.works start first.0 first.1 in
+    moves_carry (g.C.Clock.moment c.args.site.now.clock.now) start (side_of (known c.serve-worked.new.pass) (g.N.Network.events c.close.new.network) (g.N.Network.counts c.close.new.network) None served.hand served.row)
+    (c.close.ensures.closes (g.C.Clock.moment c.args.site.now.clock.now) start (known c.serve-worked.new.pass) served.hand served.row served.moves) refl refl refl
