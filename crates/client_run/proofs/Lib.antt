@@ -2,6 +2,7 @@ pub mod AddingLemmas
 pub mod CarriedLemmas
 pub mod Crossing
 pub mod EndLemmas
+pub mod HandedLemmas
 pub mod HandingLemmas
 pub mod HistoryLemmas
 pub mod InputLemmas

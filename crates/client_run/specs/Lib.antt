@@ -2,6 +2,7 @@ pub mod Adding
 pub mod Asking
 pub mod Calls
 pub mod Carried
+pub mod Handed
 pub mod Handing
 pub mod History
 pub mod Input

@@ -1,7 +1,9 @@
 // The whole of a running client.
-ghost use Rattle.std.specs.Prelude.{◌≡◌, ◌≤◌, Ok, true, false};
+ghost use Rattle.std.specs.Prelude.{◌≡◌, ◌≤◌, ℕ, Ok, true, false};
 ghost use Rattle.std.specs.Arc.{arc_value};
 ghost use Rattle.parked_gate.specs.Passes.{IsPassOf, gate_of, known};
+ghost use Rattle.client_run.specs.Handed.{GoesOn, Handed, is_talk_whole, is_whole};
+ghost use Rattle.client_run.specs.Handing.{Out, out_of};
 ghost use Rattle.client_run.specs.Ran.{Concludes, ConversesBy, FinishesBy, RanBy, ran_by, scene_of};
 ghost use Rattle.client_run.specs.Running.{is_done};
 
@@ -85,6 +87,9 @@ where
     // Each answer has its cause.
     ensures ran { RanBy (S.left source.old) (scene_of (known pass.old) (N.counts outside.old.net) (P.refusals outside.old.spawner) (S.faults source.old) (K.faults sink.old))
         (scene_of (known pass.new) (N.counts outside.new.net) (P.refusals outside.new.spawner) (S.faults source.new) (K.faults sink.new)) result }
+
+    // What was handed out to the pass was written, each stanza as a line, and nothing else: all of it, unless the sink failed.
+    ensures written { Handed (is_whole result) (out_of (known pass.old) (K.given sink.old)) (out_of (known pass.new) (K.given sink.new)) (K.faults sink.old) (K.faults sink.new) }
     ensures sink_faults { K.faults sink.old ≤ K.faults sink.new }
 {
     run_named::<Brand, R, S, K, N, C, B, P>(rt, place, pass, source, sink, outside)
@@ -114,6 +119,7 @@ where
     ensures pass { IsPassOf (arc_value place.now.gate.now) pass.new }
     ensures ran { RanBy (S.left source.old) (scene_of (known pass.old) (N.counts outside.old.net) (P.refusals outside.old.spawner) (S.faults source.old) (K.faults sink.old))
         (scene_of (known pass.new) (N.counts outside.new.net) (P.refusals outside.new.spawner) (S.faults source.new) (K.faults sink.new)) result }
+    ensures written { Handed (is_whole result) (out_of (known pass.old) (K.given sink.old)) (out_of (known pass.new) (K.given sink.new)) (K.faults sink.old) (K.faults sink.new) }
     ensures sink_faults { K.faults sink.old ≤ K.faults sink.new }
 {
     let Place { alloc, gate, port } = *place;
@@ -170,7 +176,8 @@ fn give_up<J: Naming, R: Wait, N: Network + Drop, B: Bell>(
 )
     requires pass { IsPassOf gate.now pass.old }
     requires named { gate_of gate.now ≡ J.gate }
-    ensures { IsPassOf gate.now pass.new }
+    ensures pass { IsPassOf gate.now pass.new }
+    ensures goes_on { GoesOn (known pass.old) (known pass.new) }
 {
     let _ = terminate(rt, gate, pass, bell);
     if started == 1 {
@@ -199,6 +206,7 @@ fn converse<R: Wait, S: Source, K: Sink, B: Bell>(
     requires { IsPassOf gate.now pass.old }
     ensures pass { IsPassOf gate.now pass.new }
     ensures converses { ConversesBy (S.left source.old) (known pass.old) (known pass.new) (S.faults source.old) (S.faults source.new) (K.faults sink.old) (K.faults sink.new) result }
+    ensures written { Handed (is_talk_whole result) (out_of (known pass.old) (K.given sink.old)) (out_of (known pass.new) (K.given sink.new)) (K.faults sink.old) (K.faults sink.new) }
     ensures sink_faults { K.faults sink.old ≤ K.faults sink.new }
 {
     let talked = match talk(rt, alloc, gate, pass, source, sink, bell) {
@@ -238,6 +246,9 @@ fn finish<R: Wait, K: Sink>(
     requires { IsPassOf gate.now pass.old }
     ensures pass { IsPassOf gate.now pass.new }
     ensures finishes { FinishesBy talked gathered (known pass.old) (known pass.new) (K.faults sink.old) (K.faults sink.new) result }
+    ensures written { (start : Out) (faults : ℕ) → faults ≤ K.faults sink.old
+        → Handed (is_talk_whole talked) start (out_of (known pass.old) (K.given sink.old)) faults (K.faults sink.old)
+        → Handed (is_whole result) start (out_of (known pass.new) (K.given sink.new)) faults (K.faults sink.new) }
     ensures sink_faults { K.faults sink.old ≤ K.faults sink.new }
 {
     let talked = match talked {
@@ -269,6 +280,9 @@ fn end<R: Wait, K: Sink>(
     requires { IsPassOf gate.now pass.old }
     ensures pass { IsPassOf gate.now pass.new }
     ensures finishes { FinishesBy (Ok Talked.Done) gathered (known pass.old) (known pass.new) (K.faults sink.old) (K.faults sink.new) result }
+    ensures written { (start : Out) (faults : ℕ) → faults ≤ K.faults sink.old
+        → Handed true start (out_of (known pass.old) (K.given sink.old)) faults (K.faults sink.old)
+        → Handed (is_whole result) start (out_of (known pass.new) (K.given sink.new)) faults (K.faults sink.new) }
     ensures sink_faults { K.faults sink.old ≤ K.faults sink.new }
 {
     let written = match drain(rt, gate, pass, sink) {
@@ -291,6 +305,7 @@ fn conclude<R: Wait>(rt: &R, gate: &Gate<ClientObject>, pass: &mut Pass<ClientOb
     requires { IsPassOf gate.now pass.old }
     ensures pass { IsPassOf gate.now pass.new }
     ensures mine { (known pass.new).mine ≡ (known pass.old).mine }
+    ensures goes_on { GoesOn (known pass.old) (known pass.new) }
     ensures concludes { Concludes (known pass.old) (known pass.new) result }
 {
     match look(rt, gate, pass) {

@@ -1,5 +1,6 @@
 use Rattle.parked_gate.specs.Passes.{known}
 use Rattle.client_run.proofs.RanLemmas.{concluded_none, concluded_some}
+use Rattle.client_run.proofs.HandedLemmas.{goes_looked}
 use Rattle.client_run.proofs.running.conclude.Goals as goal
 
 pub returns-in-Some-clause-concludes : goal.returns-in-Some-clause-concludes
@@ -7,3 +8,9 @@ returns-in-Some-clause-concludes g c = concluded_some (known c.args.pass.now) (k
 
 pub returns-in-None-clause-concludes : goal.returns-in-None-clause-concludes
 returns-in-None-clause-concludes g c = concluded_none (known c.args.pass.now) (known c.look.new.pass) c.in-None.ensures.looks
+
+pub returns-in-Some-clause-goes_on : goal.returns-in-Some-clause-goes_on
+returns-in-Some-clause-goes_on g c = goes_looked (known c.args.pass.now) (known c.look.new.pass) _ c.in-Some.ensures.looks
+
+pub returns-in-None-clause-goes_on : goal.returns-in-None-clause-goes_on
+returns-in-None-clause-goes_on g c = goes_looked (known c.args.pass.now) (known c.look.new.pass) _ c.in-None.ensures.looks

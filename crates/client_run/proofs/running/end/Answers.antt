@@ -1,8 +1,10 @@
-use Rattle.std.proofs.Common.{ap}
+use Rattle.std.proofs.Common.{ap, subst, true}
 use Rattle.std.specs.Prelude.{Ok}
 use Rattle.parked_gate.specs.Passes.{known}
 use Rattle.client_run.specs.Handing.{out_of}
 use Rattle.client_run.proofs.RanLemmas.{drains_over, finish_net, finish_over, finish_risen, finish_wanting}
+use Rattle.client_run.specs.Handed.{Handed, is_whole, is_write_whole}
+use Rattle.client_run.proofs.HandedLemmas.{drained, falls_same, handed_at, handed_less, handed_then}
 use Rattle.client_run.proofs.running.end.Goals as goal
 
 pub returns-in-Err-clause-finishes : goal.returns-in-Err-clause-finishes
@@ -23,3 +25,27 @@ returns-in-Done-clause-finishes g c =
     c.in-Ok.ensures.adds
     (drains_over (out_of (known c.args.pass.now) (g.K.Sink.given c.args.sink.now)) (out_of (known c.drain.new.pass) (g.K.Sink.given c.drain.new.sink)) c.drain.result c.drain.ensures.drains)
     c.conclude.ensures.mine c.conclude.ensures.concludes
+
+pub returns-in-Err-clause-written : goal.returns-in-Err-clause-written
+returns-in-Err-clause-written g c = λ start faults falls before.
+    handed_less (is_write_whole c.drain.result) _ _ _ _ (drained _ _ _ _ _ _ c.drain.result falls c.drain.ensures.faults before c.drain.ensures.drains c.drain.ensures.fault)
+
+pub returns-in-NetFault-clause-written : goal.returns-in-NetFault-clause-written
+returns-in-NetFault-clause-written g c = λ start faults falls before.
+    handed_less (is_write_whole c.drain.result) _ _ _ _ (drained _ _ _ _ _ _ c.drain.result falls c.drain.ensures.faults before c.drain.ensures.drains c.drain.ensures.fault)
+
+pub returns-in-NoMemory-clause-written : goal.returns-in-NoMemory-clause-written
+returns-in-NoMemory-clause-written g c = λ start faults falls before.
+    handed_less (is_write_whole c.drain.result) _ _ _ _ (drained _ _ _ _ _ _ c.drain.result falls c.drain.ensures.faults before c.drain.ensures.drains c.drain.ensures.fault)
+
+pub returns-in-WriteFault-clause-written : goal.returns-in-WriteFault-clause-written
+returns-in-WriteFault-clause-written g c = λ start faults falls before.
+    handed_less (is_write_whole c.drain.result) _ _ _ _ (drained _ _ _ _ _ _ c.drain.result falls c.drain.ensures.faults before c.drain.ensures.drains c.drain.ensures.fault)
+
+pub returns-in-Done-clause-written : goal.returns-in-Done-clause-written
+returns-in-Done-clause-written g c = λ start faults falls before.
+    handed_at (is_whole (Ok c.conclude.result)) _ _ _ _
+    (handed_then true start (out_of (known c.drain.new.pass) (g.K.Sink.given c.drain.new.sink)) (known c.conclude.new.pass) faults (g.K.Sink.faults c.drain.new.sink) (g.K.Sink.faults c.drain.new.sink) (falls_same _)
+    (subst (λ w. Handed (is_write_whole (Ok w)) start (out_of (known c.drain.new.pass) (g.K.Sink.given c.drain.new.sink)) faults (g.K.Sink.faults c.drain.new.sink)) c.in-Done.is
+    (drained start _ (out_of (known c.drain.new.pass) (g.K.Sink.given c.drain.new.sink)) faults _ _ (Ok c.in-Ok.written) falls c.drain.ensures.faults before c.in-Ok.ensures.drains c.in-Ok.ensures.fault))
+    c.conclude.ensures.goes_on)

@@ -1,10 +1,13 @@
-use Rattle.std.proofs.Common.{◌≡◌, subst}
+use Rattle.std.proofs.Common.{◌≡◌, false, refl, subst}
 use Rattle.std.specs.Prelude.{IfNone, IfSome}
 use Rattle.bosh_ports.specs.Faults.{HasRisen}
 use Rattle.parked_gate.specs.Passes.{known}
 use Rattle.client_run.specs.Ran.{ConversesBy, scene_of}
 use Rattle.client_run.specs.Running.{Gathers}
 use Rattle.client_run.proofs.RanLemmas.{ran_finished, ran_net, ran_spawn, ran_wanting}
+use Rattle.client_run.specs.Handed.{Handed, is_talk_whole}
+use Rattle.client_run.specs.Handing.{out_of}
+use Rattle.client_run.proofs.HandedLemmas.{falls_same, goes_both, goes_gathered, goes_queued, goes_same, handed_none, handed_then, still}
 use Rattle.client_run.proofs.running.run_named.Goals as goal
 
 pub returns-in-Err-clause-ran : goal.returns-in-Err-clause-ran
@@ -31,3 +34,29 @@ returns-clause-ran g c =
 
 pub returns-then-started-ne2-clause-ran : goal.returns-then-started-ne2-clause-ran
 returns-then-started-ne2-clause-ran g c = ran_spawn _ _ _ (c.start_both-started.ensures.refused c.if-started-ne2.true)
+
+pub returns-in-Err-clause-written : goal.returns-in-Err-clause-written
+returns-in-Err-clause-written g c = handed_none false _ _ _ _ (still (known c.args.pass.now)) refl
+
+pub returns-in-Err-hire_both-clause-written : goal.returns-in-Err-hire_both-clause-written
+returns-in-Err-hire_both-clause-written g c = handed_none false _ _ _ _ (goes_same (known c.args.pass.now) (known c.hire_both.new.pass) c.hire_both.ensures.known) refl
+
+pub returns-in-None-clause-written : goal.returns-in-None-clause-written
+returns-in-None-clause-written g c =
+    handed_none false _ _ _ _
+    (goes_both (known c.args.pass.now) (known c.hire_both.new.pass) (known c.terminate.new.pass) (goes_same (known c.args.pass.now) (known c.hire_both.new.pass) c.hire_both.ensures.known)
+    (goes_queued (known c.hire_both.new.pass) (known c.terminate.new.pass) _ c.terminate.ensures.queues)) refl
+
+pub returns-then-started-ne2-clause-written : goal.returns-then-started-ne2-clause-written
+returns-then-started-ne2-clause-written g c =
+    handed_none false _ _ _ _
+    (goes_both (known c.args.pass.now) (known c.hire_both.new.pass) (known c.give_up.new.pass) (goes_same (known c.args.pass.now) (known c.hire_both.new.pass) c.hire_both.ensures.known) c.give_up.ensures.goes_on) refl
+
+pub returns-clause-written : goal.returns-clause-written
+returns-clause-written g c =
+    let start = out_of (known c.args.pass.now) (g.K.Sink.given c.args.sink.now) in
+    let said = out_of (known c.converse-talked.new.pass) (g.K.Sink.given c.converse-talked.new.sink) in
+    c.finish.ensures.written start (g.K.Sink.faults c.args.sink.now) c.converse-talked.ensures.sink_faults
+    (handed_then (is_talk_whole c.converse-talked.result) start said (known c.gather_two-gathered.new.pass) (g.K.Sink.faults c.args.sink.now) (g.K.Sink.faults c.converse-talked.new.sink) (g.K.Sink.faults c.converse-talked.new.sink) (falls_same _)
+    (subst (λ k. Handed (is_talk_whole c.converse-talked.result) (out_of k (g.K.Sink.given c.args.sink.now)) said (g.K.Sink.faults c.args.sink.now) (g.K.Sink.faults c.converse-talked.new.sink)) c.hire_both.ensures.known c.converse-talked.ensures.written)
+    (goes_gathered (known c.converse-talked.new.pass) (known c.gather_two-gathered.new.pass) c.gather_two-gathered.ensures.gathers.begins c.gather_two-gathered.ensures.gathers.mine))
