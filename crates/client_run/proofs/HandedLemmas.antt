@@ -27,7 +27,7 @@ use Rattle.client_run.specs.declared.talking.Talked.TheVariants as talked
 use Rattle.client_run.specs.Adding.{by_call, is_entry, is_hand_out}
 use Rattle.client_run.specs.Calls.{changes, reply_in}
 use Rattle.client_run.specs.Asking.{LooksBy}
-use Rattle.client_run.specs.Handed.{GivesUpTo, GoesOn, Handed, Hands, goes_on, hands_out, is_talk_whole, is_write_whole, lines_of, none}
+use Rattle.client_run.specs.Handed.{GivesUpTo, GoesOn, Handed, Hands, goes_on, hands_out, is_talk_whole, is_write_whole, as_lines, none}
 use Rattle.client_run.specs.Handing.{Drains, Out, Writes, WritesLast, line, line_of, nothing, out_of}
 use Rattle.client_run.specs.Queueing.{Offers, Puts, QueuesBy, full, wanting}
 use Rattle.client_run.specs.Queueing.{none as offers_none}
@@ -115,7 +115,7 @@ given_none old new same = subst (λ o. Appends old o []) (sym same) (by old)
     by None = tt
     by (Some bytes) = sym (append-nil bytes)
 
-lines_both : (xs ys : List (List ℕ)) → lines_of xs ++ lines_of ys ≡ lines_of (xs ++ ys)
+lines_both : (xs ys : List (List ℕ)) → as_lines xs ++ as_lines ys ≡ as_lines (xs ++ ys)
 lines_both xs ys = sym (flat_map-append line_of xs ys)
 
 -- nothing was handed out, and nothing written
@@ -142,7 +142,7 @@ handed_both whole s t u faults between later one_falls two_falls one two = recor
   stanzas = one.stanzas ++ two.stanzas;
   hands = hands_both s.known t.known u.known one.stanzas two.stanzas one.hands two.hands;
   gives = subst (GivesUpTo whole s.given u.given faults later) (lines_both one.stanzas two.stanzas)
-      (gives_both whole s.given t.given u.given faults between later (lines_of one.stanzas) (lines_of two.stanzas) one_falls two_falls one.gives two.gives);
+      (gives_both whole s.given t.given u.given faults between later (as_lines one.stanzas) (as_lines two.stanzas) one_falls two_falls one.gives two.gives);
 }
 
 gives_later : (whole : Bool) (old new : Option (List ℕ)) (faults between later : ℕ) (bytes : List ℕ) → between ≤ later → GivesUpTo whole old new faults between bytes → GivesUpTo whole old new faults later bytes
@@ -155,7 +155,7 @@ pub handed_then : (whole : Bool) (s t : Out) (new : Known Entry) (faults between
 handed_then whole s t new faults between later falls h goes = record {
   stanzas = h.stanzas;
   hands = goes_on new h.hands goes;
-  gives = gives_later whole s.given t.given faults between later (lines_of h.stanzas) falls h.gives;
+  gives = gives_later whole s.given t.given faults between later (as_lines h.stanzas) falls h.gives;
 }
 
 pub falls_same : (n : ℕ) → n ≤ n
@@ -166,7 +166,7 @@ falls_same n = omega arith
 record WroteAll (s t : Out) : Type 0 where
   stanzas : List (List ℕ)
   hands : Hands s.known t.known stanzas
-  gives : Appends s.given t.given (lines_of stanzas)
+  gives : Appends s.given t.given (as_lines stanzas)
 
 writes_handed : (s t : Out) → Writes s t → WroteAll s t
 writes_handed s t nothing = record { stanzas = []; hands = none; gives = given_none s.given s.given refl }
@@ -175,29 +175,29 @@ writes_handed s t (line {t = mid} new given stanza writes hands appends) =
     record {
       stanzas = before.stanzas ++ stanza ∷ [];
       hands = hands_out new stanza before.hands hands;
-      gives = subst (Appends s.given given) (ap (λ l. lines_of before.stanzas ++ l) (sym (append-nil (line_of stanza))) ∙ lines_both before.stanzas (stanza ∷ []))
-          (appends_both s.given mid.given given (lines_of before.stanzas) (line_of stanza) before.gives appends);
+      gives = subst (Appends s.given given) (ap (λ l. as_lines before.stanzas ++ l) (sym (append-nil (line_of stanza))) ∙ lines_both before.stanzas (stanza ∷ []))
+          (appends_both s.given mid.given given (as_lines before.stanzas) (line_of stanza) before.gives appends);
     }
 
 last_handed : (s t u : Out) (faults later : ℕ) (result : Result Written AllocError) → WroteAll s t → (result ≡ Ok written.WriteFault → HasRisen faults later) → WritesLast t u result → Handed (is_write_whole result) s u faults later
 last_handed s t u faults later (Ok written.Done) all risen (none_left, same) = record {
   stanzas = all.stanzas;
   hands = goes_on u.known all.hands (goes_none t.known u.known none_left);
-  gives = subst (λ o. Appends s.given o (lines_of all.stanzas)) (sym same) all.gives;
+  gives = subst (λ o. Appends s.given o (as_lines all.stanzas)) (sym same) all.gives;
 }
 last_handed s t u faults later (Ok written.WriteFault) all risen (stanza, hands, front) = record {
   stanzas = all.stanzas ++ stanza ∷ [];
   hands = hands_out u.known stanza all.hands hands;
   gives = inr (
-    front_of_parts s.given t.given u.given (lines_of (all.stanzas ++ stanza ∷ [])) (lines_of all.stanzas) (line_of stanza) [] all.gives front
-        (sym (lines_both all.stanzas (stanza ∷ [])) ∙ ap (λ l. lines_of all.stanzas ++ l) (append-nil (line_of stanza)) ∙ sym (append-nil (lines_of all.stanzas ++ line_of stanza))),
+    front_of_parts s.given t.given u.given (as_lines (all.stanzas ++ stanza ∷ [])) (as_lines all.stanzas) (line_of stanza) [] all.gives front
+        (sym (lines_both all.stanzas (stanza ∷ [])) ∙ ap (λ l. as_lines all.stanzas ++ l) (append-nil (line_of stanza)) ∙ sym (append-nil (as_lines all.stanzas ++ line_of stanza))),
     risen refl,
   );
 }
 last_handed s t u faults later (Err error) all risen (wants, same) = record {
   stanzas = all.stanzas;
   hands = goes_on u.known all.hands (goes_wanting t.known u.known error wants);
-  gives = subst (λ o. Appends s.given o (lines_of all.stanzas)) (sym same) all.gives;
+  gives = subst (λ o. Appends s.given o (as_lines all.stanzas)) (sym same) all.gives;
 }
 
 pub drains_handed : (s t : Out) (faults later : ℕ) (result : Result Written AllocError) → Drains s t result → (result ≡ Ok written.WriteFault → HasRisen faults later) → Handed (is_write_whole result) s t faults later

@@ -29,8 +29,8 @@ pub data Hands : Known Entry → Known Entry → List (List ℕ) → Type 0 wher
   hands_out : {s t : Known Entry} {stanzas : List (List ℕ)} (new : Known Entry) (stanza : List ℕ) → Hands s t stanzas → HandsOut t new (Ok (Some stanza)) → Hands s new (stanzas ++ stanza ∷ [])
 
 -- a line for each
-abbrev pub lines_of : List (List ℕ) → List ℕ
-lines_of stanzas = flat_map line_of stanzas
+abbrev pub as_lines : List (List ℕ) → List ℕ
+as_lines stanzas = flat_map line_of stanzas
 
 -- a sink was given all of these bytes; or, where it need not be whole, a front of them, since it failed
 abbrev pub GivesUpTo : Bool → Option (List ℕ) → Option (List ℕ) → ℕ → ℕ → List ℕ → Type 0
@@ -41,7 +41,7 @@ GivesUpTo false old new faults later bytes = Appends old new bytes ⊎ (AppendsF
 pub record Handed (whole : Bool) (s t : Out) (faults later : ℕ) : Type 0 where
   pub stanzas : List (List ℕ)
   pub hands : Hands s.known t.known stanzas
-  pub gives : GivesUpTo whole s.given t.given faults later (lines_of stanzas)
+  pub gives : GivesUpTo whole s.given t.given faults later (as_lines stanzas)
 
 -- all is written of a client that ran to its end
 abbrev pub is_whole : Result ClientRan AllocError → Bool
