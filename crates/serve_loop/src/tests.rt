@@ -13,6 +13,7 @@ use std::test::Fail;
 
 mod bodies;
 mod refusals;
+mod threads;
 
 fn text(alloc: Global, bytes: &[u8]) -> Result<Text, AllocError> {
     Ok(Text::from_vec(Vec::from_slice(alloc, bytes)?))
