@@ -245,6 +245,38 @@ Moves site old new stage stage' = (start : Outside) → Stands site start old st
 abbrev pub stage_behind : Owed → Stage
 stage_behind what = if closes what then stages.Over (end_after what) else stages.Reading
 
+-- a request, what refuses it or an end was read
+abbrev pub is_read : Stage → Bool
+is_read stages.Reading = false
+is_read (stages.Asked body closing) = true
+is_read (stages.Waiting w closing looked) = false
+is_read (stages.Owing what) = true
+is_read (stages.Over end) = true
+
+-- a request was asked
+abbrev pub is_called : Stage → Bool
+is_called stages.Reading = false
+is_called (stages.Asked body closing) = false
+is_called (stages.Waiting w closing looked) = true
+is_called (stages.Owing what) = true
+is_called (stages.Over end) = true
+
+-- a request that waits was looked at
+abbrev pub is_looked_at : Stage → Bool
+is_looked_at stages.Reading = false
+is_looked_at (stages.Asked body closing) = false
+is_looked_at (stages.Waiting w closing looked) = looked
+is_looked_at (stages.Owing what) = true
+is_looked_at (stages.Over end) = true
+
+-- where one move leads from a stage: no move leaves a connection where it was, but a look at a request that waits on, and an end
+abbrev pub IsNext : Stage → Stage → Type 0
+IsNext stages.Reading next = is_read next ≡ true
+IsNext (stages.Asked body closing) next = is_called next ≡ true
+IsNext (stages.Waiting w closing looked) next = is_looked_at next ≡ true
+IsNext (stages.Owing what) next = (next ≡ stage_behind what) ⊎ (next ≡ stages.Over ends.WriteFault)
+IsNext (stages.Over end) next = next ≡ stages.Over end
+
 -- the request is asked, or there is no memory for it
 abbrev pub IsAskedOr : List ℕ → Bool → Stage → Type 0
 IsAskedOr body closing stage = (stage ≡ stages.Asked body closing) ⊎ (stage ≡ stages.Owing owed.NoMemory)

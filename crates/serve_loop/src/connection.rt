@@ -1,10 +1,10 @@
 // One connection of a client, as a value that makes one move after the other.
-ghost use Rattle.std.specs.Prelude.{◌≡◌, ◌≤◌, ℕ, [], Bool, IsSome, List, Option};
+ghost use Rattle.std.specs.Prelude.{◌≡◌, ◌≤◌, ℕ, ◌⊎◌, [], Bool, IsSome, List, Option, true};
 ghost use Rattle.parked_gate.specs.Passes.{IsPassOf};
 ghost use Rattle.serve_loop.specs.declared.trail.Traced.{Traced};
 ghost use Rattle.session_table.specs.declared.purse.Purse.{Purse};
 ghost use Rattle.session_table.specs.Purses.{held};
-ghost use Rattle.serve_loop.specs.Connections.{IsAskedOr, IsRefusedOr, IsServedBy, Moves, outside, stage_after, stage_behind, wanted_by};
+ghost use Rattle.serve_loop.specs.Connections.{IsAskedOr, IsNext, IsRefusedOr, IsServedBy, Moves, is_called, is_looked_at, is_read, outside, stage_after, stage_behind, wanted_by};
 ghost use Rattle.serve_loop.specs.Trail.{Setting, setting};
 
 use crate::answering::{Answering, Waiting};
@@ -122,6 +122,7 @@ impl Connection {
             (outside self.old.reader (L.left link.old) (L.given link.old) worker.old.trail.lines.items worker.old.purse (L.faults link.old))
             (outside self.new.reader (L.left link.new) (L.given link.new) worker.new.trail.lines.items worker.new.purse (L.faults link.new))
             self.old.stage self.new.stage }
+        ensures next { IsNext self.old.stage self.new.stage }
         ensures faults { L.faults link.old ≤ L.faults link.new }
         ensures silences { B.silences worker.new.bell ≡ B.silences worker.old.bell }
     {
@@ -146,6 +147,7 @@ impl Connection {
             (outside self.old.reader (L.left link.old) (L.given link.old) worker.old.trail.lines.items worker.old.purse (L.faults link.old))
             (outside self.new.reader (L.left link.new) (L.given link.new) worker.new.trail.lines.items worker.new.purse (L.faults link.new))
             stage result }
+        ensures next { IsNext stage result }
         ensures faults { L.faults link.old ≤ L.faults link.new }
         ensures silences { B.silences worker.new.bell ≡ B.silences worker.old.bell }
     {
@@ -169,6 +171,7 @@ impl Connection {
             (outside self.old.reader (L.left link.old) (L.given link.old) trail.old.lines.items purse (L.faults link.old))
             (outside self.new.reader (L.left link.new) (L.given link.new) trail.new.lines.items purse (L.faults link.new))
             Stage.Reading result }
+        ensures next { is_read result ≡ true }
         ensures faults { L.faults link.old ≤ L.faults link.new }
     {
         match self.reader.next(self.alloc, link) {
@@ -187,6 +190,7 @@ impl Connection {
             (outside self.old.reader (L.left link.old) (L.given link.old) trail purse (L.faults link.old))
             (outside self.new.reader (L.left link.new) (L.given link.new) trail purse (L.faults link.new))
             (Stage.Owing owed.now) result }
+        ensures next { (result ≡ stage_behind owed.now) ⊎ (result ≡ Stage.Over ConnectionEnd.WriteFault) }
         ensures faults { L.faults link.old ≤ L.faults link.new }
     {
         let closing = owed.closes();
@@ -246,6 +250,7 @@ fn ask<R: Wait, C: Clock, B: Bell, M: Names>(
         (record { stream = stream; given = given; trail = worker.old.trail.lines.items; purse = worker.old.purse; faults = faults })
         (record { stream = stream; given = given; trail = worker.new.trail.lines.items; purse = worker.new.purse; faults = faults })
         (Stage.Asked body closing) result }
+    ensures next { is_called result ≡ true }
     ensures silences { B.silences worker.new.bell ≡ B.silences worker.old.bell }
 {
     match worker.answer(rt, site, body) {
@@ -268,6 +273,7 @@ fn collected<R: Wait, B: Bell, M: Names>(
         (record { stream = stream; given = given; trail = worker.old.trail.lines.items; purse = worker.old.purse; faults = faults })
         (record { stream = stream; given = given; trail = worker.new.trail.lines.items; purse = worker.new.purse; faults = faults })
         (Stage.Waiting waiting closing looked) result }
+    ensures next { is_looked_at result ≡ true }
     ensures silences { B.silences worker.new.bell ≡ B.silences worker.old.bell }
 {
     match worker.collect(rt, waiting) {
