@@ -1,5 +1,5 @@
 // What the command `client` does over what it is handed.
-ghost use Rattle.std.specs.Prelude.{◌≡◌, ◌≢◌, ◌≤◌, ℕ, [], ◌∷◌, Contains, IfOk, IfSome, IsSome, None, true};
+ghost use Rattle.std.specs.Prelude.{◌≡◌, ◌≢◌, ◌≤◌, ℕ, [], ◌∷◌, Contains, IfOk, IfSome, IsSome, IsSomeAnd, None, false, true};
 ghost use Rattle.std.specs.Arc.{arc_value};
 ghost use Rattle.std.specs.Io.KnownBytes.{Appends};
 ghost use Rattle.bosh_client.specs.Setup.{is_setup};
@@ -8,7 +8,7 @@ ghost use Rattle.parked_gate.specs.Passes.{IsPassOf, known};
 ghost use Rattle.client_run.specs.Worked.{IsDone};
 ghost use Rattle.bosh_main.specs.ClientOptions.{AskedFit, Fits, client_findings, client_options, options_asked, shows_text};
 ghost use Rattle.bosh_main.specs.Options.{Asks, MayAsk, ShowsWhatIsAsked};
-ghost use Rattle.bosh_main.specs.Asked.{Ended, EndedBadly, HasBad, bad_kind, bad_line, ended_line, status_of};
+ghost use Rattle.bosh_main.specs.Asked.{Ended, EndedBadly, HasBad, IsFirst, Tells, bad_kind, bad_line, begun, ended_line, is_told, status_of, sunk_of};
 
 use crate::client_options::{Asked, ClientOptions, First, read_client_options};
 use crate::run::{BAD_SCRIPT, DONE, NO_MEMORY, READ_FAULT, WRITE_FAULT, WRONG_WORDS};
@@ -57,10 +57,14 @@ where
     ensures net_fault { result ≡ 7 → HasRisen (N.counts outside.old.net).faults (N.counts outside.new.net).faults }
     ensures spawn_fault { result ≡ 8 → HasRisen (P.refusals outside.old.spawner) (P.refusals outside.new.spawner) }
 
-    // With 3 a line of the source is bad. With 0 and 9 the client ran to its end, unless help was asked for.
-    ensures bad { result ≡ 3 → HasBad (I.left source.old) }
-    ensures done { result ≡ 0 → IfSome (client_options words.now) (λ _. Ended (I.left source.old) (N.counts outside.old.net) (N.counts outside.new.net) IsDone) }
-    ensures ended { result ≡ 9 → EndedBadly (I.left source.old) (N.counts outside.old.net) (N.counts outside.new.net) }
+    // With 3 a line of the source is bad. With 0 and 9 the client ran to its end, unless help was asked for. It had the setup of the words, and
+    // what was handed out is written, each stanza as a line, then the line that tells of the bad line or the condition, and nothing else.
+    ensures bad { result ≡ 3 → IsSomeAnd (client_options words.now) (λ options. HasBad options (I.left source.old) (sunk_of (K.given sink.old) (K.faults sink.old)) (sunk_of (K.given sink.new) (K.faults sink.new))) }
+    ensures done { result ≡ 0 → IfSome (client_options words.now) (λ options. Ended options (I.left source.old) (N.counts outside.old.net) (N.counts outside.new.net)
+        (sunk_of (K.given sink.old) (K.faults sink.old)) (sunk_of (K.given sink.new) (K.faults sink.new)) [] IsDone) }
+    ensures ended { result ≡ 9 → IsSomeAnd (client_options words.now) (λ options. EndedBadly options (I.left source.old) (N.counts outside.old.net) (N.counts outside.new.net)
+        (sunk_of (K.given sink.old) (K.faults sink.old)) (sunk_of (K.given sink.new) (K.faults sink.new))) }
+    ensures failed { Contains (4 ∷ 7 ∷ 8 ∷ []) result → IsSomeAnd (client_options words.now) (λ options. Tells options false (sunk_of (K.given sink.old) (K.faults sink.old)) (sunk_of (K.given sink.new) (K.faults sink.new)) []) }
 
     // Words that say how to run have another status than 2. Other words have it, but for want of memory, where they don't ask for
     // help or the version; where they ask for just that, they have another. They run no client, and with 2 nothing is written.
@@ -119,9 +123,12 @@ where
     ensures write_fault { result ≡ 5 → HasRisen (K.faults sink.old) (K.faults sink.new) }
     ensures net_fault { result ≡ 7 → HasRisen (N.counts outside.old.net).faults (N.counts outside.new.net).faults }
     ensures spawn_fault { result ≡ 8 → HasRisen (P.refusals outside.old.spawner) (P.refusals outside.new.spawner) }
-    ensures bad { result ≡ 3 → HasBad (I.left source.old) }
-    ensures done { result ≡ 0 → Ended (I.left source.old) (N.counts outside.old.net) (N.counts outside.new.net) IsDone }
-    ensures ended { result ≡ 9 → EndedBadly (I.left source.old) (N.counts outside.old.net) (N.counts outside.new.net) }
+    ensures bad { result ≡ 3 → HasBad options (I.left source.old) (sunk_of (K.given sink.old) (K.faults sink.old)) (sunk_of (K.given sink.new) (K.faults sink.new)) }
+    ensures done { result ≡ 0 → Ended options (I.left source.old) (N.counts outside.old.net) (N.counts outside.new.net)
+        (sunk_of (K.given sink.old) (K.faults sink.old)) (sunk_of (K.given sink.new) (K.faults sink.new)) [] IsDone }
+    ensures ended { result ≡ 9 → EndedBadly options (I.left source.old) (N.counts outside.old.net) (N.counts outside.new.net)
+        (sunk_of (K.given sink.old) (K.faults sink.old)) (sunk_of (K.given sink.new) (K.faults sink.new)) }
+    ensures failed { Contains (4 ∷ 7 ∷ 8 ∷ []) result → Tells options false (sunk_of (K.given sink.old) (K.faults sink.old)) (sunk_of (K.given sink.new) (K.faults sink.new)) [] }
 {
     let ClientOptions {
         port,
@@ -156,7 +163,9 @@ where
     }
 }
 
-fn first_rid<M: Names>(first: First, names: &mut M) -> Rid {
+fn first_rid<M: Names>(first: First, names: &mut M) -> Rid
+    ensures { IsFirst first result }
+{
     match first {
         First::Drawn => names.first_rid(),
         First::Given(rid) => rid,
@@ -169,7 +178,8 @@ fn new_gate(
     setup: ClientSetup,
 ) -> Result<(Arc<Gate<ClientObject>>, Pass<ClientObject>), AllocError>
     requires { is_setup setup ≡ true }
-    ensures { IfOk result (λ made. IsPassOf (arc_value made.0) made.1) }
+    ensures pass { IfOk result (λ made. IsPassOf (arc_value made.0) made.1) }
+    ensures known { IfOk result (λ made. known made.1 ≡ begun setup) }
 {
     let object = ClientObject::new(alloc, setup)?;
     let (gate, pass) = match Gate::new(alloc, object) {
@@ -190,7 +200,7 @@ fn tell_ran<K: Sink>(alloc: Global, sink: &mut K, ran: ClientRan) -> u8
     ensures never_falls { K.faults sink.old ≤ K.faults sink.new }
     ensures bad { (line : ℕ) → ran ≡ ClientRan.Bad line → result ≡ 3 → Appends (K.given sink.old) (K.given sink.new) (bad_line line) }
     ensures ended { (condition : _) → ran ≡ ClientRan.Ended condition → result ≡ 9 → Appends (K.given sink.old) (K.given sink.new) (ended_line condition) }
-    ensures quiet { result ≡ 0 → sink.new ≡ sink.old }
+    ensures quiet { is_told ran ≡ false → sink.new ≡ sink.old }
 {
     match ran {
         ClientRan::Done => DONE,

@@ -2,9 +2,10 @@
 ghost use Rattle.std.specs.Thread.{IsSync};
 
 use crate::asked::run_asked;
+use crate::noting::{Noted, NotingNetwork, Part, Patient};
 use crate::run::{DONE, WRONG_WORDS};
 use crate::served::{NET_FAULT, run_served};
-use bosh_ports::{Gave, MemorySink, MemorySource, RealBell, Sink, SteadyBell};
+use bosh_ports::{Gave, MemorySink, MemorySource, QuietSource, RealBell, Sink, SteadyBell};
 use bosh_server::Outside as ServerOutside;
 use bosh_types::{Moment, Rid, Stanzas, Text};
 use client_run::Outside;
@@ -13,6 +14,7 @@ use server_ports::{
 };
 use session_pump::Host;
 use std::alloc::{AllocError, Global};
+use std::collections::VecDeque;
 use std::net::{Ipv4Addr, Net, SocketAddr, TcpListener, TcpStream};
 use std::rt::Clock;
 use std::sync::{Arc, Mutex, Wait};
@@ -130,19 +132,21 @@ impl<R: Wait + Copy + Drop> Sink for Announcing<R> {
 
 // The host `example.org`, which gives every stanza back.
 fn echo_host(alloc: Global) -> Result<Host, AllocError> {
+    let features = Text::from_vec(b"<stream:features/>".to_vec(alloc)?);
     Ok(Host {
         name: Text::from_vec(b"example.org".to_vec(alloc)?),
-        greeting: Stanzas::from_vec(Vec::new(alloc)),
+        greeting: Stanzas::from_vec(vec![in alloc; features]?),
         end: Box::new(alloc, Echo::new(alloc))?,
         spares: Vec::new(alloc),
     })
 }
 
-// Serves two connections at this port: the status, and what was written.
-fn serve_two<R>(
+// Serves so many connections at this port: the status, and what was written.
+fn serve<R>(
     rt: &R,
     alloc: Global,
     port: u16,
+    connections: u32,
     begun: Arc<Mutex<bool>>,
 ) -> Result<(u8, MemorySink), AllocError>
 where
@@ -158,7 +162,7 @@ where
     let Some(first) = Rid::new(1000) else {
         return Err(AllocError);
     };
-    let line = format!(in alloc; "serve --port {port} --connections 2")?;
+    let line = format!(in alloc; "serve --port {port} --connections {connections}")?;
     let words = words_of(alloc, line.as_str())?;
     let hosts = vec![in alloc; echo_host(alloc)?]?;
     let bell = RealBell::new(alloc, *rt)?;
@@ -202,8 +206,33 @@ where
     Ok((status, inner))
 }
 
-// Runs a client over two lines, once the port takes connections: the status.
-fn ask_two<R>(rt: &R, alloc: Global, port: u16, begun: &Arc<Mutex<bool>>) -> Result<u8, AllocError>
+// The parts of an input, of which each is read back before the next is given.
+fn parts_of(alloc: Global, lines: &[&[u8]]) -> Result<VecDeque<Part>, AllocError> {
+    let mut parts = VecDeque::new(alloc);
+    for line in lines {
+        let mut bytes = Vec::from_slice(alloc, line)?;
+        bytes.push(b'\n')?;
+        let echo = match line.split(|byte| *byte == b'\n').last() {
+            Some(last) => Vec::from_slice(alloc, last)?,
+            None => Vec::new(alloc),
+        };
+        parts.push_back(Part {
+            bytes: QuietSource::new(bytes),
+            echo,
+        })?;
+    }
+    Ok(parts)
+}
+
+// Runs a client over this input, once the port takes connections: the status, and what was written.
+fn ask<R>(
+    rt: &R,
+    alloc: Global,
+    port: u16,
+    lines: &[&[u8]],
+    noted: &Arc<Mutex<Noted>>,
+    begun: &Arc<Mutex<bool>>,
+) -> Result<(u8, MemorySink), AllocError>
 where
     R: Wait
         + Threads
@@ -225,11 +254,15 @@ where
     };
     let line = format!(in alloc; "client --port {port} --to example.org")?;
     let words = words_of(alloc, line.as_str())?;
-    let mut source = MemorySource::new(b"<m/>\n<n/>\n".to_vec(alloc)?, Vec::new(alloc));
+    let mut source = Patient {
+        rt: *rt,
+        parts: parts_of(alloc, lines)?,
+        noted: Arc::try_clone(noted)?,
+    };
     let mut sink = MemorySink::new(alloc, Vec::new(alloc));
     let mut names = GivenNames::new(alloc, b"c", first);
     let mut outside = Outside {
-        net: TcpNetwork::new(*rt),
+        net: NotingNetwork::new(*rt, Arc::try_clone(noted)?),
         clock: StillClock {
             moment: Moment::from_millis(0),
         },
@@ -252,17 +285,42 @@ where
         spawner,
     } = outside;
     spawner.join_all(rt);
-    Ok(status)
+    Ok((status, sink))
 }
 
-// Both beside each other.
+// Connections that nothing is sent on, until nobody listens any more.
+fn fill<R>(rt: &R, port: u16)
+where
+    R: Net<Listener = TcpListener, Stream = TcpStream>,
+{
+    for _ in 0..CONNECTIONS {
+        let address = SocketAddr::from((Ipv4Addr::LOCALHOST, port));
+        if TcpStream::connect(rt, address).is_err() {
+            return;
+        }
+    }
+}
+
+/// A way to run both.
+#[derive(Clone, Copy)]
+struct Way<'w> {
+    port: u16,
+    connections: u32,
+    lines: &'w [&'w [u8]],
+}
+
+/// What an end answered and wrote.
+type Shown = Result<(u8, MemorySink), AllocError>;
+
+// Both beside each other: the server, and the client.
 fn both<R>(
     rt: &R,
     alloc: Global,
-    port: u16,
+    way: Way<'_>,
+    noted: &Arc<Mutex<Noted>>,
     begun: &Arc<Mutex<bool>>,
     served: Arc<Mutex<bool>>,
-) -> (Result<(u8, MemorySink), AllocError>, Result<u8, AllocError>)
+) -> (Shown, Shown)
 where
     R: Wait
         + Threads
@@ -276,28 +334,94 @@ where
 {
     join(
         rt,
-        || -> Result<(u8, MemorySink), AllocError>
+        || -> Shown
             requires { IsSync R.row }
-        { serve_two(rt, alloc, port, served) },
-        || -> Result<u8, AllocError>
+        { serve(rt, alloc, way.port, way.connections, served) },
+        || -> Shown
             requires { IsSync R.row }
-        { ask_two(rt, alloc, port, begun) },
+        {
+            let shown = ask(rt, alloc, way.port, way.lines, noted, begun);
+            fill(rt, way.port);
+            shown
+        },
     )
+}
+
+/// How many links the server takes where the client makes more than two.
+const CONNECTIONS: u32 = 40;
+
+// What both ends answered and wrote, and how many answers were dropped.
+fn runs<R>(
+    rt: &R,
+    alloc: Global,
+    connections: u32,
+    lines: &[&[u8]],
+    drops: bool,
+) -> Result<((u8, MemorySink), (u8, MemorySink), u64), Fail>
+where
+    R: Wait
+        + Threads
+        + Clock
+        + Net<Listener = TcpListener, Stream = TcpStream>
+        + Copy
+        + Send
+        + Sync
+        + Drop
+        + 'static,
+{
+    let any = TcpListener::bind(rt, SocketAddr::from((Ipv4Addr::LOCALHOST, 0)))?;
+    let port = any.local_addr()?.port();
+    drop(any);
+    let Ok(begun) = Arc::new(alloc, Mutex::new(false)) else {
+        return Err("no memory".into());
+    };
+    let noted = Noted {
+        read: Vec::new(alloc),
+        answers: 0,
+        dropped: 0,
+        drops,
+    };
+    let Ok(noted) = Arc::new(alloc, Mutex::new(noted)) else {
+        return Err("no memory".into());
+    };
+    let served = Arc::try_clone(&begun)?;
+    let way = Way {
+        port,
+        connections,
+        lines,
+    };
+    let (server, client) = both(rt, alloc, way, &noted, &begun, served);
+    let dropped = noted.lock(rt).dropped;
+    Ok((server?, client?, dropped))
 }
 
 #[test]
 fn a_client_is_served_over_loopback(rt: HostRuntime) -> Result<(), Fail> {
-    let any = TcpListener::bind(&rt, SocketAddr::from((Ipv4Addr::LOCALHOST, 0)))?;
-    let port = any.local_addr()?.port();
-    drop(any);
-    let Ok(begun) = Arc::new(rt.alloc(), Mutex::new(false)) else {
-        return Err("no memory".into());
-    };
-    let served = Arc::try_clone(&begun)?;
-    let (server, client) = both(&rt, rt.alloc(), port, &begun, served);
-    let (status, written) = server?;
-    assert_eq!(rt; status, DONE);
-    assert_eq!(rt; written.as_slice(), b"serving\nserved 2\n".as_slice());
-    assert_eq!(rt; client?, DONE);
+    let lines: [&[u8]; 1] = [b"<message id='1'/>\n<message id='2'/>"];
+    let (server, client, dropped) = runs(&rt, rt.alloc(), 2, &lines, false)?;
+    assert_eq!(rt; server.0, DONE);
+    assert_eq!(rt; server.1.as_slice(), b"serving\nserved 2\n".as_slice());
+    assert_eq!(rt; client.0, DONE);
+    assert_eq!(rt;
+        client.1.as_slice(),
+        b"<stream:features/>\n<message id='1'/>\n<message id='2'/>\n".as_slice()
+    );
+    assert_eq!(rt; dropped, 0);
+    Ok(())
+}
+
+#[test]
+fn answers_that_are_dropped_are_asked_for_again(rt: HostRuntime) -> Result<(), Fail> {
+    let lines: [&[u8]; 8] = [
+        b"<a/>", b"<b/>", b"<c/>", b"<d/>", b"<e/>", b"<f/>", b"<g/>", b"<h/>",
+    ];
+    let (server, client, dropped) = runs(&rt, rt.alloc(), CONNECTIONS, &lines, true)?;
+    assert_eq!(rt; server.0, DONE);
+    assert_eq!(rt; client.0, DONE);
+    assert_eq!(rt;
+        client.1.as_slice(),
+        b"<stream:features/>\n<a/>\n<b/>\n<c/>\n<d/>\n<e/>\n<f/>\n<g/>\n<h/>\n".as_slice()
+    );
+    assert!(rt; dropped > 1);
     Ok(())
 }

@@ -10,6 +10,8 @@ mod command;
 mod limit_tests;
 #[cfg(test)]
 mod loopback_tests;
+#[cfg(test)]
+mod noting;
 mod number;
 mod options;
 mod run;
