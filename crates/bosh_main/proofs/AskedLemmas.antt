@@ -1,6 +1,6 @@
 -- What the status of a client says, by how it ran.
-use Rattle.std.proofs.Common.{◌≡◌, ◌≤◌, ◌⊎◌, ℕ, zero, suc, Bool, true, false, length, List, [], ◌∷◌, ◌++◌, Option, Some, None, Ok, Contains, inl, inr, refl, sym, ◌∙◌, ap, subst, append-nil, arith, lit<}
-use Rattle.std.specs.Prelude.{IfSome, nat_le, ◌&&◌}
+use Rattle.std.proofs.Common.{◌≡◌, ◌≤◌, ℕ, zero, suc, Bool, true, false, length, List, [], ◌∷◌, Option, Some, None, Ok, Contains, inl, inr, refl, sym, ◌∙◌, subst, append-nil, arith, lit<}
+use Rattle.std.specs.Prelude.{nat_le, ◌&&◌}
 use Rattle.std.proofs.lemmas.Bool.{le-leb}
 use Rattle.session_attrs.specs.Serving.{is_allowed_text}
 use Rattle.session_laws.proofs.Tests.{both_true}

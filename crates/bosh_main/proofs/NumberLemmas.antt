@@ -1,10 +1,10 @@
 -- A number of 64 bits is read from exactly the text that it writes.
-use Rattle.std.proofs.Common.{◌≡◌, ℕ, ◌+◌, ◌-◌, ◌*◌, ◌<◌, ◌≤◌, ◌^◌, Bool, true, false, List, [], ◌∷◌, Option, Some, None, if◌then◌else◌, ◌&&◌, nat_lt, slice_index, length, drop, add-one, drop-cons, refl, sym, ◌∙◌, ap, rules, arith}
+use Rattle.std.proofs.Common.{◌≡◌, ℕ, ◌+◌, ◌-◌, ◌*◌, ◌<◌, ◌≤◌, ◌^◌, Bool, true, false, List, Option, Some, None, if◌then◌else◌, ◌&&◌, nat_lt, slice_index, length, drop, add-one, drop-cons, refl, arith}
 use Rattle.std.proofs.lemmas.Grind.{common_steps}
 use Rattle.std.proofs.lemmas.Bool.Decides.{nat_tests}
 use Rattle.std.specs.Char.{is_ascii_digit}
 use Rattle.std.specs.Str.{all_ascii_digits}
-use Rattle.bosh_types.specs.Decimal.{number_after, is_positive_decimal, positive_of}
+use Rattle.bosh_types.specs.Decimal.{number_after, positive_of}
 use Rattle.bosh_types.proofs.RidLemmas.{number_after-le}
 use Rattle.bosh_main.specs.Number.{within_64}
 

@@ -1,6 +1,6 @@
 -- What the parser of words says of the options.
-use Rattle.std.proofs.Common.{◌≡◌, ◌≢◌, ◌⊎◌, ℕ, List, [], ◌∷◌, Bool, Option, Some, None, Result, Ok, Err, IfOk, true, false, ap, sym, refl, subst, ◌∙◌, inl, inr, codes}
-use Rattle.clap.specs.Words.{App, HasKind, IsAmong, Kinds, Row, Text, fault_of, first_of, first_value, is_simple, is_simple_and_free, kind_of, matches_of, rows_of}
+use Rattle.std.proofs.Common.{◌≡◌, ◌≢◌, ◌⊎◌, List, [], ◌∷◌, Bool, Option, None, Result, Ok, Err, IfOk, true, false, ap, sym, refl, subst, ◌∙◌, inl, inr, codes}
+use Rattle.clap.specs.Words.{HasKind, IsAmong, Kinds, Row, Text, first_of, first_value, is_simple, is_simple_and_free, kind_of, rows_of}
 use Rattle.clap.specs.declared.error.Error.{Error}
 use Rattle.clap.specs.declared.error.kind.ErrorKind.{ErrorKind}
 use Rattle.clap.specs.declared.error.kind.ErrorKind.TheVariants.{DisplayHelp, DisplayVersion, OutOfMemory}
@@ -9,7 +9,7 @@ use Rattle.clap.proofs.OnLiterals.{clap_on_literals}
 use Rattle.clap.proofs.WalkLemmas.{first_value-rows}
 use Rattle.bosh_main.specs.declared.options.ServeOptions.{ServeOptions}
 use Rattle.bosh_main.specs.declared.options.Wanted.{Wanted}
-use Rattle.bosh_main.specs.Options.{Asks, MayAsk, ShowsWhatIsAsked, number_in, options_by, options_from, options_of, options_wanted, serve_app}
+use Rattle.bosh_main.specs.Options.{ShowsWhatIsAsked, number_in, options_by, options_from, options_of, options_wanted, serve_app}
 
 pub serve_is_simple : is_simple serve_app ≡ true
 unfolding clap_on_literals

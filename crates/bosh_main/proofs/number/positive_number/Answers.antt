@@ -1,4 +1,4 @@
-use Rattle.std.proofs.Common.{◌≡◌, ◌∙◌, ◌+◌, ◌*◌, ◌-◌, ◌<◌, ◌≤◌, ◌^◌, ℕ, arith, drop, refl, slice_index, sym}
+use Rattle.std.proofs.Common.{◌∙◌, ◌+◌, ◌*◌, ◌-◌, ℕ, arith, drop, refl, slice_index, sym}
 use Rattle.bosh_main.proofs.NumberLemmas.{value_after-beyond, value_after-digit, value_after-end}
 use Rattle.bosh_main.proofs.number.positive_number.Goals as goal
 

@@ -1,4 +1,4 @@
-use Rattle.std.proofs.Common.{ℕ, subst, refl, lit<}
+use Rattle.std.proofs.Common.{subst, refl, lit<}
 use Rattle.std.proofs.KnownBytes.{Appends-trans}
 use Rattle.server_ports.specs.Counts.{Counts}
 use Rattle.bosh_server.specs.Runs.{Accepts, IsEnough, RunsBy}
