@@ -18,7 +18,7 @@ use Rattle.session_core.specs.declared.replies.Taken.TheVariants as takings
 use Rattle.session_core.specs.declared.replies.Ticked.{Ticked}
 use Rattle.session_core.specs.declared.replies.Ticked.TheVariants.{Changed, Quiet}
 use Rattle.session_core.specs.Copy.{unnamed}
-use Rattle.session_core.specs.Journal.{Call, Arrive, Back, BackClosed, Collect, Tick, TakeInward, Entered, Journal, ToArrive, IsJournal, IsAllowed, state_of, step, entered_by, called}
+use Rattle.session_core.specs.Journal.{Call, Arrive, Back, BackClosed, Collect, Tick, TakeInward, Entered, Journal, ToArrive, IsJournal, IsAllowed, state_of, step, entered_by}
 use Rattle.session_core.specs.Machine.{Opening, opened, created_parts, bytes_for, arrive, back, back_closed, tick}
 use Rattle.session_core.specs.State.{PlainSession, Issued}
 use Rattle.session_core.specs.TicketsOut.{issued_at}
@@ -33,7 +33,8 @@ use Rattle.script_text.specs.declared.live.Parked.{Parked}
 use Rattle.script_text.specs.declared.report.ReportLine.{ReportLine}
 use Rattle.script_text.specs.declared.report.ReportLine.TheVariants.{In, Out, Lost, Gone, Refused, Over, Done, Bad}
 use Rattle.script_text.specs.Answered.{Posting, IsRefusal, Asks, IsFor}
-use Rattle.script_text.specs.Live.{PlainLive, state, Turn, with_entered, after_call, untold, with_taken, all_taken, fate, answer_line, fate_lines, is_not_yet, still, still_parked, collected_lines, all_collected, over_lines, settled_after, told, refused_first, with_journal, with_parked, not_found, arrived, refusal_of_back, refusal_of_shut, ticked, turn_at}
+use Rattle.session_calls.specs.After.{after_call, all_taken, untaken, with_entered, with_taken}
+use Rattle.script_text.specs.Live.{PlainLive, state, Turn, fate, answer_line, fate_lines, is_not_yet, still, still_parked, collected_lines, all_collected, over_lines, settled_after, told, refused_first, with_journal, with_parked, not_found, arrived, refusal_of_back, refusal_of_shut, ticked, turn_at}
 use Rattle.script_text.specs.Manager.{opened_live}
 use Rattle.script_text.specs.Stands.{IsEvent}
 use Rattle.script_text.proofs.JournalSteps.{after_is, after_made}
@@ -94,7 +95,7 @@ collected_goes (first ∷ parked) journal made =
 
 settled_goes : (s : PlainLive) → IsJournal s.journal → GoesTo s.journal (settled_after s).journal
 settled_goes s made =
-    let one = taken_goes (length (untold s.journal)) s.journal made in
+    let one = taken_goes (length (untaken s.journal)) s.journal made in
     goes_on s.journal (all_taken s.journal) (settled_after s).journal one (collected_goes s.parked (all_taken s.journal) one.made)
 
 -- a request is for this session later too
@@ -238,7 +239,7 @@ module _ (posted : List Posting) where
   told_answers : (s : PlainLive) (answer : List ReportLine) → IsJournal s.journal → Waiting posted s → All (IsOf posted s.number s.journal) answer → Answers posted s (told s answer)
   told_answers s answer made waiting are =
       let goes = settled_goes s made in
-      let taken = taken_goes (length (untold s.journal)) s.journal made in
+      let taken = taken_goes (length (untaken s.journal)) s.journal made in
       let waits = all_waits_later posted s.number s.journal (all_taken s.journal) taken s.parked waiting in
       let end : Journal = (settled_after s).journal in
       let lines : List ReportLine = collected_lines (all_taken s.journal) s.parked in
@@ -246,7 +247,7 @@ module _ (posted : List Posting) where
       record {
         opening = goes.opening;
         keeps = goes.keeps;
-        are = All-append (IsOf posted s.number end) (map (In s.number) (untold s.journal)) (answer ++ (lines ++ last)) (items_of posted s.number end (untold s.journal))
+        are = All-append (IsOf posted s.number end) (map (In s.number) (untaken s.journal)) (answer ++ (lines ++ last)) (items_of posted s.number end (untaken s.journal))
             (All-append (IsOf posted s.number end) answer (lines ++ last) (all_later posted s.number s.journal end goes answer are)
             (All-append (IsOf posted s.number end) lines last (collected_of posted s.number s.parked (all_taken s.journal) taken.made waits) (over_of posted s.number end (state_of end).ending)));
         waiting = collected_waits posted s.number s.parked (all_taken s.journal) taken.made waits;

@@ -23,7 +23,8 @@ use Rattle.script_text.specs.declared.event.Event.{Event}
 use Rattle.script_text.specs.declared.event.Event.TheVariants.{Arrives, Gives, Shuts, Passes}
 use Rattle.script_text.specs.declared.live.Parked.{Parked}
 use Rattle.script_text.specs.declared.report.ReportLine.{ReportLine}
-use Rattle.script_text.specs.Live.{PlainLive, state, Turn, with_entered, after_call, untold, with_taken, all_taken, all_collected, settled_after, told, refused_first, with_journal, with_parked, arrived, ticked, turn_at}
+use Rattle.session_calls.specs.After.{after_call, all_taken, untaken, with_entered, with_taken}
+use Rattle.script_text.specs.Live.{PlainLive, state, Turn, all_collected, settled_after, told, refused_first, with_journal, with_parked, arrived, ticked, turn_at}
 use Rattle.script_text.specs.Posted.{bodies_of}
 use Rattle.script_text.specs.Stands.{IsEvent}
 use Rattle.script_text.proofs.JournalSteps.{Comes}
@@ -128,7 +129,7 @@ collected_same (first ∷ parked) journal =
 
 settled_same : (s : PlainLive) → SameBodies s.journal (settled_after s).journal
 settled_same s =
-    let taken = taken_same (length (untold s.journal)) s.journal in
+    let taken = taken_same (length (untaken s.journal)) s.journal in
     let rest = collected_same s.parked (all_taken s.journal) in
     (rest.0 ∙ taken.0, rest.1 ∙ taken.1)
 

@@ -8,7 +8,8 @@ use Rattle.session_journal.specs.declared.entry.Entry.{Entry}
 use Rattle.session_journal.specs.Stored.{IsJournalOf}
 use Rattle.script_text.specs.declared.live.Parked.{Parked}
 use Rattle.script_text.specs.declared.report.ReportLine.{ReportLine}
-use Rattle.script_text.specs.Live.{after_call, fate, fate_lines, still, collected_lines, still_parked, all_collected}
+use Rattle.session_calls.specs.After.{after_call}
+use Rattle.script_text.specs.Live.{fate_lines, still, collected_lines, still_parked, all_collected}
 
 -- what was collected, and what is left to collect, is all
 pub record CollectsOn (log : List Entry) (lines : List ReportLine) (kept rest : List Parked) (before : List ReportLine) (parked : List Parked) (journal : Journal) : Type 0 where

@@ -13,7 +13,8 @@ use Rattle.session_laws.proofs.Grows.{every_grows, begins_same}
 use Rattle.session_laws.proofs.Lists.{get_some}
 use Rattle.session_laws.proofs.OneMore.{one_more, state_one_more}
 use Rattle.script_text.specs.declared.live.Parked.{Parked}
-use Rattle.script_text.specs.Live.{with_entered, after_call, untold, with_taken, all_taken, all_collected}
+use Rattle.session_calls.specs.After.{after_call, all_taken, untaken, with_entered, with_taken}
+use Rattle.script_text.specs.Live.{all_collected}
 
 abbrev by_one : Entered → Entry
 by_one entered = record { caller = 0; entered = entered }
@@ -127,8 +128,8 @@ pub all_are_taken : (journal : Journal) → IsJournal journal → (state_of jour
     → IsJournal (all_taken journal) × (state_of (all_taken journal) ≡ passed_at (state_of journal) (length (inward (state_of journal))))
 all_are_taken journal made within =
     let count = length-drop (state_of journal).passed (inward (state_of journal)) in
-    let sum : (state_of journal).passed + length (untold journal) ≡ length (inward (state_of journal)) = omega (arith, count, within) in
-    let many = take_many (length (untold journal)) journal made (omega (arith, sum)) in
+    let sum : (state_of journal).passed + length (untaken journal) ≡ length (inward (state_of journal)) = omega (arith, count, within) in
+    let many = take_many (length (untaken journal)) journal made (omega (arith, sum)) in
     (many.0, many.1 ∙ ap (passed_at (state_of journal)) sum)
 
 -- Collecting.

@@ -2,7 +2,6 @@ pub mod AccountLemmas
 pub mod AnsweredLemmas
 pub mod AnswersLemmas
 pub mod BodiesLemmas
-pub mod CallLemmas
 pub mod CollectingLemmas
 pub mod DriveLemmas
 pub mod GivenLemmas

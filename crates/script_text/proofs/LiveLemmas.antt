@@ -5,8 +5,8 @@ use Rattle.session_core.specs.Journal.{Time, Tick, ToTick, Journal, state_of, wi
 use Rattle.session_core.specs.Machine.{tick}
 use Rattle.session_laws.proofs.LawsOf.{every_quiet}
 use Rattle.script_text.specs.declared.live.Turned.{Turned}
-use Rattle.script_text.specs.declared.report.ReportLine.{ReportLine}
-use Rattle.script_text.specs.Live.{Turn, after_call, with_entered, refused_first}
+use Rattle.session_calls.specs.After.{after_call, with_entered}
+use Rattle.script_text.specs.Live.{Turn, refused_first}
 use Rattle.script_text.specs.Stands.{IsTurn}
 
 -- what follows for a value follows for each answer that has one

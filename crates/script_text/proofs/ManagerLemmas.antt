@@ -7,7 +7,6 @@ use Rattle.bosh_types.specs.declared.hosts.HostName.{HostName}
 use Rattle.session_core.specs.State.{is_over}
 use Rattle.script_text.specs.declared.event.Event.TheVariants.{Passes}
 use Rattle.script_text.specs.declared.live.Live.{Live}
-use Rattle.script_text.specs.declared.live.Parked.{Parked}
 use Rattle.script_text.specs.declared.report.ReportLine.{ReportLine}
 use Rattle.script_text.specs.Live.{PlainLive, if_live, state, turn_at}
 use Rattle.script_text.specs.Manager.{passed_lines, passed_live, waits_on, with_closed}

@@ -1,29 +1,27 @@
 -- A request whose id has a kept answer is given its bytes.
-use Rattle.std.proofs.Common.{◌≡◌, ℕ, ◌+◌, false, List, [], ◌∷◌, ◌++◌, All, map, Option, Some, None, refl, sym, subst, ◌∙◌, ap, if◌then◌else◌}
+use Rattle.std.proofs.Common.{◌≡◌, ℕ, ◌+◌, false, List, [], ◌∷◌, ◌++◌, All, map, Some, None, refl, sym, subst, ◌∙◌, if◌then◌else◌}
 use Rattle.std.specs.Prelude.{slice_get}
 use Rattle.std.proofs.lemmas.List.Elements.{All-nil, All-cons}
 use Rattle.bosh_types.specs.declared.kept.KeptAnswer.{KeptAnswer}
 use Rattle.session_attrs.specs.declared.request.Kind.{Kind}
 use Rattle.session_attrs.specs.declared.request.Kind.TheVariants as kinds
-use Rattle.session_attrs.specs.declared.request.Request.{Request}
 use Rattle.session_core.specs.declared.replies.Arrived.{Arrived}
 use Rattle.session_core.specs.declared.replies.Arrived.TheVariants as arrivals
-use Rattle.session_core.specs.Journal.{Arrive, Journal, IsJournal, ToArrive, called}
+use Rattle.session_core.specs.Journal.{Arrive, Journal, IsJournal, ToArrive}
 use Rattle.session_core.specs.Machine.{arrive}
-use Rattle.session_core.specs.State.{PlainSession}
 use Rattle.session_laws.specs.Laws.{KeptLaws}
 use Rattle.script_text.specs.declared.event.Event.TheVariants.{Arrives}
 use Rattle.script_text.specs.declared.line.BadKind.TheVariants.{Connection}
 use Rattle.script_text.specs.declared.line.LineRead.{LineRead}
-use Rattle.script_text.specs.declared.line.LineRead.TheVariants.{Line, BadLine}
-use Rattle.script_text.specs.declared.line.ScriptLine.TheVariants.{Post}
+use Rattle.script_text.specs.declared.line.LineRead.TheVariants.{BadLine}
 use Rattle.script_text.specs.declared.report.ReportLine.{ReportLine}
 use Rattle.script_text.specs.declared.report.ReportLine.TheVariants.{In, Out}
-use Rattle.script_text.specs.Answered.{Posting, Stage, IsAmong, Repeats, GivesKept, postings_in, stage_of, stages_on, stages_by}
+use Rattle.script_text.specs.Answered.{Posting, IsAmong, Repeats, GivesKept, postings_in, stage_of, stages_on, stages_by}
 use Rattle.script_text.specs.Headline.{manager_of}
 use Rattle.line_reader.specs.Lines.{lines_of}
-use Rattle.script_text.specs.Live.{PlainLive, state, after_call, untold, told, with_journal, arrived, turn_at, not_found}
-use Rattle.script_text.specs.Manager.{PlainManager, Change, only, is_waiting, place_of, number_of, turned_at, comes_at, comes, comes_to, posted_by, posted_as, posted, request_in}
+use Rattle.session_calls.specs.After.{after_call, untaken}
+use Rattle.script_text.specs.Live.{PlainLive, state, told, with_journal, arrived, turn_at, not_found}
+use Rattle.script_text.specs.Manager.{PlainManager, Change, only, is_waiting, comes_at, comes, comes_to, posted_by, posted_as, posted}
 use Rattle.script_text.specs.Posted.{named_of}
 use Rattle.script_text.specs.Script.{PlainRun, Beginning, Bodies, PlainNext, Goes, Ends, begun, bad_step, change_step, post_step, step_by, said}
 use Rattle.script_text.proofs.HeadlineLemmas.{Follows, step_holds, well_said, new_holds}
@@ -50,7 +48,7 @@ module _ (laws : (journal : Journal) → IsJournal journal → KeptLaws journal)
 
     turn_gives : IsAmong line (turn_at m.moment (Arrives conn r.request body) r.session).lines
     turn_gives = subst (λ reply. IsAmong line (arrived (with_journal r.session journal_then) conn reply).lines) (sym reply_is)
-        (map (In r.session.number) (untold journal_then), _, refl)
+        (map (In r.session.number) (untaken journal_then), _, refl)
 
     place_gives : IsAmong line (comes (begun m) (Arrives conn r.request body) (not_found conn) r.session.number).lines
     place_gives = subst (λ o. IsAmong line (elim o as (λ x. Change) [

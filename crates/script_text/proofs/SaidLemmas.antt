@@ -9,8 +9,8 @@ use Rattle.body_cutter.specs.Cutting.{is_stanza}
 use Rattle.script_text.specs.declared.line.BadKind.TheVariants.{Grammar}
 use Rattle.script_text.specs.declared.line.LineRead.{LineRead}
 use Rattle.script_text.specs.declared.line.LineRead.TheVariants.{Line, BadLine}
-use Rattle.script_text.specs.declared.line.ScriptLine.TheVariants.{Open, Host, At, Post, Close, Back, Shut, End}
-use Rattle.session_attrs.specs.Serving.{can_serve, is_host_name, may_greet}
+use Rattle.script_text.specs.declared.line.ScriptLine.TheVariants.{Open, At, Close}
+use Rattle.session_attrs.specs.Serving.{is_host_name, may_greet}
 use Rattle.script_text.specs.Line.{word_of, rest_of, open_of, short_of, request_of, host_of, host_with, greeting_of, post_of, body_of, connection_of, moment_of, at_of, close_of, given_of, back_of, closing_of, shutting_of, closed_of, shut_of, later_line, line_of}
 use Rattle.script_text.specs.Names.{is_sid}
 use Rattle.script_text.specs.Said.{IsWellRead}

@@ -1,6 +1,6 @@
 -- The ids that tickets are for stay.
 use Rattle.std.proofs.Common.{◌≡◌, ℕ, zero, suc, ◌+◌, ◌==◌, false, List, [], ◌∷◌, ◌++◌, map, length, Option, Some, None, refl, sym, subst, ◌∙◌, ap, arith}
-use Rattle.std.specs.Prelude.{slice_get, slice_set}
+use Rattle.std.specs.Prelude.{slice_get}
 use Rattle.std.specs.Option.{option_map}
 use Rattle.std.proofs.lemmas.List.{append-nil, map-append, length-map}
 use Rattle.std.proofs.lemmas.Option.{slice_get-map}
@@ -9,15 +9,15 @@ use Rattle.session_core.specs.declared.replies.Arrived.{Arrived}
 use Rattle.session_core.specs.declared.replies.Arrived.TheVariants as arrivals
 use Rattle.session_core.specs.declared.replies.Collected.{Collected}
 use Rattle.session_core.specs.declared.replies.Collected.TheVariants as collections
-use Rattle.session_core.specs.Journal.{Call, Arrive, Back, BackClosed, Collect, Tick, TakeInward, Journal, IsJournal, IsAllowed, ToArrive, called, state_of, step}
+use Rattle.session_core.specs.Journal.{Call, Arrive, Back, BackClosed, Collect, Tick, TakeInward, Journal, IsJournal, IsAllowed, ToArrive, called, state_of}
 use Rattle.session_core.specs.Machine.{arrive, collect, replace}
-use Rattle.session_core.specs.State.{PlainSession, Issued, Waits, UsedUp, is_over}
+use Rattle.session_core.specs.State.{PlainSession, Issued, Waits, is_over}
 use Rattle.session_core.specs.TicketsOut.{issued_at}
 use Rattle.session_laws.specs.Tickets.{spent, spent_at, after_arrival, after_collect, tickets_after}
 use Rattle.session_laws.proofs.LawsOf.{every_parked}
 use Rattle.session_laws.proofs.Tests.{split, some_is}
 use Rattle.session_laws.proofs.TicketSteps.{every_ticket}
-use Rattle.script_text.specs.Live.{after_call}
+use Rattle.session_calls.specs.After.{after_call}
 use Rattle.script_text.proofs.JournalSteps.{after_is}
 
 -- the ids of these tickets, in their order

@@ -13,7 +13,8 @@ use Rattle.script_text.specs.declared.live.Parked.{Parked}
 use Rattle.script_text.specs.declared.report.ReportLine.{ReportLine}
 use Rattle.script_text.specs.declared.report.ReportLine.TheVariants.{In, Out, Lost, Gone, Over}
 use Rattle.script_text.specs.Headline.{is_opened, NamesOpened, tells_of}
-use Rattle.script_text.specs.Live.{PlainLive, state, Turn, after_call, untold, all_taken, fate, fate_lines, collected_lines, over_lines, settled_after, told}
+use Rattle.session_calls.specs.After.{after_call, all_taken, untaken}
+use Rattle.script_text.specs.Live.{PlainLive, state, Turn, fate, fate_lines, collected_lines, over_lines, settled_after, told}
 use Rattle.script_text.proofs.JournalSteps.{all_are_taken, all_are_collected}
 
 -- a number is itself
@@ -120,7 +121,7 @@ map_append f (x ∷ xs) ys = ap (λ l. f x ∷ l) (map_append f xs ys)
 
 module _ (s : PlainLive) (answer : List ReportLine) (made : IsJournal s.journal) (few : (state s).passed ≤ length (inward (state s))) (none : TellNone answer) where
   abbrev items : List ReportLine
-  items = map (In s.number) (untold s.journal)
+  items = map (In s.number) (untaken s.journal)
 
   abbrev collected : List ReportLine
   collected = collected_lines (all_taken s.journal) s.parked
@@ -151,7 +152,7 @@ module _ (s : PlainLive) (answer : List ReportLine) (made : IsJournal s.journal)
   told_own : filter (tells_of s.number) (told s answer).lines ≡ items ++ last_lines
   told_own =
       filter-append (tells_of s.number) items (answer ++ (collected ++ last_lines))
-      ∙ ap (λ l. l ++ filter (tells_of s.number) (answer ++ (collected ++ last_lines))) (own_items s.number (untold s.journal))
+      ∙ ap (λ l. l ++ filter (tells_of s.number) (answer ++ (collected ++ last_lines))) (own_items s.number (untaken s.journal))
       ∙ ap (λ l. items ++ filter (tells_of s.number) l) (sym (append_assoc answer collected last_lines))
       ∙ ap (λ l. items ++ l) (filter-append (tells_of s.number) (answer ++ collected) last_lines)
       ∙ ap (λ l. items ++ (l ++ filter (tells_of s.number) last_lines)) (middle.silent s.number)
@@ -159,13 +160,13 @@ module _ (s : PlainLive) (answer : List ReportLine) (made : IsJournal s.journal)
 
   told_others : (number : ℕ) → (s.number == number) ≡ false → filter (tells_of number) (told s answer).lines ≡ []
   told_others number other =
-      filter_none (tells_of number) items (answer ++ (collected ++ last_lines)) (other_items s.number number other (untold s.journal))
+      filter_none (tells_of number) items (answer ++ (collected ++ last_lines)) (other_items s.number number other (untaken s.journal))
       (filter_none (tells_of number) answer (collected ++ last_lines) (none.silent number)
       (filter_none (tells_of number) collected last_lines ((collected_none s.parked (all_taken s.journal)).silent number) (other_over s.number number other (state (settled_after s)).ending)))
 
   told_named : (opened : ℕ) → is_opened opened s.number ≡ true → All (NamesOpened opened) (told s answer).lines
   told_named opened is =
-      All-append (NamesOpened opened) items (answer ++ (collected ++ last_lines)) (named_items s.number opened is (untold s.journal))
+      All-append (NamesOpened opened) items (answer ++ (collected ++ last_lines)) (named_items s.number opened is (untaken s.journal))
       (All-append (NamesOpened opened) answer (collected ++ last_lines) (none.named opened)
       (All-append (NamesOpened opened) collected last_lines ((collected_none s.parked (all_taken s.journal)).named opened) (named_over s.number opened is (state (settled_after s)).ending)))
 
@@ -177,7 +178,7 @@ module _ (s : PlainLive) (answer : List ReportLine) (made : IsJournal s.journal)
     all = settled_is.1 ∙ sym (ap length settled_is.2);
     own = ap (λ l. map (In s.number) (taken s) ++ l) told_own
         ∙ sym (append_assoc (map (In s.number) (taken s)) items last_lines)
-        ∙ ap (λ l. l ++ last_lines) (sym (map_append (In s.number) (taken s) (untold s.journal)))
+        ∙ ap (λ l. l ++ last_lines) (sym (map_append (In s.number) (taken s) (untaken s.journal)))
         ∙ ap (λ l. map (In s.number) l ++ last_lines) (take-append-drop (state s).passed (inward (state s)))
         ∙ ap (λ l. map (In s.number) l ++ last_lines) (sym settled_is.2);
     others = told_others;

@@ -22,7 +22,8 @@ use Rattle.script_text.specs.declared.report.Refusal.{Refusal}
 use Rattle.script_text.specs.declared.report.ReportLine.{ReportLine}
 use Rattle.script_text.specs.declared.report.ReportLine.TheVariants.{In, Refused}
 use Rattle.script_text.specs.Headline.{is_opened, NamesOpened, tells_of}
-use Rattle.script_text.specs.Live.{PlainLive, state, Turn, after_call, over_lines, told, refused_first, with_journal, with_parked, arrived, refusal_of_back, refusal_of_shut, ticked, turn_at}
+use Rattle.session_calls.specs.After.{after_call}
+use Rattle.script_text.specs.Live.{PlainLive, state, Turn, over_lines, told, refused_first, with_journal, with_parked, arrived, refusal_of_back, refusal_of_shut, ticked, turn_at}
 use Rattle.script_text.specs.Stands.{IsEvent}
 use Rattle.script_text.proofs.JournalSteps.{Comes, after_made, after_grows, after_passed}
 use Rattle.script_text.proofs.ToldLemmas.{TellNone, none_of_none, none_out, taken, IsTurnOf, told_turn}

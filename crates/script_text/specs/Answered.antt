@@ -7,7 +7,7 @@ use Rattle.bosh_types.specs.declared.kept.KeptAnswer.{KeptAnswer}
 use Rattle.body_writer.specs.Answer.{answer_text}
 use Rattle.session_attrs.specs.declared.request.Request.{Request}
 use Rattle.session_core.specs.Endings.{terminal}
-use Rattle.session_core.specs.Journal.{Journal, state_of}
+use Rattle.session_core.specs.Journal.{Journal}
 use Rattle.session_core.specs.Kept.{kept_of}
 use Rattle.session_core.specs.Machine.{bytes_for, body_cost, is_full}
 use Rattle.session_core.specs.State.{is_over}

@@ -1,5 +1,5 @@
 -- What one line of a script says, by its own bytes. Words are separated by one space.
-use Rattle.std.specs.Prelude.{ℕ, ◌+◌, ◌==◌, ◌&&◌, ◌||◌, nat_le, Bool, false, List, [], Option, None, Some, length, take, drop, position, chars, codes, if◌then◌else◌}
+use Rattle.std.specs.Prelude.{ℕ, ◌+◌, ◌==◌, nat_le, List, [], Option, None, Some, take, drop, position, codes, if◌then◌else◌}
 use Rattle.std.specs.Str.{bytes_eq}
 use Rattle.body_cutter.specs.Cutting.{is_stanza}
 use Rattle.bosh_types.specs.Rid.{rid_of}

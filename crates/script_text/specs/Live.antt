@@ -1,10 +1,8 @@
 -- One session of a script: what a line does to it, and what the report then says of it.
-use Rattle.std.specs.Prelude.{ℕ, zero, suc, Bool, true, false, List, [], ◌∷◌, ◌++◌, map, drop, length, Option, Some, None, if◌then◌else◌}
+use Rattle.std.specs.Prelude.{ℕ, Bool, true, false, List, [], ◌∷◌, ◌++◌, map, Option, Some, None, if◌then◌else◌}
 use Rattle.bosh_types.specs.declared.condition.Condition.TheVariants.{ItemNotFound}
 use Rattle.bosh_types.specs.declared.ending.Ending.{Ending}
-use Rattle.bosh_types.specs.declared.inward.Inward.{Inward}
 use Rattle.body_writer.specs.Answer.{answer_text}
-use Rattle.session_attrs.specs.declared.request.Request.{Request}
 use Rattle.session_core.specs.declared.replies.Arrived.{Arrived}
 use Rattle.session_core.specs.declared.replies.Arrived.TheVariants as arrivals
 use Rattle.session_core.specs.declared.replies.Collected.{Collected}
@@ -15,14 +13,13 @@ use Rattle.session_core.specs.declared.replies.Ticked.{Ticked}
 use Rattle.session_core.specs.declared.replies.Ticked.TheVariants.{Changed, Quiet}
 use Rattle.session_core.specs.Copy.{unnamed}
 use Rattle.session_core.specs.Endings.{terminal}
-use Rattle.session_core.specs.Journal.{Call, Arrive, Collect, Back, BackClosed, Tick, TakeInward, Entered, Journal, state_of, entered_by}
+use Rattle.session_core.specs.Journal.{Arrive, Collect, Back, BackClosed, Tick, Journal, state_of}
 use Rattle.session_core.specs.Machine.{arrive, collect, back, back_closed, tick}
-use Rattle.session_core.specs.State.{PlainSession, inward, is_over}
-use Rattle.session_laws.specs.Growing.{with_later}
+use Rattle.session_core.specs.State.{PlainSession, is_over}
+use Rattle.session_calls.specs.After.{after_call, all_taken, untaken}
 use Rattle.script_text.specs.declared.event.Event.{Event}
 use Rattle.script_text.specs.declared.event.Event.TheVariants.{Arrives, Gives, Shuts, Passes}
 use Rattle.script_text.specs.declared.live.Parked.{Parked}
-use Rattle.script_text.specs.declared.report.Refusal.{Refusal}
 use Rattle.script_text.specs.declared.report.Refusal.TheVariants.{BackFull, BackOver, ShutOver}
 use Rattle.script_text.specs.declared.report.ReportLine.{ReportLine}
 use Rattle.script_text.specs.declared.report.ReportLine.TheVariants.{In, Out, Lost, Gone, Refused, Over}
@@ -35,25 +32,6 @@ pub record PlainLive : Type 0 where
 
 abbrev pub state : PlainLive → PlainSession
 state s = state_of s.journal
-
--- the journal is longer by what a call enters, if it enters something; a script has one caller
-abbrev pub with_entered : Journal → Option Entered → Journal
-with_entered journal None = journal
-with_entered journal (Some entered) = with_later journal (record { caller = 0; entered = entered } ∷ [])
-
-abbrev pub after_call : Journal → Call → Journal
-after_call journal call = with_entered journal (entered_by (state_of journal) call)
-
--- what goes inward and wasn't told yet, and the journal once so many items were taken
-abbrev pub untold : Journal → List Inward
-untold journal = drop (state_of journal).passed (inward (state_of journal))
-
-abbrev pub with_taken : ℕ → Journal → Journal
-with_taken zero journal = journal
-with_taken (suc count) journal = with_taken count (after_call journal TakeInward)
-
-abbrev pub all_taken : Journal → Journal
-all_taken journal = with_taken (length (untold journal)) journal
 
 -- what there is for the ticket of a request that waits, what the report says of that, and whether it waits on
 abbrev pub fate : Journal → Parked → Collected
@@ -112,7 +90,7 @@ settled_after s = record s {
 -- the ending
 abbrev pub told : PlainLive → List ReportLine → Turn
 told s answer = record {
-  lines = map (In s.number) (untold s.journal)
+  lines = map (In s.number) (untaken s.journal)
       ++ (answer ++ (collected_lines (all_taken s.journal) s.parked ++ over_lines s.number (state (settled_after s)).ending));
   after = settled_after s;
 }

@@ -1,12 +1,11 @@
 -- A manager of a script: its sessions, and what a line of the script does to them.
-use Rattle.std.specs.Prelude.{◌≡◌, ℕ, ◌+◌, ◌==◌, ◌&&◌, Bool, true, false, not, nat_lt, nat_le, List, [], ◌∷◌, ◌++◌, map, length, position, slice_get, take, drop, Option, Some, None, Result, Ok, Err, codes, if◌then◌else◌}
+use Rattle.std.specs.Prelude.{ℕ, ◌+◌, ◌==◌, ◌&&◌, Bool, false, not, nat_lt, List, [], ◌∷◌, ◌++◌, map, length, position, slice_get, take, drop, Option, Some, None, Result, Ok, Err, codes, if◌then◌else◌}
 use Rattle.std.specs.Fmt.{decimal}
 use Rattle.std.specs.List.{list_any}
-use Rattle.std.specs.Str.{bytes_eq}
 use Rattle.bosh_types.specs.Limits.{most_sessions, most_openings}
 use Rattle.bosh_types.specs.Rid.{rid_of}
 use Rattle.bosh_types.specs.declared.condition.Condition.{Condition}
-use Rattle.bosh_types.specs.declared.condition.Condition.TheVariants.{BadRequest, HostUnknown, ImproperAddressing, ItemNotFound, UndefinedCondition}
+use Rattle.bosh_types.specs.declared.condition.Condition.TheVariants.{BadRequest, HostUnknown, ImproperAddressing, UndefinedCondition}
 use Rattle.bosh_types.specs.declared.hosts.HostName.{HostName}
 use Rattle.body_cutter.specs.declared.parts.Cut.{Cut}
 use Rattle.body_writer.specs.Answer.{answer_text}
@@ -22,14 +21,12 @@ use Rattle.session_attrs.specs.Reading.{request_of}
 use Rattle.session_attrs.specs.Terms.{terms_of}
 use Rattle.session_attrs.specs.Values.{values_of}
 use Rattle.session_core.specs.Endings.{terminal}
-use Rattle.session_core.specs.Journal.{Journal}
 use Rattle.session_core.specs.Machine.{Opening, created_parts}
 use Rattle.script_text.specs.declared.event.Event.{Event}
-use Rattle.script_text.specs.declared.event.Event.TheVariants.{Arrives, Gives, Shuts, Passes}
+use Rattle.script_text.specs.declared.event.Event.TheVariants.{Arrives, Passes}
 use Rattle.script_text.specs.declared.live.Parked.{Parked}
-use Rattle.script_text.specs.declared.report.Refusal.{Refusal}
 use Rattle.script_text.specs.declared.report.ReportLine.{ReportLine}
-use Rattle.script_text.specs.declared.report.ReportLine.TheVariants.{Out, Refused}
+use Rattle.script_text.specs.declared.report.ReportLine.TheVariants.{Out}
 use Rattle.script_text.specs.Live.{PlainLive, Turn, told, turn_at, if_live, if_over, not_found}
 use Rattle.script_text.specs.Stanza.{parts_of}
 

@@ -2,11 +2,7 @@
 use Rattle.std.specs.Prelude.{ℕ, ◌+◌, ◌≡◌, ◌&&◌, Bool, true, false, not, nat_lt, nat_le, List, [], ◌∷◌, ◌++◌, Option, None, Some, length, codes, filter, if◌then◌else◌}
 use Rattle.std.specs.Fmt.{decimal}
 use Rattle.std.specs.Io.KnownBytes.{Appends}
-use Rattle.std.specs.List.{list_any}
-use Rattle.std.specs.Str.{bytes_eq}
 use Rattle.bosh_types.specs.Limits.{longest_line, most_lines}
-use Rattle.bosh_types.specs.declared.ending.Closing.{Closing}
-use Rattle.bosh_types.specs.declared.hosts.HostName.{HostName}
 use Rattle.script_text.specs.declared.event.Event.{Event}
 use Rattle.script_text.specs.declared.event.Event.TheVariants.{Gives, Shuts}
 use Rattle.script_text.specs.declared.line.BadKind.{BadKind}

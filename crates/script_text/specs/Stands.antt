@@ -1,12 +1,9 @@
 -- What the code keeps of a script stands for the plain things.
-use Rattle.std.specs.Prelude.{◌≡◌, ⊤, ℕ, List, [], ◌∷◌, IsTrue, Option, Some, None, length}
+use Rattle.std.specs.Prelude.{◌≡◌, ⊤, ℕ, List, [], ◌∷◌, IsTrue}
 use Rattle.body_cutter.specs.Cutting.{is_stanza}
 use Rattle.session_attrs.specs.declared.request.Kind.TheVariants as kinds
-use Rattle.session_core.specs.Journal.{Journal, IsReadFrom}
-use Rattle.session_journal.specs.declared.entry.Entry.{Entry}
-use Rattle.session_journal.specs.Entries.{journal_in}
+use Rattle.session_core.specs.Journal.{IsReadFrom}
 use Rattle.session_journal.specs.Stored.{IsJournalOf}
-use Rattle.script_text.specs.declared.driven.Driven.{Driven}
 use Rattle.script_text.specs.declared.event.Event.{Event}
 use Rattle.script_text.specs.declared.event.Event.TheVariants.{Arrives, Gives, Shuts, Passes}
 use Rattle.script_text.specs.declared.live.Live.{Live}
@@ -18,7 +15,8 @@ use Rattle.script_text.specs.declared.run.Next.{Next}
 use Rattle.script_text.specs.declared.run.Next.TheVariants as nexts
 use Rattle.script_text.specs.declared.run.Run.{Run}
 use Rattle.script_text.specs.declared.run.Run.TheVariants as runs
-use Rattle.script_text.specs.Live.{PlainLive, Turn, untold}
+use Rattle.session_calls.specs.After.{}
+use Rattle.script_text.specs.Live.{PlainLive, Turn}
 use Rattle.script_text.specs.Manager.{PlainManager, Change}
 use Rattle.script_text.specs.Script.{PlainRun, Beginning, Arrivals, Bodies, PlainNext, Goes, Ends, Step}
 
@@ -34,14 +32,6 @@ pub record IsLive (live : Live) (s : PlainLive) : Type 0 where
   pub number : live.number ≡ s.number
   pub journal : IsJournalOf live.session s.journal
   pub parked : live.parked.items ≡ s.parked
-
--- how many inward items of a stored session weren't taken yet
-abbrev pub untold_in : Option Journal → ℕ
-untold_in None = 0
-untold_in (Some journal) = length (untold journal)
-
-abbrev pub left_in : List Entry → ℕ
-left_in log = untold_in (journal_in log)
 
 -- sessions in their order
 abbrev pub AreLive : List Live → List PlainLive → Type 0

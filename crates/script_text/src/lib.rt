@@ -4,7 +4,6 @@
 
 mod arrivals;
 mod bodies;
-mod calls;
 mod drive;
 mod driven;
 mod ending;

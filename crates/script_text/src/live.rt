@@ -6,16 +6,17 @@ ghost use Rattle.session_core.specs.State.{is_over};
 ghost use Rattle.session_journal.specs.Stored.{IsJournalOf};
 ghost use Rattle.script_text.specs.declared.event.Event.TheVariants.{Arrives, Gives, Shuts, Passes};
 ghost use Rattle.script_text.specs.declared.report.ReportLine.TheVariants.{In, Refused};
-ghost use Rattle.script_text.specs.Live.{PlainLive, all_collected, all_taken, answer_line, arrived, collected_lines, fate_lines, lines_in, over_lines, refusal_of_back, refusal_of_shut, refused_first, state, still, still_parked, told, turn_at, untold};
+ghost use Rattle.session_calls.specs.After.{all_taken, untaken};
+ghost use Rattle.script_text.specs.Live.{PlainLive, all_collected, answer_line, arrived, collected_lines, fate_lines, lines_in, over_lines, refusal_of_back, refusal_of_shut, refused_first, state, still, still_parked, told, turn_at};
 ghost use Rattle.script_text.specs.Manager.{closed_on, waits_on, with_closed};
 ghost use Rattle.script_text.specs.Stands.{IsEvent, IsLive, IsTurn};
 
-use crate::calls::{arrive, back, back_closed, collect, take_inward, tick};
 use crate::event::Event;
 use crate::report::{Refusal, ReportLine};
 use crate::words::terminal_body;
 use bosh_types::{Closing, Condition, Ending, Moment, SharedText, Ticket};
 use session_attrs::Request;
+use session_calls::{arrive, back, back_closed, collect, take_inward, tick};
 use session_core::{Arrived, Collected, Taken, Ticked};
 use session_journal::Journalled;
 use std::alloc::{AllocError, Global};
@@ -256,7 +257,7 @@ fn take_all(
     lines: &mut Vec<ReportLine>,
 ) -> Result<(), AllocError>
     ensures { (journal : Journal) → IsJournalOf session.old journal → OnOk result (
-        (lines.new.items ≡ lines.old.items ++ map (In number) (untold journal)) × IsJournalOf session.new (all_taken journal)) }
+        (lines.new.items ≡ lines.old.items ++ map (In number) (untaken journal)) × IsJournalOf session.new (all_taken journal)) }
 {
     while let Some(item) = take_inward(session)? {
         lines.push(ReportLine::In {

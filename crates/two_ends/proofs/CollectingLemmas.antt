@@ -8,7 +8,8 @@ use Rattle.session_journal.specs.declared.entry.Entry.{Entry}
 use Rattle.session_journal.specs.Stored.{IsJournalOf}
 use Rattle.world_laws.specs.declared.told.Parked.{Parked}
 use Rattle.world_laws.specs.declared.told.Told.{Told}
-use Rattle.world_laws.specs.Manager.{after_call, fate, told_of, still, collected_told, still_parked, all_collected}
+use Rattle.session_calls.specs.After.{after_call}
+use Rattle.world_laws.specs.Manager.{told_of, still, collected_told, still_parked, all_collected}
 
 -- what was collected, and what is left to collect, is all
 pub record CollectsOn (log : List Entry) (lines : List Told) (kept rest : List Parked) (before : List Told) (parked : List Parked) (journal : Journal) : Type 0 where

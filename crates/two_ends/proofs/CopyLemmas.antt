@@ -1,18 +1,16 @@
 -- A copy of a request comes to a manager.
 use Rattle.std.proofs.Common.{◌≡◌, ℕ, ◌+◌, ◌-◌, ◌<◌, ◌≤◌, true, false, List, [], ◌∷◌, Option, Some, None, length, map, slice_get, refl, sym, ◌∙◌, ap, subst, arith, cond, ◌==◌, inl, inr}
-use Rattle.std.specs.Prelude.{IsTrue, is_some}
+use Rattle.std.specs.Prelude.{is_some}
 use Rattle.std.specs.Option.{option_map}
 use Rattle.std.proofs.lemmas.Bool.{cases_lt}
 use Rattle.std.proofs.lemmas.Bool.Decides.{nat_tests}
 use Rattle.std.proofs.lemmas.List.{length-map}
 use Rattle.std.proofs.lemmas.Option.{slice_get-map, slice_get_past}
 use Rattle.bosh_types.specs.ById.{at_id}
-use Rattle.bosh_types.specs.declared.terms.Terms.{Terms}
 use Rattle.session_attrs.specs.declared.request.Creation.{Creation}
 use Rattle.session_attrs.specs.declared.request.Kind.{Kind}
 use Rattle.session_attrs.specs.declared.request.Kind.TheVariants as kinds
 use Rattle.session_attrs.specs.declared.request.Request.{Request}
-use Rattle.session_core.specs.Journal.{Arrive, IsReadFrom}
 use Rattle.session_journal.specs.Entries.{request_in}
 use Rattle.bosh_client.specs.declared.client.Client.{Client}
 use Rattle.bosh_client.specs.PlainClient.{Made, PlainClient, bytes_of, id_of}

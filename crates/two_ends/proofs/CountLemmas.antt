@@ -1,5 +1,5 @@
 -- A world's sums after an event.
-use Rattle.std.proofs.Common.{◌≡◌, ℕ, ◌≤◌, Bool, true, false, List, Option, Some, None, length, refl, sym, ◌∙◌, ap, ap₂, subst}
+use Rattle.std.proofs.Common.{◌≡◌, ℕ, ◌≤◌, Bool, List, Option, Some, None, length, refl, sym, ◌∙◌, ap, subst}
 use Rattle.std.specs.Prelude.{IsTrue, is_some}
 use Rattle.bosh_client.specs.PlainClient.{deliverable}
 use Rattle.world_laws.specs.declared.event.WorldEvent.{WorldEvent}
@@ -16,7 +16,7 @@ use Rattle.two_ends.specs.declared.world.World.{World}
 use Rattle.two_ends.specs.Counting.{Grows, IsMadeEnd, IsPassedOn}
 use Rattle.two_ends.specs.Serves.{serves}
 use Rattle.two_ends.specs.Summed.{IsCounted, counted, given_by, given_now, given_since, grown, put_by}
-use Rattle.two_ends.specs.Worlds.{IsEnd, IsPlain, IsPlainStep, IsRest, IsStep, IsWorld}
+use Rattle.two_ends.specs.Worlds.{IsEnd, IsPlain, IsPlainStep, IsStep, IsWorld}
 use Rattle.two_ends.proofs.HandingLemmas.{handed_within}
 
 made_end : (end : Option Manager) (o : Option PlainManager) → IsEnd end o → IsMadeEnd o

@@ -1,25 +1,26 @@
 -- What the server gave, call by call.
-use Rattle.std.proofs.Common.{◌≡◌, ℕ, zero, suc, ◌+◌, List, [], ◌∷◌, ◌++◌, Option, Some, None, length, map, cond, false, refl, sym, ◌∙◌, ap, subst, arith, append-nil}
-use Rattle.std.specs.List.{count_by, filter_map}
+use Rattle.std.proofs.Common.{◌≡◌, ℕ, zero, suc, ◌+◌, List, [], ◌∷◌, ◌++◌, Option, Some, None, length, map, cond, false, refl, sym, ◌∙◌, ap, subst, arith}
+use Rattle.std.specs.List.{count_by}
 use Rattle.std.proofs.lemmas.List.Sums.{sum_by-append, sum_by-cons}
 use Rattle.session_core.specs.declared.outward.Outward.{Outward}
 use Rattle.session_core.specs.declared.outward.Outward.TheVariants.{Close, Stanza}
 use Rattle.session_core.specs.declared.replies.Taken.{Taken}
 use Rattle.session_core.specs.declared.replies.Taken.TheVariants as takings
 use Rattle.session_core.specs.Copy.{unnamed}
-use Rattle.session_core.specs.Journal.{Back, BackClosed, Call, Collect, Entered, IsAllowed, IsJournal, Journal, Made, TakeInward, ToBack, after_entry, called, entered_by, state_of}
+use Rattle.session_core.specs.Journal.{Back, BackClosed, Call, Collect, Entered, IsAllowed, IsJournal, Journal, Made, TakeInward, ToBack, after_entry, entered_by, state_of}
 use Rattle.session_core.specs.Machine.{back, back_closed, is_full, stanza_cost}
-use Rattle.session_core.specs.Passed.{given_by, given_in, if_done}
+use Rattle.session_core.specs.Passed.{given_by, if_done}
 use Rattle.session_core.specs.State.{PlainSession, is_over}
 use Rattle.session_laws.proofs.GivenIn.{entry_gives, every_given, one}
 use Rattle.session_laws.proofs.OneMore.{one_more, state_one_more}
 use Rattle.session_laws.proofs.Steps.{back-in_time}
 use Rattle.session_laws.proofs.Tests.{if_false, split}
 use Rattle.world_laws.specs.declared.told.Parked.{Parked}
-use Rattle.world_laws.specs.Manager.{PlainManager, after_call, all_collected, all_passed, session, settled, unpassed, with_entered, with_passed}
+use Rattle.session_calls.specs.After.{after_call, all_taken, untaken, with_entered, with_taken}
+use Rattle.world_laws.specs.Manager.{PlainManager, all_collected, session, settled}
 use Rattle.world_laws.specs.Sums.{given_sum, is_given_stanza}
 use Rattle.world_laws.proofs.CallLemmas.{entered_is, told_by}
-use Rattle.two_ends.proofs.TakingLemmas.{called_state}
+use Rattle.session_calls.proofs.TakingLemmas.{called_state}
 
 abbrev pub stanzas : List Outward → ℕ
 stanzas items = count_by is_given_stanza items
@@ -94,7 +95,7 @@ record Keeps (j k : Journal) : Type 0 where
   made : IsJournal k
   given : stanzas (state_of k).given ≡ stanzas (state_of j).given
 
-keeps_passed : (count : ℕ) (j : Journal) → IsJournal j → Keeps j (with_passed count j)
+keeps_passed : (count : ℕ) (j : Journal) → IsJournal j → Keeps j (with_taken count j)
 keeps_passed zero j made = record { made = made; given = refl }
 keeps_passed (suc count) j made =
     let later = keeps_passed count (after_call j TakeInward) (call_is_made j TakeInward tt made) in
@@ -108,8 +109,8 @@ keeps_collected j (p ∷ parked) made =
 
 keeps_settled : (m : PlainManager) → IsJournal m.journal → Keeps m.journal (settled m).journal
 keeps_settled m made =
-    let passed = keeps_passed (length (unpassed m.journal)) m.journal made in
-    let collected = keeps_collected (all_passed m.journal) m.parked passed.made in
+    let passed = keeps_passed (length (untaken m.journal)) m.journal made in
+    let collected = keeps_collected (all_taken m.journal) m.parked passed.made in
     record { made = collected.made; given = collected.given ∙ passed.given }
 
 pub settled_made : (m : PlainManager) → IsJournal m.journal → IsJournal (settled m).journal

@@ -9,7 +9,7 @@ use Rattle.bosh_client.proofs.FoundLemmas.{deliverable_is}
 use Rattle.world_laws.specs.declared.seen.SeenItem.{SeenItem}
 use Rattle.world_laws.specs.declared.seen.SeenItem.TheVariants.{Got}
 use Rattle.world_laws.specs.Steps.{all_handed, left_of}
-use Rattle.two_ends.proofs.TakingLemmas.{got_first, got_none}
+use Rattle.session_calls.proofs.TakingLemmas.{got_first, got_none}
 
 -- what was handed out is some of what could be
 pub handed_within : (client : Client) (c : PlainClient) → StandsFor client c → c.handed_out ≤ length (deliverable c)

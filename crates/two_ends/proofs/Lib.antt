@@ -1,6 +1,5 @@
 pub mod AskLemmas
 pub mod BeginLemmas
-pub mod CallLemmas
 pub mod CollectingLemmas
 pub mod CopyLemmas
 pub mod CountLemmas

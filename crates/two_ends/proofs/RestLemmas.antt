@@ -1,5 +1,5 @@
 -- A world after a call of its client.
-use Rattle.std.proofs.Common.{◌≡◌, ℕ, List, [], ◌∷◌, ◌++◌, Option, Some, None, map, refl, sym, ◌∙◌, ap, ap₂, subst}
+use Rattle.std.proofs.Common.{◌≡◌, ℕ, List, [], ◌∷◌, ◌++◌, map, refl, sym, ◌∙◌, ap, ap₂, subst}
 use Rattle.std.proofs.lemmas.List.{map-append}
 use Rattle.bosh_client.specs.declared.client.Client.{Client}
 use Rattle.bosh_client.specs.declared.replies.Next.{Next}
@@ -14,7 +14,7 @@ use Rattle.world_laws.specs.declared.seen.SeenItem.{SeenItem}
 use Rattle.world_laws.specs.declared.seen.SeenItem.TheVariants as seen
 use Rattle.world_laws.specs.declared.seen.Word.{Word}
 use Rattle.world_laws.specs.Sound.{sent_of}
-use Rattle.world_laws.specs.Steps.{Step, queues, refusals, sends}
+use Rattle.world_laws.specs.Steps.{queues, refusals, sends}
 use Rattle.world_laws.specs.World.{PlainWorld}
 use Rattle.world_laws.proofs.ClientLemmas.{Queues, next_by}
 use Rattle.two_ends.specs.declared.site.Site.{Site}

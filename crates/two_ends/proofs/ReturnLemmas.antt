@@ -1,7 +1,6 @@
 -- An answer comes to the client of a world.
 use Rattle.std.proofs.Common.{◌≡◌, ℕ, zero, suc, ◌<◌, List, [], ◌∷◌, ◌++◌, Option, Some, None, length, map, slice_get, refl, sym, ◌∙◌, ap, subst, arith}
 use Rattle.std.specs.Option.{option_map}
-use Rattle.std.proofs.lemmas.List.{length-map}
 use Rattle.std.proofs.lemmas.Option.{slice_get-map, slice_get_past}
 use Rattle.bosh_client.specs.declared.client.Client.{Client}
 use Rattle.bosh_client.specs.declared.replies.Answered.{Answered}
@@ -13,7 +12,7 @@ use Rattle.bosh_client.specs.PlainClient.{PlainClient, end_of}
 use Rattle.bosh_client.specs.StandsFor.{Does, StandsFor}
 use Rattle.world_laws.specs.declared.seen.SeenItem.{SeenItem}
 use Rattle.world_laws.specs.declared.seen.SeenItem.TheVariants as seen
-use Rattle.world_laws.specs.Steps.{Step, all_handed, ended_seen, left_of, returned, returns, returns_to}
+use Rattle.world_laws.specs.Steps.{all_handed, ended_seen, left_of, returned, returns, returns_to}
 use Rattle.world_laws.specs.World.{PlainWorld}
 use Rattle.world_laws.proofs.ClientLemmas.{answer_by}
 use Rattle.two_ends.specs.declared.world.Stepped.{Stepped}

@@ -1,22 +1,18 @@
 -- What is seen of an event counts what it did.
-use Rattle.std.proofs.Common.{◌≡◌, ℕ, zero, suc, ◌+◌, ◌-◌, ◌≤◌, Bool, true, false, List, [], ◌∷◌, ◌++◌, Option, Some, None, length, map, drop, slice_get, cond, refl, sym, ◌∙◌, ap, subst, arith, length-append, if◌then◌else◌}
-use Rattle.std.specs.Prelude.{IsTrue, min}
+use Rattle.std.proofs.Common.{◌≡◌, ℕ, zero, suc, ◌+◌, ◌≤◌, Bool, true, false, List, [], ◌∷◌, ◌++◌, Option, Some, None, length, map, slice_get, cond, refl, sym, ◌∙◌, ap, subst, arith, length-append, if◌then◌else◌}
+use Rattle.std.specs.Prelude.{IsTrue}
 use Rattle.std.specs.List.{count_by}
 use Rattle.std.proofs.lemmas.List.{length-drop}
 use Rattle.std.proofs.lemmas.List.Sums.{sum_by-append, sum_by-cons}
 use Rattle.bosh_types.specs.ById.{at_id}
 use Rattle.bosh_types.specs.declared.ending.Closing.{Closing}
-use Rattle.bosh_types.specs.declared.inward.Inward.{Inward}
-use Rattle.session_attrs.specs.declared.request.Creation.{Creation}
 use Rattle.session_attrs.specs.declared.request.Kind.{Kind}
 use Rattle.session_attrs.specs.declared.request.Kind.TheVariants as kinds
 use Rattle.session_attrs.specs.declared.request.Request.{Request}
 use Rattle.session_core.specs.declared.replies.Taken.{Taken}
 use Rattle.session_core.specs.declared.replies.Taken.TheVariants as takings
 use Rattle.session_core.specs.Copy.{unnamed}
-use Rattle.session_core.specs.Journal.{IsJournal, IsReadFrom}
 use Rattle.session_core.specs.Machine.{back, back_closed}
-use Rattle.session_core.specs.State.{inward}
 use Rattle.session_journal.specs.Entries.{request_in}
 use Rattle.session_laws.proofs.Tests.{split}
 use Rattle.bosh_client.specs.declared.outgoing.Outgoing.{Outgoing}
@@ -41,7 +37,7 @@ use Rattle.world_laws.specs.declared.told.Told.TheVariants as tells
 use Rattle.world_laws.specs.Manager.{PlainManager, Turn, arrives, gives, opens, passes, session, shuts}
 use Rattle.world_laws.specs.Setup.{IsAllowed}
 use Rattle.world_laws.specs.Steps.{Step, all_handed, at, carried, carries_to, comes, ended_seen, gives_to, left_of, numbered, opening, passes_to, queues, refusals, returned, returns, returns_to, sends, shuts_to, step, taken_refusals, turns}
-use Rattle.world_laws.specs.Sums.{given_sum, inward_sum, is_inward_stanza}
+use Rattle.world_laws.specs.Sums.{given_sum, is_inward_stanza}
 use Rattle.world_laws.specs.World.{PlainWorld}
 use Rattle.world_laws.proofs.Below.{Below}
 use Rattle.world_laws.proofs.ClientLemmas.{answer_by, next_by}

@@ -1,6 +1,6 @@
 -- What a manager tells is seen, one thing after the other.
-use Rattle.std.proofs.Common.{◌≡◌, ℕ, List, [], ◌∷◌, ◌++◌, length, map, refl, sym, ◌∙◌, ap, subst, arith, append-nil, append_assoc, Some, None}
-use Rattle.std.proofs.lemmas.List.{length-map, map-append}
+use Rattle.std.proofs.Common.{◌≡◌, ℕ, List, [], ◌∷◌, ◌++◌, length, map, refl, sym, ◌∙◌, ap, subst, arith, append-nil, Some}
+use Rattle.std.proofs.lemmas.List.{length-map}
 use Rattle.bosh_client.specs.declared.client.Client.{Client}
 use Rattle.bosh_client.specs.StandsFor.{StandsFor}
 use Rattle.world_laws.specs.declared.seen.SeenItem.{SeenItem}

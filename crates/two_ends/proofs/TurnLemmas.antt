@@ -5,7 +5,7 @@ use Rattle.session_core.specs.declared.replies.Ticked.TheVariants.{Quiet}
 use Rattle.session_core.specs.Journal.{Time, Tick, ToTick, Journal, state_of, within_limit}
 use Rattle.session_core.specs.Machine.{tick}
 use Rattle.session_laws.proofs.LawsOf.{every_quiet}
-use Rattle.world_laws.specs.Manager.{after_call, with_entered}
+use Rattle.session_calls.specs.After.{after_call, with_entered}
 
 -- what follows for a value follows for each answer that has one
 pub IfOk-from : {T E : Type 0} (r : Result T E) (P Q : T → Type 0) → ((x : T) → P x → Q x) → IfOk r P → IfOk r Q

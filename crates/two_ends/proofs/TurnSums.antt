@@ -1,7 +1,7 @@
 -- What comes to a manager, counted.
-use Rattle.std.proofs.Common.{◌≡◌, ℕ, ◌+◌, Bool, true, false, List, [], ◌∷◌, ◌++◌, Option, Some, None, length, map, take, cond, refl, sym, ◌∙◌, ap, subst, arith, append-nil}
+use Rattle.std.proofs.Common.{◌≡◌, ℕ, ◌+◌, false, List, [], ◌∷◌, ◌++◌, Option, Some, None, length, take, cond, refl, sym, ◌∙◌, ap, subst, arith}
 use Rattle.std.specs.List.{count_by}
-use Rattle.std.proofs.lemmas.List.Sums.{sum_by-append, sum_by-cons}
+use Rattle.std.proofs.lemmas.List.Sums.{sum_by-append}
 use Rattle.bosh_types.specs.declared.ending.Closing.{Closing}
 use Rattle.bosh_types.specs.declared.inward.Inward.{Inward}
 use Rattle.body_writer.specs.Answer.{answer_text}
@@ -12,18 +12,18 @@ use Rattle.session_core.specs.declared.replies.Ticked.{Ticked}
 use Rattle.session_core.specs.declared.replies.Ticked.TheVariants as ticks
 use Rattle.session_core.specs.Copy.{unnamed}
 use Rattle.session_core.specs.Journal.{Arrive, Back, BackClosed, Call, IsAllowed, IsJournal, IsOpening, Journal, Tick, ToBack, none as nothing_entered, state_of}
-use Rattle.session_core.specs.Machine.{Opening, arrive, back, created_parts, opened, tick}
-use Rattle.session_core.specs.Passed.{passed_of}
+use Rattle.session_core.specs.Machine.{Opening, arrive, back, created_parts, tick}
 use Rattle.session_core.specs.State.{PlainSession, inward, is_over}
 use Rattle.world_laws.specs.declared.told.Told.{Told}
 use Rattle.world_laws.specs.declared.told.Told.TheVariants as tells
-use Rattle.world_laws.specs.Manager.{PlainManager, Turn, after_call, arrived, arrives, gives, not_found, opens, passes, session, settled, shuts, ticked, turned, with_journal, with_parked}
+use Rattle.session_calls.specs.After.{after_call}
+use Rattle.world_laws.specs.Manager.{PlainManager, Turn, arrived, arrives, gives, not_found, opens, passes, session, settled, shuts, ticked, turned, with_journal, with_parked}
 use Rattle.world_laws.specs.Sums.{given_sum, inward_sum, is_inward_stanza}
 use Rattle.world_laws.proofs.Below.{Below}
 use Rattle.world_laws.proofs.GrownLemmas.{state_after}
 use Rattle.world_laws.proofs.SeenLemmas.{AllPassed, IsPassedTurn, arrives_passed, gives_passed, passed_told, shuts_passed, time_passed, turned_passed}
 use Rattle.two_ends.proofs.GivenLemmas.{back_gives, call_is_made, closing_gives_none, given_is, given_same, greeting_given, settled_given, settled_made, stanzas, taken_one}
-use Rattle.two_ends.proofs.TakingLemmas.{called_state}
+use Rattle.session_calls.proofs.TakingLemmas.{called_state}
 
 -- the sums of a manager after what came to it, of which this was told
 pub record TurnGrows (before : Option PlainManager) (given : ℕ) (turn : Turn) : Type 0 where

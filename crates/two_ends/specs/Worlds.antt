@@ -1,5 +1,5 @@
 -- What the code keeps of a world stands for the plain one.
-use Rattle.std.specs.Prelude.{◌≡◌, ℕ, ⊤, List, [], Option, Some, None, map}
+use Rattle.std.specs.Prelude.{◌≡◌, ℕ, ⊤, List, Option, Some, None, map}
 use Rattle.bosh_client.specs.PlainClient.{bytes_of}
 use Rattle.bosh_client.specs.Promises.{Begins}
 use Rattle.bosh_client.specs.StandsFor.{StandsFor}

@@ -5,7 +5,6 @@
 mod answering;
 mod arriving;
 mod asking;
-mod calls;
 mod client_side;
 mod laws;
 mod manager;

@@ -10,13 +10,14 @@ ghost use Rattle.session_core.specs.Machine.{Opening, back, back_closed, created
 ghost use Rattle.session_core.specs.State.{is_over};
 ghost use Rattle.session_journal.specs.Stored.{IsJournalOf};
 ghost use Rattle.world_laws.specs.declared.told.Told.TheVariants.{Passed};
-ghost use Rattle.world_laws.specs.Manager.{PlainManager, all_collected, all_passed, arrived, arrives, collected_told, ending_told, gives, opens, passes, session, shuts, still, still_parked, told_in, told_of, turned, unpassed};
+ghost use Rattle.session_calls.specs.After.{all_taken, untaken};
+ghost use Rattle.world_laws.specs.Manager.{PlainManager, all_collected, arrived, arrives, collected_told, ending_told, gives, opens, passes, session, shuts, still, still_parked, told_in, told_of, turned};
 ghost use Rattle.two_ends.specs.Stands.{IsManager, IsTurn};
 
-use crate::calls::{arrive, back, back_closed, collect, take_inward, tick};
 use body_writer::{AnswerKind, AnswerParts, write_answer};
 use bosh_types::{Closing, Condition, Ending, Moment, Rid, SharedText, Stanzas};
 use session_attrs::Request;
+use session_calls::{arrive, back, back_closed, collect, take_inward, tick};
 use session_core::{Arrived, Collected, Taken, Ticked};
 use session_journal::Journalled;
 use std::alloc::{AllocError, Global};
@@ -197,7 +198,7 @@ fn ending_told(was_over: bool, ending: Option<Ending>) -> Option<Told>
 // All that goes inward is passed on and told.
 fn pass_all(session: &mut Journalled, told: &mut Vec<Told>) -> Result<(), AllocError>
     ensures { (journal : Journal) → IsJournalOf session.old journal → OnOk result (
-        (told.new.items ≡ told.old.items ++ map Passed (unpassed journal)) × IsJournalOf session.new (all_passed journal)) }
+        (told.new.items ≡ told.old.items ++ map Passed (untaken journal)) × IsJournalOf session.new (all_taken journal)) }
 {
     while let Some(item) = take_inward(session)? {
         told.push(Told::Passed(item))?;

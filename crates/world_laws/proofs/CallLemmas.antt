@@ -13,7 +13,7 @@ use Rattle.session_core.specs.Run.{arrival_in, arrivals_of, moment_after}
 use Rattle.session_core.specs.State.{PlainSession, is_over}
 use Rattle.session_core.specs.Time.{is_due}
 use Rattle.session_laws.proofs.Followed.{arrivals-push, moment-push, moment_of}
-use Rattle.world_laws.specs.Manager.{after_call, with_entered}
+use Rattle.session_calls.specs.After.{after_call, with_entered}
 use Rattle.world_laws.specs.Sound.{IsSent}
 
 -- what a call enters is the call, or its limit

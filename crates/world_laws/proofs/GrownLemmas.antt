@@ -7,7 +7,8 @@ use Rattle.session_core.specs.Run.{arrivals_of}
 use Rattle.session_core.specs.State.{PlainSession}
 use Rattle.session_laws.proofs.Followed.{every_tells, moment_of}
 use Rattle.world_laws.specs.declared.told.Parked.{Parked}
-use Rattle.world_laws.specs.Manager.{after_call, all_collected, all_passed, unpassed, with_entered, with_passed}
+use Rattle.session_calls.specs.After.{after_call, all_taken, untaken, with_entered, with_taken}
+use Rattle.world_laws.specs.Manager.{all_collected}
 use Rattle.world_laws.specs.Sound.{IsSent, IsTicketOf}
 use Rattle.world_laws.proofs.Below.{Below}
 use Rattle.world_laws.proofs.CallLemmas.{Brings, arrivals_after, moment_later, told_by}
@@ -79,14 +80,14 @@ module _ (below : Below) where
           subst (λ (n : ℕ). n ≤ moment) (sym (every_tells (after_call j call) later).now) (moment_later sent moment j call brings before);
     }
 
-    passed_grows : (count : ℕ) (j : Journal) → IsJournal j → Grown sent moment j (with_passed count j)
+    passed_grows : (count : ℕ) (j : Journal) → IsJournal j → Grown sent moment j (with_taken count j)
     passed_grows zero j made = grown_none sent moment j made
     passed_grows (suc count) j made =
         let one = call_grows j TakeInward tt tt made in
         grown_then sent moment j (after_call j TakeInward) _ one (passed_grows count (after_call j TakeInward) one.made)
 
-    pub all_passed_grows : (j : Journal) → IsJournal j → Grown sent moment j (all_passed j)
-    all_passed_grows j made = passed_grows (length (unpassed j)) j made
+    pub all_passed_grows : (j : Journal) → IsJournal j → Grown sent moment j (all_taken j)
+    all_passed_grows j made = passed_grows (length (untaken j)) j made
 
     pub collected_grows : (j : Journal) (parked : List Parked) → IsJournal j → Grown sent moment j (all_collected j parked)
     collected_grows j [] made = grown_none sent moment j made

@@ -25,7 +25,8 @@ use Rattle.world_laws.specs.declared.seen.SeenItem.{SeenItem}
 use Rattle.world_laws.specs.declared.told.Parked.{Parked}
 use Rattle.world_laws.specs.declared.told.Told.{Told}
 use Rattle.world_laws.specs.declared.told.Told.TheVariants as tells
-use Rattle.world_laws.specs.Manager.{PlainManager, Turn, after_call, all_collected, all_passed, arrived, arrives, collected_told, ending_told, gives, not_found, passes as passes_time, session, settled, shuts, ticked, told_of, turned, unpassed, with_entered, with_journal, with_parked, with_passed}
+use Rattle.session_calls.specs.After.{after_call, all_taken, untaken, with_entered, with_taken}
+use Rattle.world_laws.specs.Manager.{PlainManager, Turn, all_collected, arrived, arrives, collected_told, ending_told, gives, not_found, passes as passes_time, session, settled, shuts, ticked, told_of, turned, with_journal, with_parked}
 use Rattle.world_laws.specs.Promises.{in_front, picked, seen_handed, seen_inward}
 use Rattle.world_laws.specs.Steps.{numbered}
 use Rattle.world_laws.proofs.Below.{Below}
@@ -94,16 +95,16 @@ ended_none true ending = refl
 ended_none false None = refl
 ended_none false (Some ending) = refl
 
-turned_told : (was_over : Bool) (m : PlainManager) (answer : List Told) → passed_told answer ≡ [] → passed_told (turned was_over m answer).told ≡ unpassed m.journal
+turned_told : (was_over : Bool) (m : PlainManager) (answer : List Told) → passed_told answer ≡ [] → passed_told (turned was_over m answer).told ≡ untaken m.journal
 turned_told was_over m answer none =
-    let collected = collected_told (all_passed m.journal) m.parked in
+    let collected = collected_told (all_taken m.journal) m.parked in
     let ended = ending_told was_over (session (settled m)).ending in
     let rest : passed_told (answer ++ (collected ++ ended)) ≡ [] =
     told-append answer (collected ++ ended) ∙ ap (λ (l : List Inward). l ++ passed_told (collected ++ ended)) none
-    ∙ told-append collected ended ∙ ap (λ (l : List Inward). l ++ passed_told ended) (collected_none (all_passed m.journal) m.parked) ∙ ended_none was_over (session (settled m)).ending in
-    told-append (map tells.Passed (unpassed m.journal)) (answer ++ (collected ++ ended))
-    ∙ ap (λ (l : List Inward). l ++ passed_told (answer ++ (collected ++ ended))) (all_told (unpassed m.journal))
-    ∙ ap (λ (l : List Inward). unpassed m.journal ++ l) rest ∙ append-nil (unpassed m.journal)
+    ∙ told-append collected ended ∙ ap (λ (l : List Inward). l ++ passed_told ended) (collected_none (all_taken m.journal) m.parked) ∙ ended_none was_over (session (settled m)).ending in
+    told-append (map tells.Passed (untaken m.journal)) (answer ++ (collected ++ ended))
+    ∙ ap (λ (l : List Inward). l ++ passed_told (answer ++ (collected ++ ended))) (all_told (untaken m.journal))
+    ∙ ap (λ (l : List Inward). untaken m.journal ++ l) rest ∙ append-nil (untaken m.journal)
 
 -- What was passed on.
 
@@ -176,7 +177,7 @@ module _ (below : Below) where
       take_all (x ∷ xs) = ap (λ (l : List Inward). x ∷ l) (take_all xs)
 
   with_passed_is : (count : ℕ) (j : Journal) → IsJournal j → (state_of j).passed + count ≡ length (inward (state_of j))
-      → (inward (state_of (with_passed count j)) ≡ inward (state_of j)) × ((state_of (with_passed count j)).passed ≡ length (inward (state_of j)))
+      → (inward (state_of (with_taken count j)) ≡ inward (state_of j)) × ((state_of (with_taken count j)).passed ≡ length (inward (state_of j)))
   with_passed_is zero j made all = (refl, omega (arith, all))
   with_passed_is (suc count) j made all =
       let s = state_of j in
@@ -187,12 +188,12 @@ module _ (below : Below) where
       (later.0 ∙ ap inward state, later.1 ∙ ap (λ (t : PlainSession). length (inward t)) state)
 
   all_passed_is : (j : Journal) → IsJournal j → (state_of j).passed ≤ length (inward (state_of j))
-      → (inward (state_of (all_passed j)) ≡ inward (state_of j)) × ((state_of (all_passed j)).passed ≡ length (inward (state_of j)))
+      → (inward (state_of (all_taken j)) ≡ inward (state_of j)) × ((state_of (all_taken j)).passed ≡ length (inward (state_of j)))
   all_passed_is j made within =
       let s = state_of j in
-      with_passed_is (length (unpassed j)) j made (omega (arith, within, length-drop s.passed (inward s)))
+      with_passed_is (length (untaken j)) j made (omega (arith, within, length-drop s.passed (inward s)))
 
-  with_passed_made : (count : ℕ) (j : Journal) → IsJournal j → IsJournal (with_passed count j)
+  with_passed_made : (count : ℕ) (j : Journal) → IsJournal j → IsJournal (with_taken count j)
   with_passed_made zero j made = made
   with_passed_made (suc count) j made = with_passed_made count (after_call j TakeInward) (call_made below [] 0 j TakeInward tt made)
 
@@ -213,7 +214,7 @@ module _ (below : Below) where
   turned_passed was_over m answer items none made h =
       let s = session m in
       let passed = all_passed_is m.journal made h.within in
-      let collected = collected_is (all_passed m.journal) m.parked (with_passed_made (length (unpassed m.journal)) m.journal made) in
+      let collected = collected_is (all_taken m.journal) m.parked (with_passed_made (length (untaken m.journal)) m.journal made) in
       let whole : items ++ passed_told (turned was_over m answer).told ≡ inward s =
       ap (λ (l : List Inward). items ++ l) (turned_told was_over m answer none) ∙ ap (λ (l : List Inward). l ++ drop s.passed (inward s)) h.are ∙ take-append-drop s.passed (inward s) in
       record {

@@ -25,7 +25,8 @@ use Rattle.bosh_client.specs.PlainClient.{Taken}
 use Rattle.world_laws.specs.declared.told.Parked.{Parked}
 use Rattle.world_laws.specs.declared.told.Told.{Told}
 use Rattle.world_laws.specs.declared.told.Told.TheVariants as tells
-use Rattle.world_laws.specs.Manager.{PlainManager, Turn, after_call, all_collected, all_passed, arrived, arrives, collected_told, ending_told, gives, not_found, passes, session, settled, shuts, still, still_parked, ticked, told_of, turned, unpassed, with_journal, with_parked}
+use Rattle.session_calls.specs.After.{after_call, all_taken, untaken}
+use Rattle.world_laws.specs.Manager.{PlainManager, Turn, all_collected, arrived, arrives, collected_told, ending_told, gives, not_found, passes, session, settled, shuts, still, still_parked, ticked, told_of, turned, with_journal, with_parked}
 use Rattle.world_laws.specs.Sound.{IsAnswerTo, IsOpenedBy, IsParkedAt, IsSoundManager, IsTicketOf, body_taken}
 use Rattle.world_laws.specs.Steps.{answers_in}
 use Rattle.world_laws.proofs.Below.{Below}
@@ -57,12 +58,12 @@ none_ended false None = refl
 none_ended false (Some ending) = refl
 
 turned_answers : (was_over : Bool) (m : PlainManager) (answer : List Told)
-    → answers_in (turned was_over m answer).told ≡ answers_in answer ++ answers_in (collected_told (all_passed m.journal) m.parked)
+    → answers_in (turned was_over m answer).told ≡ answers_in answer ++ answers_in (collected_told (all_taken m.journal) m.parked)
 turned_answers was_over m answer =
-    let collected = collected_told (all_passed m.journal) m.parked in
+    let collected = collected_told (all_taken m.journal) m.parked in
     let ended = ending_told was_over (session (settled m)).ending in
-    answers-append (map tells.Passed (unpassed m.journal)) (answer ++ (collected ++ ended))
-    ∙ ap (λ l. l ++ answers_in (answer ++ (collected ++ ended))) (none_passed (unpassed m.journal))
+    answers-append (map tells.Passed (untaken m.journal)) (answer ++ (collected ++ ended))
+    ∙ ap (λ l. l ++ answers_in (answer ++ (collected ++ ended))) (none_passed (untaken m.journal))
     ∙ answers-append answer (collected ++ ended)
     ∙ ap (λ l. answers_in answer ++ l) (answers-append collected ended ∙ ap (λ l. answers_in collected ++ l) (none_ended was_over (session (settled m)).ending) ∙ append-nil (answers_in collected))
 
@@ -148,7 +149,7 @@ module _ (below : Below) (setup : ClientSetup) (sent written : List (ℕ × List
   pub turned_sound : (was_over : Bool) (m : PlainManager) (answer : List Told) → All (IsAnswerTo (session m)) (answers_in answer)
       → IsSoundManager setup sent written answers moment m → IsSoundTurn setup sent written answers moment (turned was_over m answer)
   turned_sound was_over m answer answered h =
-      let j = all_passed m.journal in
+      let j = all_taken m.journal in
       let k = all_collected j m.parked in
       let passed = all_passed_grows below sent moment m.journal h.made in
       let g = grown_then sent moment m.journal j k passed (collected_grows below sent moment j m.parked passed.made) in

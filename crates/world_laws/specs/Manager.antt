@@ -1,9 +1,8 @@
 -- The manager's end: what comes to its session, and what is then seen of it.
-use Rattle.std.specs.Prelude.{ℕ, zero, suc, Bool, true, false, List, [], ◌∷◌, ◌++◌, map, drop, length, Option, Some, None}
+use Rattle.std.specs.Prelude.{ℕ, Bool, true, false, List, [], ◌∷◌, ◌++◌, map, Option, Some, None}
 use Rattle.bosh_types.specs.declared.condition.Condition.TheVariants.{ItemNotFound}
 use Rattle.bosh_types.specs.declared.ending.Closing.{Closing}
 use Rattle.bosh_types.specs.declared.ending.Ending.{Ending}
-use Rattle.bosh_types.specs.declared.inward.Inward.{Inward}
 use Rattle.body_writer.specs.Answer.{answer_text}
 use Rattle.session_attrs.specs.declared.request.Request.{Request}
 use Rattle.session_core.specs.declared.replies.Arrived.{Arrived}
@@ -14,10 +13,10 @@ use Rattle.session_core.specs.declared.replies.Ticked.{Ticked}
 use Rattle.session_core.specs.declared.replies.Ticked.TheVariants as ticks
 use Rattle.session_core.specs.Copy.{unnamed}
 use Rattle.session_core.specs.Endings.{terminal}
-use Rattle.session_core.specs.Journal.{Call, Arrive, Collect, Back, BackClosed, Tick, TakeInward, Entered, Journal, entered_by, state_of}
+use Rattle.session_core.specs.Journal.{Arrive, Collect, Back, BackClosed, Tick, Journal, state_of}
 use Rattle.session_core.specs.Machine.{Opening, arrive, collect, created_parts, tick}
-use Rattle.session_core.specs.State.{PlainSession, inward, is_over}
-use Rattle.session_laws.specs.Growing.{with_later}
+use Rattle.session_core.specs.State.{PlainSession, is_over}
+use Rattle.session_calls.specs.After.{after_call, all_taken, untaken}
 use Rattle.world_laws.specs.declared.told.Parked.{Parked}
 use Rattle.world_laws.specs.declared.told.Told.{Told}
 use Rattle.world_laws.specs.declared.told.Told.TheVariants as tells
@@ -29,25 +28,6 @@ pub record PlainManager : Type 0 where
 
 abbrev pub session : PlainManager → PlainSession
 session m = state_of m.journal
-
--- the journal is longer by what a call enters, if it enters something; it has one caller
-abbrev pub with_entered : Journal → Option Entered → Journal
-with_entered journal None = journal
-with_entered journal (Some entered) = with_later journal (record { caller = 0; entered = entered } ∷ [])
-
-abbrev pub after_call : Journal → Call → Journal
-after_call journal call = with_entered journal (entered_by (state_of journal) call)
-
--- what goes inward and wasn't passed on yet, and the journal once so many items were
-abbrev pub unpassed : Journal → List Inward
-unpassed journal = drop (state_of journal).passed (inward (state_of journal))
-
-abbrev pub with_passed : ℕ → Journal → Journal
-with_passed zero journal = journal
-with_passed (suc count) journal = with_passed count (after_call journal TakeInward)
-
-abbrev pub all_passed : Journal → Journal
-all_passed journal = with_passed (length (unpassed journal)) journal
 
 -- what there is for the ticket of a request that waits, what is told of that, and whether it waits on
 abbrev pub fate : Journal → Parked → Collected
@@ -87,8 +67,8 @@ pub record Turn : Type 0 where
 
 abbrev pub settled : PlainManager → PlainManager
 settled m = record {
-  journal = all_collected (all_passed m.journal) m.parked;
-  parked = still_parked (all_passed m.journal) m.parked;
+  journal = all_collected (all_taken m.journal) m.parked;
+  parked = still_parked (all_taken m.journal) m.parked;
 }
 
 -- what is told, if it is
@@ -105,8 +85,8 @@ ending_told false (Some ending) = tells.Over ending ∷ []
 -- after a call these are told: what was passed on, the answer of the arriving copy, what was collected, and the ending
 abbrev pub turned : Bool → PlainManager → List Told → Turn
 turned was_over m answer = record {
-  told = map tells.Passed (unpassed m.journal)
-      ++ (answer ++ (collected_told (all_passed m.journal) m.parked ++ ending_told was_over (session (settled m)).ending));
+  told = map tells.Passed (untaken m.journal)
+      ++ (answer ++ (collected_told (all_taken m.journal) m.parked ++ ending_told was_over (session (settled m)).ending));
   after = settled m;
 }
 

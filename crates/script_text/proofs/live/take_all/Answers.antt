@@ -1,4 +1,4 @@
-use Rattle.std.proofs.Common.{◌≡◌, ◌∙◌, Option, Some, None, refl, ap, subst, sym}
+use Rattle.std.proofs.Common.{◌≡◌, ◌∙◌, Option, Some, None, refl, subst, sym}
 use Rattle.bosh_types.specs.declared.inward.Inward.{Inward}
 use Rattle.script_text.proofs.TakingLemmas.{TakesOn, takes_more, takes_end}
 use Rattle.script_text.proofs.live.take_all.Goals as goal

@@ -1,6 +1,6 @@
 use Rattle.session_core.specs.Journal.{Journal}
 use Rattle.session_journal.specs.Stored.{IsJournalOf}
-use Rattle.script_text.specs.Stands.{left_in}
+use Rattle.session_calls.specs.After.{left_in}
 use Rattle.script_text.proofs.TakingLemmas.{TakesOn}
 use Rattle.script_text.proofs.live.take_all.Given as goal
 

@@ -1,6 +1,6 @@
 use Rattle.session_core.specs.Journal.{Journal}
 use Rattle.session_journal.specs.Stored.{IsJournalOf}
-use Rattle.two_ends.specs.Stands.{left_in}
+use Rattle.session_calls.specs.After.{left_in}
 use Rattle.two_ends.proofs.TakingLemmas.{TakesOn}
 use Rattle.two_ends.proofs.manager.pass_all.Given as goal
 

@@ -1,9 +1,10 @@
-use Rattle.std.proofs.Common.{◌≡◌, ◌∙◌, ◌++◌, ap, subst, sym, map}
+use Rattle.std.proofs.Common.{◌∙◌, ◌++◌, ap, subst, map}
 use Rattle.session_core.specs.Journal.{state_of}
 use Rattle.session_journal.specs.Stored.{IsJournalOf}
 use Rattle.session_journal.proofs.JournalLemmas.{one_journal}
 use Rattle.script_text.specs.declared.report.ReportLine.TheVariants.{In}
-use Rattle.script_text.specs.Live.{all_collected, all_taken, collected_lines, over_lines, still_parked, untold}
+use Rattle.session_calls.specs.After.{all_taken, untaken}
+use Rattle.script_text.specs.Live.{all_collected, collected_lines, over_lines, still_parked}
 use Rattle.script_text.proofs.LiveLemmas.{joined}
 use Rattle.script_text.proofs.live.Live.told.Goals as goal
 
@@ -17,7 +18,7 @@ returns c = λ s is.
     ∙ ap (λ p. all_collected (all_taken s.journal) p) same) in
     record {
       lines = joined _ _ _ _ _ _ _ _ _
-          (taken.0 ∙ ap (λ n. c.args.lines.items ++ map (In n) (untold s.journal)) is.number)
+          (taken.0 ∙ ap (λ n. c.args.lines.items ++ map (In n) (untaken s.journal)) is.number)
           c.in_ok-push_line.ensures
           (collected.0 ∙ ap (λ p. c.push_line.new.lines.items ++ collected_lines (all_taken s.journal) p) same)
           (c.in_ok-push_line-2.ensures ∙ ap (λ l. c.collect_all.new.lines.items ++ l) (c.over_line.ensures

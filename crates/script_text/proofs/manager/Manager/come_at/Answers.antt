@@ -1,4 +1,4 @@
-use Rattle.std.proofs.Common.{◌≡◌, ◌∙◌, ◌++◌, List, take, drop, suc, refl, sym, subst}
+use Rattle.std.proofs.Common.{◌++◌, List, take, drop, refl, sym, subst}
 use Rattle.std.proofs.lemmas.Option.{slice_get_read}
 use Rattle.script_text.specs.Live.{PlainLive, if_live, turn_at}
 use Rattle.script_text.specs.Manager.{comes_at}

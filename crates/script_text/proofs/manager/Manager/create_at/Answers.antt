@@ -1,4 +1,4 @@
-use Rattle.std.proofs.Common.{◌≡◌, ◌∙◌, ◌+◌, ◌<◌, length, ap, ap₂, arith, sym, subst, if◌then◌else◌}
+use Rattle.std.proofs.Common.{◌∙◌, ◌+◌, ◌<◌, length, ap, ap₂, arith, sym, subst, if◌then◌else◌}
 use Rattle.std.specs.List.{slice_get}
 use Rattle.bosh_types.specs.declared.condition.Condition.TheVariants.{UndefinedCondition}
 use Rattle.script_text.specs.declared.manager.Changed.{Changed}

@@ -1,5 +1,4 @@
-use Rattle.std.proofs.Common.{◌≡◌, ◌∙◌, [], ◌∷◌, Some, refl, ap, sym, subst, arith}
-use Rattle.bosh_types.specs.declared.hosts.HostName.{HostName}
+use Rattle.std.proofs.Common.{◌∙◌, [], ◌∷◌, refl, ap, sym, subst, arith}
 use Rattle.body_writer.specs.Answer.{answer_text}
 use Rattle.session_core.specs.Journal.{IsReadFrom}
 use Rattle.session_core.specs.Machine.{created_parts}

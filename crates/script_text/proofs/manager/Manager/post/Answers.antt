@@ -1,4 +1,4 @@
-use Rattle.std.proofs.Common.{◌≡◌, ◌∙◌, Some, ap, sym, subst}
+use Rattle.std.proofs.Common.{◌∙◌, ap, sym, subst}
 use Rattle.session_attrs.specs.Admission.{admitted_of}
 use Rattle.script_text.specs.Manager.{admitted_to, comes_to, number_of, posted_as, posted_by, request_in}
 use Rattle.script_text.specs.Stands.{IsChange}

@@ -1,6 +1,6 @@
 use Rattle.std.proofs.Common.{◌∙◌, [], ◌∷◌, ◌++◌, ap, sym, subst}
 use Rattle.world_laws.specs.declared.told.Told.TheVariants as tells
-use Rattle.world_laws.specs.Manager.{arrived, told_in, turned, with_parked}
+use Rattle.world_laws.specs.Manager.{arrived, turned, with_parked}
 use Rattle.two_ends.specs.Stands.{IsTurn}
 use Rattle.two_ends.proofs.TurnLemmas.{IfOk-from}
 use Rattle.two_ends.proofs.manager.Manager.arrived.Goals as goal

@@ -1,15 +1,15 @@
-use Rattle.std.proofs.Common.{◌∙◌, [], ap, sym, subst}
-use Rattle.session_core.specs.Journal.{Tick, state_of}
-use Rattle.session_core.specs.State.{is_over}
+use Rattle.std.proofs.Common.{◌∙◌, [], sym, subst}
+use Rattle.session_core.specs.Journal.{Tick}
 use Rattle.session_journal.specs.Stored.{IsJournalOf}
-use Rattle.world_laws.specs.Manager.{after_call, ticked, turned, with_journal}
+use Rattle.session_calls.specs.After.{after_call}
+use Rattle.world_laws.specs.Manager.{ticked, turned, with_journal}
 use Rattle.two_ends.specs.Stands.{IsTurn}
 use Rattle.two_ends.proofs.TurnLemmas.{IfOk-from, quiet_same}
 use Rattle.two_ends.proofs.manager.Manager.pass.Goals as goal
 
 pub returns-in-Quiet : goal.returns-in-Quiet
 returns-in-Quiet c = λ m is.
-    let call = c.in_ok-tick.ensures m.journal is.journal in
+    let call = c.in_ok-tick.ensures.reply m.journal is.journal in
     let quiet = sym c.in-Quiet.is ∙ call.0 in
     subst (λ t. IsTurn (record { told = c.new.result; manager = record { session = c.tick.new.session; parked = c.args.self.parked } })
     (ticked m (with_journal m (after_call m.journal (Tick c.args.now))) t)) quiet (record {
@@ -19,7 +19,7 @@ returns-in-Quiet c = λ m is.
 
 pub returns-in-Changed : goal.returns-in-Changed
 returns-in-Changed c = IfOk-from c.turned.result _ _ (λ done it m is.
-    let call = c.in_ok-tick.ensures m.journal is.journal in
+    let call = c.in_ok-tick.ensures.reply m.journal is.journal in
     let after = with_journal m (after_call m.journal (Tick c.args.now)) in
     subst (λ t. IsTurn done (ticked m after t)) (sym c.in-Changed.is ∙ call.0)
     (subst (λ over. IsTurn done (turned over after [])) (c.is_over-was_over.ensures m is) (it after (record { journal = call.1; parked = is.parked })))) c.turned.ensures

@@ -2,13 +2,14 @@ use Rattle.std.proofs.Common.{◌≡◌, ◌∙◌, ◌++◌, ap, subst}
 use Rattle.session_core.specs.Journal.{Journal, state_of}
 use Rattle.session_journal.specs.Stored.{IsJournalOf}
 use Rattle.session_journal.proofs.JournalLemmas.{one_journal}
-use Rattle.world_laws.specs.Manager.{all_collected, all_passed, collected_told, ending_told, session, settled, still_parked, told_in}
+use Rattle.session_calls.specs.After.{all_taken}
+use Rattle.world_laws.specs.Manager.{all_collected, collected_told, ending_told, still_parked}
 use Rattle.two_ends.proofs.TurnLemmas.{joined}
 use Rattle.two_ends.proofs.manager.Manager.turned.Goals as goal
 
 pub returns : goal.returns
 returns c = λ m is.
-    let j = all_passed m.journal in
+    let j = all_taken m.journal in
     let passed = c.in_ok-pass_all.ensures m.journal is.journal in
     let collected =
     subst (λ p. (c.collect_all.new.told.items ≡ c.push_told.new.told.items ++ collected_told j p) × (c.in_ok-left.left.items ≡ still_parked j p) × IsJournalOf c.collect_all.new.session (all_collected j p))

@@ -1,8 +1,5 @@
 use Rattle.std.proofs.Common.{◌∙◌, ◌+◌, ◌≤◌, ap, subst, sym, length, slice_get}
 use Rattle.std.specs.Prelude.{Some}
-use Rattle.session_journal.specs.Entries.{request_in}
-use Rattle.world_laws.specs.Steps.{carried}
-use Rattle.two_ends.specs.Worlds.{IsPlainStep}
 use Rattle.two_ends.proofs.CopyLemmas.{carry_none, carry_some}
 use Rattle.two_ends.proofs.TurnLemmas.{IfOk-from, some_of}
 use Rattle.two_ends.proofs.world.World.carry.Goals as goal

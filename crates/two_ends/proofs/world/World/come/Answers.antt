@@ -1,4 +1,4 @@
-use Rattle.std.proofs.Common.{◌∙◌, ap, subst, sym}
+use Rattle.std.proofs.Common.{◌∙◌, subst, sym}
 use Rattle.world_laws.specs.Steps.{comes}
 use Rattle.two_ends.specs.Worlds.{IsPlainStep}
 use Rattle.two_ends.proofs.CopyLemmas.{creation_is, later_is}

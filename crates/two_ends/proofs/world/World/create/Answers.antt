@@ -1,4 +1,4 @@
-use Rattle.std.proofs.Common.{◌∙◌, List, ℕ, [], ◌∷◌, ap, refl, subst, sym}
+use Rattle.std.proofs.Common.{◌∙◌, List, ℕ, [], ap, refl, subst, sym}
 use Rattle.body_writer.specs.Answer.{answer_text}
 use Rattle.session_core.specs.Journal.{IsOpening}
 use Rattle.session_core.specs.Machine.{Opening, created_parts}

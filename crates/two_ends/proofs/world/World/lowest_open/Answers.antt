@@ -1,4 +1,4 @@
-use Rattle.std.proofs.Common.{◌≡◌, ◌∙◌, ◌<◌, ◌≤◌, arith, length, sym}
+use Rattle.std.proofs.Common.{◌∙◌, ◌<◌, ◌≤◌, arith, length, sym}
 use Rattle.two_ends.proofs.AskLemmas.{finds_it, finds_none, look_begins, looks_on}
 use Rattle.two_ends.proofs.world.World.lowest_open.Goals as goal
 

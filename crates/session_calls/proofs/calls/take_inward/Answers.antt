@@ -1,4 +1,4 @@
-use Rattle.std.proofs.Common.{◌≡◌, List, Option, Some, None, refl, sym, ◌<◌}
+use Rattle.std.proofs.Common.{◌≡◌, List, Option, Some, None, ◌<◌}
 use Rattle.std.specs.Prelude.{IfSome}
 use Rattle.bosh_types.specs.declared.inward.Inward.{Inward}
 use Rattle.session_journal.specs.declared.call.Reply.{Reply}
@@ -7,10 +7,10 @@ use Rattle.session_journal.specs.declared.entry.Entry.{Entry}
 use Rattle.session_journal.specs.Calls.{reply_in}
 use Rattle.session_journal.specs.Stored.{Steps}
 use Rattle.session_core.specs.Journal.{TakeInward}
-use Rattle.two_ends.specs.Stands.{left_in}
-use Rattle.two_ends.proofs.CallLemmas.{take_to}
-use Rattle.two_ends.proofs.TakingLemmas.{fewer_left}
-use Rattle.two_ends.proofs.calls.take_inward.Goals as goal
+use Rattle.session_calls.specs.After.{left_in}
+use Rattle.session_calls.proofs.CallLemmas.{take_to}
+use Rattle.session_calls.proofs.TakingLemmas.{fewer_left}
+use Rattle.session_calls.proofs.calls.take_inward.Goals as goal
 
 fewer : (log later : List Entry) (told : Reply) (reply : Option Inward) → told ≡ tellings.TakeInward reply → Steps log 0 TakeInward (reply_in told) later
     → IfSome reply (λ item. left_in later < left_in log)

@@ -1,11 +1,10 @@
-// The calls that a world makes of a session, each told by the journal before it and the one after it.
-ghost use Rattle.std.specs.Prelude.{◌≡◌, ◌<◌, IfOk, IfSome};
+// Each call and its reply.
+ghost use Rattle.std.specs.Prelude.{◌≡◌, ◌<◌, IfOk, IfSome, OnErr};
 ghost use Rattle.session_core.specs.Copy.{unnamed};
 ghost use Rattle.session_core.specs.Journal.{Arrive, Back, BackClosed, Collect, IsAllowed, Journal, TakeInward, Tick, state_of};
 ghost use Rattle.session_core.specs.Machine.{arrive, back, back_closed, collect, take_inward, tick};
 ghost use Rattle.session_journal.specs.Stored.{IsJournalOf};
-ghost use Rattle.world_laws.specs.Manager.{after_call};
-ghost use Rattle.two_ends.specs.Stands.{left_in};
+ghost use Rattle.session_calls.specs.After.{after_call, left_in};
 
 use bosh_types::{Closing, Inward, Moment, SharedText, StreamNo, Ticket};
 use session_attrs::Request;
@@ -13,19 +12,20 @@ use session_core::{Arrived, Collected, Taken, Ticked};
 use session_journal::{Call, Journalled, Reply};
 use std::alloc::AllocError;
 
-// A world makes all calls itself.
+// The number that the one holder has in the journal.
 const CALLER: u32 = 0;
 
-// A request arrives.
-pub(crate) fn arrive(
+/// A request arrives. The only error is want of memory, as for the calls below; then nothing has changed.
+pub fn arrive(
     session: &mut Journalled,
     request: Request,
     body: SharedText,
     now: Moment,
 ) -> Result<Arrived, AllocError>
     requires { IsAllowed (Arrive request body now) }
-    ensures { IfOk result (λ reply. (journal : Journal) → IsJournalOf session.old journal
+    ensures reply { IfOk result (λ reply. (journal : Journal) → IsJournalOf session.old journal
         → (reply ≡ (arrive (state_of journal) request body now).1) × IsJournalOf session.new (after_call journal (Arrive request body now))) }
+    ensures err { OnErr result (session.new ≡ session.old) }
 {
     match session.step(CALLER, Call::Arrive { request, body, now })? {
         Reply::Arrive(arrived) => Ok(arrived),
@@ -33,15 +33,12 @@ pub(crate) fn arrive(
     }
 }
 
-// The server gives a stanza.
-pub(crate) fn back(
-    session: &mut Journalled,
-    stanza: SharedText,
-    now: Moment,
-) -> Result<Taken, AllocError>
+/// The server gives a stanza on the unnamed stream.
+pub fn back(session: &mut Journalled, stanza: SharedText, now: Moment) -> Result<Taken, AllocError>
     requires { IsAllowed (Back unnamed stanza now) }
-    ensures { IfOk result (λ reply. (journal : Journal) → IsJournalOf session.old journal
+    ensures reply { IfOk result (λ reply. (journal : Journal) → IsJournalOf session.old journal
         → (reply ≡ (back (state_of journal) unnamed stanza now).1) × IsJournalOf session.new (after_call journal (Back unnamed stanza now))) }
+    ensures err { OnErr result (session.new ≡ session.old) }
 {
     let stream = StreamNo::unnamed();
     match session.step(
@@ -58,15 +55,16 @@ pub(crate) fn back(
     }
 }
 
-// The server closes the stream.
-pub(crate) fn back_closed(
+/// The server closes the unnamed stream.
+pub fn back_closed(
     session: &mut Journalled,
     closing: Closing,
     now: Moment,
 ) -> Result<Taken, AllocError>
-    ensures { IfOk result (λ reply. (journal : Journal) → IsJournalOf session.old journal
+    ensures reply { IfOk result (λ reply. (journal : Journal) → IsJournalOf session.old journal
         → (reply ≡ (back_closed (state_of journal) unnamed closing now).1)
         × IsJournalOf session.new (after_call journal (BackClosed unnamed closing now))) }
+    ensures err { OnErr result (session.new ≡ session.old) }
 {
     let stream = StreamNo::unnamed();
     match session.step(
@@ -83,10 +81,11 @@ pub(crate) fn back_closed(
     }
 }
 
-// Time passes.
-pub(crate) fn tick(session: &mut Journalled, now: Moment) -> Result<Ticked, AllocError>
-    ensures { IfOk result (λ reply. (journal : Journal) → IsJournalOf session.old journal
+/// Time passes.
+pub fn tick(session: &mut Journalled, now: Moment) -> Result<Ticked, AllocError>
+    ensures reply { IfOk result (λ reply. (journal : Journal) → IsJournalOf session.old journal
         → (reply ≡ (tick (state_of journal) now).1) × IsJournalOf session.new (after_call journal (Tick now))) }
+    ensures err { OnErr result (session.new ≡ session.old) }
 {
     match session.step(CALLER, Call::Tick { now })? {
         Reply::Tick(ticked) => Ok(ticked),
@@ -94,11 +93,12 @@ pub(crate) fn tick(session: &mut Journalled, now: Moment) -> Result<Ticked, Allo
     }
 }
 
-// The next inward item is passed on.
-pub(crate) fn take_inward(session: &mut Journalled) -> Result<Option<Inward>, AllocError>
+/// The next inward item is taken, where one is left.
+pub fn take_inward(session: &mut Journalled) -> Result<Option<Inward>, AllocError>
     ensures fewer { IfOk result (λ reply. IfSome reply (λ item. left_in session.new < left_in session.old)) }
     ensures reply { IfOk result (λ reply. (journal : Journal) → IsJournalOf session.old journal
         → (reply ≡ (take_inward (state_of journal)).1) × IsJournalOf session.new (after_call journal TakeInward)) }
+    ensures err { OnErr result (session.new ≡ session.old) }
 {
     match session.step(CALLER, Call::TakeInward)? {
         Reply::TakeInward(item) => Ok(item),
@@ -106,8 +106,8 @@ pub(crate) fn take_inward(session: &mut Journalled) -> Result<Option<Inward>, Al
     }
 }
 
-// What there is for a ticket.
-pub(crate) fn collect(session: &mut Journalled, ticket: Ticket) -> Collected
+/// What there is for a ticket. Takes no memory.
+pub fn collect(session: &mut Journalled, ticket: Ticket) -> Collected
     ensures { (journal : Journal) → IsJournalOf session.old journal
         → (result ≡ (collect (state_of journal) ticket).1) × IsJournalOf session.new (after_call journal (Collect ticket)) }
 {

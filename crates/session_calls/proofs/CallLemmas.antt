@@ -18,12 +18,10 @@ use Rattle.session_journal.specs.declared.call.Reply.{Reply as Told}
 use Rattle.session_journal.specs.declared.call.Reply.TheVariants as tellings
 use Rattle.session_journal.specs.declared.entry.Entry.{Entry}
 use Rattle.session_journal.specs.Calls.{reply_in}
-use Rattle.session_journal.specs.Entries.{entered_in, journal_in}
 use Rattle.session_journal.specs.Stored.{Enters, IsJournalOf, Steps}
 use Rattle.session_journal.proofs.JournalLemmas.{journal_append, one_entry, one_journal}
-use Rattle.session_laws.specs.Growing.{with_later}
 use Rattle.session_laws.proofs.OneMore.{one_more}
-use Rattle.script_text.specs.Live.{after_call, with_entered}
+use Rattle.session_calls.specs.After.{after_call, with_entered}
 
 abbrev pub told_by : plain.Entered → plain.Entry
 told_by entered = record { caller = 0; entered = entered }

@@ -1,5 +1,0 @@
-use Rattle.script_text.proofs.CallLemmas.{collect_to}
-use Rattle.script_text.proofs.calls.collect.Goals as goal
-
-pub returns : goal.returns
-returns c = λ journal is. collect_to _ _ journal is _ _ c.poll.ensures
