@@ -1,6 +1,6 @@
 // A network over loopback that notes what its links read, and may drop every third answer; and a source that goes on once what it gave
 // before was read back.
-ghost use Rattle.std.specs.Prelude.{None};
+ghost use Rattle.std.specs.Prelude.{◌≡◌, None};
 
 use bosh_ports::{Gave, Got, Link, QuietSource, Source};
 use server_ports::{Accepted, Dialled, NetLink, Network, Opened, Shared, TcpNetwork};
