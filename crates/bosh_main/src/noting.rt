@@ -236,7 +236,10 @@ impl<R: Wait + Clock + Copy + Drop> Source for Patient<R> {
     ghost faults = { λ _. 0 };
 
     fn take(&mut self, into: &mut [u8]) -> Got {
-        while let Some(part) = self.parts.pop_front() {
+        for _ in 0..self.parts.len() {
+            let Some(part) = self.parts.pop_front() else {
+                break;
+            };
             let mut part = part;
             if let Got::Bytes(n) = part.bytes.take(into) {
                 if self.parts.push_front(part).is_err() {
