@@ -5,6 +5,3 @@
 mod acks;
 
 pub use acks::Acks;
-
-#[cfg(test)]
-mod tests;

@@ -32,6 +32,3 @@ pub use laws::{
 pub use parts::{Attr, Attrs, Cut, CutError, CutRefusal, Span, Spans};
 pub use prefixes::prefixes_are_viable_where_read;
 pub use whole_text::{cut, read_stanza};
-
-#[cfg(test)]
-mod tests;

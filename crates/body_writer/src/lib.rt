@@ -9,6 +9,3 @@ mod request;
 pub use answer::{AnswerKind, AnswerParts, Created, write_answer};
 pub use laws::{answers_read_back, requests_read_back};
 pub use request::{RequestParts, write_request};
-
-#[cfg(test)]
-mod tests;

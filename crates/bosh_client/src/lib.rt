@@ -18,8 +18,6 @@ mod replies;
 mod requesting;
 mod said;
 mod setup;
-#[cfg(test)]
-mod tests;
 mod told;
 
 pub use agreed::Agreed;

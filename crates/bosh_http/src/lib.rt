@@ -17,8 +17,6 @@ mod room;
 mod scan;
 mod taken;
 mod target;
-#[cfg(test)]
-mod tests;
 mod words;
 mod writing;
 

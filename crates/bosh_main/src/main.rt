@@ -1,29 +1,9 @@
 // The program: it hands its words and the real streams to the top calls.
 #![tactic(auto)]
 
-mod asked;
-mod client_options;
-#[cfg(test)]
-mod client_tests;
-mod command;
-#[cfg(test)]
-mod limit_tests;
-#[cfg(test)]
-mod loopback_tests;
-#[cfg(test)]
-mod noting;
-mod number;
-mod options;
-mod run;
-#[cfg(test)]
-mod serve_tests;
-mod served;
-#[cfg(test)]
-mod tests;
-
-use crate::asked::run_asked;
-use crate::run::{NO_MEMORY, run_local, status_without_words};
-use crate::served::run_served;
+use bosh_commands::{
+    NO_MEMORY, run_client_command, run_local, run_serve_command, status_without_words,
+};
 use bosh_ports::{ReadSource, RealBell, Sink, Source, WriteSink};
 use bosh_server::Outside;
 use bosh_types::{Stanzas, Text};
@@ -124,7 +104,7 @@ where
         spawner: ThreadSpawner::new(alloc),
         names: RealNames::new(alloc, seed),
     };
-    let status = run_served(rt, alloc, words, sink, errors, &mut outside, hosts);
+    let status = run_serve_command(rt, alloc, words, sink, errors, &mut outside, hosts);
     let Outside {
         net: _net,
         clock: _clock,
@@ -167,7 +147,7 @@ where
         bell: RealBell::new(alloc, *rt)?,
         spawner: ThreadSpawner::new(alloc),
     };
-    let status = run_asked(rt, alloc, words, source, sink, &mut outside, &mut names);
+    let status = run_client_command(rt, alloc, words, source, sink, &mut outside, &mut names);
     let ClientOutside {
         net: _net,
         clock: _clock,

@@ -18,8 +18,6 @@ mod source;
 mod stream_link;
 mod streams;
 mod tcp;
-#[cfg(test)]
-mod tests;
 
 pub use bell::{Bell, BellKey, ListedBell, SteadyBell, Woken};
 pub use feed::{Fed, Feed, KeptContent};

@@ -11,8 +11,6 @@ mod queue;
 mod run;
 mod serving;
 mod starting;
-#[cfg(test)]
-mod tests;
 mod yard;
 
 pub use outside::Outside;

@@ -31,6 +31,3 @@ pub use row::Row;
 pub use shared::SharedText;
 pub use terms::Terms;
 pub use text::{Stanzas, Text};
-
-#[cfg(test)]
-mod tests;

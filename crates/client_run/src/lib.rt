@@ -18,8 +18,6 @@ mod queueing;
 mod running;
 mod site;
 mod talking;
-#[cfg(test)]
-mod tests;
 mod watch;
 mod worked;
 mod working;

@@ -9,6 +9,3 @@ mod maker;
 pub use bosh_types::Key;
 pub use check::{KeyCheck, Verdict};
 pub use maker::KeyMaker;
-
-#[cfg(test)]
-mod tests;

@@ -10,8 +10,6 @@ mod load_line;
 mod pair;
 mod report;
 mod run;
-#[cfg(test)]
-mod tests;
 
 pub use laws::reports_tell_of_one_world;
 pub use line::{ClientTerms, PairLine, read_pair_line};

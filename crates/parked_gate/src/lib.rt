@@ -10,8 +10,6 @@ mod object;
 mod pass;
 mod passes;
 mod steps;
-#[cfg(test)]
-mod tests;
 mod turn;
 mod view;
 mod waits;

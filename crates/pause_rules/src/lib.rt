@@ -8,6 +8,3 @@ mod mark;
 
 pub use deadlines::{Deadlines, PauseSet};
 pub use mark::Mark;
-
-#[cfg(test)]
-mod tests;

@@ -6,6 +6,3 @@ mod keep;
 
 pub use bosh_types::KeptAnswer;
 pub use keep::Keep;
-
-#[cfg(test)]
-mod tests;

@@ -5,6 +5,3 @@
 mod window;
 
 pub use window::{Placed, Window};
-
-#[cfg(test)]
-mod tests;

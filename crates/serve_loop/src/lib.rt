@@ -11,8 +11,6 @@ mod owed;
 mod refusing;
 mod serve;
 mod telling;
-#[cfg(test)]
-mod tests;
 mod trail;
 mod worker;
 

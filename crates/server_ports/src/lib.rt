@@ -17,8 +17,6 @@ mod real_clock;
 mod real_names;
 mod spawner;
 mod tcp_network;
-#[cfg(test)]
-mod tests;
 mod thread_spawner;
 mod timed_link;
 
@@ -33,6 +31,6 @@ pub use quiet_network::QuietNetwork;
 pub use real_clock::RealClock;
 pub use real_names::{RealNames, system_seed};
 pub use spawner::{Leave, Spawner};
-pub use tcp_network::{NetLink, TcpNetwork};
+pub use tcp_network::{NetLink, TcpNetwork, timed};
 pub use thread_spawner::ThreadSpawner;
 pub use timed_link::{Limits, Patient, TimedLink};

@@ -26,8 +26,8 @@ pub struct TcpNetwork<R: Net<Listener = TcpListener, Stream = TcpStream> + Copy 
     stops: u64,
 }
 
-// A link over a connection, with Nagle's algorithm off, so that small pieces are sent at once.
-pub(crate) fn timed(stream: TcpStream, limits: Limits) -> io::Result<NetLink>
+/// A link over a connection, with Nagle's algorithm off, so that small pieces are sent at once.
+pub fn timed(stream: TcpStream, limits: Limits) -> io::Result<NetLink>
     ensures { IfOk result (λ link. link.faults ≡ 0) }
 {
     stream.set_nodelay(true)?;

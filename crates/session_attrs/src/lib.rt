@@ -22,8 +22,3 @@ pub use refusal::{AttrRefusal, Numbered, RequestError};
 pub use request::{Creation, Kind, Request};
 pub use serving::{can_serve, is_allowed_text, is_host_name, is_stanza, may_greet};
 pub use terms::negotiate;
-
-#[cfg(test)]
-mod refusal_tests;
-#[cfg(test)]
-mod tests;

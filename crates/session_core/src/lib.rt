@@ -37,8 +37,3 @@ pub use place::Place;
 pub use replies::{Arrived, Collected, Taken, Ticked, Waiting};
 pub use session::Session;
 pub use tickets::{OpenTicket, Tickets};
-
-#[cfg(test)]
-mod call_tests;
-#[cfg(test)]
-mod tests;

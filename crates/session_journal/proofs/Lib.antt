@@ -6,4 +6,3 @@ pub mod Standing
 pub mod SeenLemmas
 pub mod Stepping
 pub mod ObjectLemmas
-pub mod TestOpening

@@ -16,6 +16,3 @@ pub use call::{Call, Reply};
 pub use entry::{Entered, Entry, Limited};
 pub use journalled::Journalled;
 pub use laws::what_was_seen_keeps_the_laws;
-
-#[cfg(test)]
-mod tests;

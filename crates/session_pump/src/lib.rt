@@ -10,8 +10,6 @@ mod polling;
 mod pump;
 mod serving;
 mod session;
-#[cfg(test)]
-mod tests;
 mod turn;
 
 pub use hosts::{Host, Hosts, Replaced, Stand};

@@ -9,5 +9,4 @@ mod ReplyLemmas
 mod PurseLemmas
 mod PassLemmas
 mod HoldingLemmas
-pub mod TestOpening
 pub mod Crossing

@@ -12,8 +12,6 @@ mod opening;
 mod purse;
 mod serving;
 mod sid;
-#[cfg(test)]
-mod tests;
 
 pub use calls::{
     DirectoryCall, DirectoryReply, LiveSession, LiveSessions, NewSession, Opened, Question,

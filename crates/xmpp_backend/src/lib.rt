@@ -13,8 +13,6 @@ mod room;
 mod scripted;
 mod stanza;
 mod tally;
-#[cfg(test)]
-mod tests;
 mod wires;
 
 pub use backend::{Backend, Given, Passed, Polled};

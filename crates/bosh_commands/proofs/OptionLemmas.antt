@@ -1,0 +1,91 @@
+-- What the parser of words says of the options.
+use Rattle.std.proofs.Common.{◌≡◌, ◌≢◌, ◌⊎◌, List, [], ◌∷◌, Bool, Option, None, Result, Ok, Err, IfOk, true, false, ap, sym, refl, subst, ◌∙◌, inl, inr, codes}
+use Rattle.clap.specs.Words.{HasKind, IsAmong, Kinds, Row, Text, first_of, first_value, is_simple, is_simple_and_free, kind_of, rows_of}
+use Rattle.clap.specs.declared.error.Error.{Error}
+use Rattle.clap.specs.declared.error.kind.ErrorKind.{ErrorKind}
+use Rattle.clap.specs.declared.error.kind.ErrorKind.TheVariants.{DisplayHelp, DisplayVersion, OutOfMemory}
+use Rattle.clap.specs.declared.parser.matches.Found.{Found}
+use Rattle.clap.proofs.OnLiterals.{clap_on_literals}
+use Rattle.clap.proofs.WalkLemmas.{first_value-rows}
+use Rattle.bosh_commands.specs.declared.options.ServeOptions.{ServeOptions}
+use Rattle.bosh_commands.specs.declared.options.Wanted.{Wanted}
+use Rattle.bosh_commands.specs.Options.{ShowsWhatIsAsked, number_in, options_by, options_from, options_of, options_wanted, serve_app}
+
+pub serve_is_simple : is_simple serve_app ≡ true
+unfolding clap_on_literals
+serve_is_simple = refl
+
+pub serve_is_free : is_simple_and_free serve_app ≡ true
+unfolding clap_on_literals
+serve_is_free = refl
+
+-- without a fault, the options are those of the rows
+pub by_rows : (f : Found) (kinds : Kinds) (rows : List Row) → kinds ≡ [] → rows_of f ≡ rows → options_of (λ id. first_value f id) ≡ options_by kinds rows
+by_rows f kinds rows none are =
+    let reads : (id : Text) → first_value f id ≡ first_of id rows = λ id. first_value-rows f id ∙ ap (first_of id) are in
+    let port = codes "port" in
+    let workers = codes "workers" in
+    let connections = codes "connections" in
+    ap (λ p. options_from (number_in 1 65535 p) (number_in 1 64 (first_value f workers)) (number_in 0 1048576 (first_value f connections))) (reads port)
+    ∙ ap (λ w. options_from (number_in 1 65535 (first_of port rows)) (number_in 1 64 w) (number_in 0 1048576 (first_value f connections))) (reads workers)
+    ∙ ap (λ c. options_from (number_in 1 65535 (first_of port rows)) (number_in 1 64 (first_of workers rows)) (number_in 0 1048576 c)) (reads connections)
+    ∙ sym (ap (λ k. options_by k rows) none)
+
+-- where the parser finds a fault, there are no options
+pub by_fault : (kinds : Kinds) (rows : List Row) (error : Error) → HasKind kinds error → kind_of error ≢ OutOfMemory → options_by kinds rows ≡ None
+by_fault [] rows error (inl memory) mistake = absurd (mistake memory)
+by_fault [] rows error (inr none) mistake = absurd none
+by_fault (kind ∷ kinds) rows error has mistake = refl
+
+pub none_wanted : {E : Type 0} (result : Result Wanted E) (P : Type 0) (options : Option ServeOptions) → IfOk result (λ wanted. options_wanted wanted ≡ None) → IfOk result (λ _. P) → (P → options ≡ None) → IfOk result (λ wanted. options_wanted wanted ≡ options)
+none_wanted (Ok wanted) P options none mistake by = none ∙ sym (by mistake)
+none_wanted (Err e) P options none mistake by = tt
+
+true_false : true ≡ false → ⊥
+true_false eq = cc eq
+
+no_kinds : (kind : ErrorKind) (kinds : Kinds) → kinds ≡ [] → kinds ≡ kind ∷ [] → ⊥
+no_kinds kind kinds none one = let never : kind ∷ [] ≡ [] = sym one ∙ none in cc never
+
+-- without a fault nothing is asked for
+pub asked_by_none : (kinds : Kinds) (shown : Bool) → kinds ≡ [] → shown ≡ false → ShowsWhatIsAsked kinds shown
+asked_by_none kinds shown none hidden = (
+  λ is. let never : true ≡ false = sym is ∙ hidden in absurd (true_false never),
+  λ asks. elim asks [
+    | inl help ↦ absurd (no_kinds DisplayHelp kinds none help)
+    | inr version ↦ absurd (no_kinds DisplayVersion kinds none version)
+  ],
+)
+
+pub asked_by_none_all : {T E : Type 0} (shown : T → Bool) (kinds : Kinds) → kinds ≡ [] → (result : Result T E) → IfOk result (λ wanted. shown wanted ≡ false)
+    → IfOk result (λ wanted. ShowsWhatIsAsked kinds (shown wanted))
+asked_by_none_all shown kinds none (Ok wanted) hidden = asked_by_none kinds (shown wanted) none hidden
+asked_by_none_all shown kinds none (Err e) hidden = tt
+
+only_kind : (k kind : ErrorKind) → (k ≡ kind) ⊎ ⊥ → k ≡ kind
+only_kind k kind (inl is) = is
+only_kind k kind (inr none) = absurd none
+
+-- what is asked for is told by the kind of the error
+pub asked_by_kind : (kinds : Kinds) (error : Error) → HasKind kinds error → kind_of error ≢ OutOfMemory → (shown : Bool)
+    → (shown ≡ true → (kind_of error ≡ DisplayHelp) ⊎ (kind_of error ≡ DisplayVersion))
+    → ((kind_of error ≡ DisplayHelp) ⊎ (kind_of error ≡ DisplayVersion) → shown ≡ true) → ShowsWhatIsAsked kinds shown
+asked_by_kind kinds error (inl memory) mistake shown shows so = absurd (mistake memory)
+asked_by_kind kinds error (inr among) mistake shown shows so = (
+  λ is. elim (shows is) [
+    | inl help ↦ inl (subst (λ kind. IsAmong kind kinds) help among)
+    | inr version ↦ inr (subst (λ kind. IsAmong kind kinds) version among)
+  ],
+  λ asks. elim asks [
+    | inl help ↦ so (inl (only_kind _ _ (subst (λ (kinds : Kinds). IsAmong (kind_of error) kinds) help among)))
+    | inr version ↦ so (inr (only_kind _ _ (subst (λ (kinds : Kinds). IsAmong (kind_of error) kinds) version among)))
+  ],
+)
+
+pub asked_by_fault : {T E : Type 0} (shown : T → Bool) (kinds : Kinds) (error : Error) → HasKind kinds error → (result : Result T E)
+    → IfOk result (λ _. kind_of error ≢ OutOfMemory)
+    → IfOk result (λ wanted. shown wanted ≡ true → (kind_of error ≡ DisplayHelp) ⊎ (kind_of error ≡ DisplayVersion))
+    → IfOk result (λ wanted. (kind_of error ≡ DisplayHelp) ⊎ (kind_of error ≡ DisplayVersion) → shown wanted ≡ true)
+    → IfOk result (λ wanted. ShowsWhatIsAsked kinds (shown wanted))
+asked_by_fault shown kinds error has (Ok wanted) mistake shows so = asked_by_kind kinds error has mistake (shown wanted) shows so
+asked_by_fault shown kinds error has (Err e) mistake shows so = tt

@@ -1,0 +1,38 @@
+use Rattle.std.proofs.Common.{◌≡◌, ◌≢◌, [], List, map, string_bytes, subst, true, ◌∙◌}
+use Rattle.clap.specs.Words.{App, FailsBy, HasMatchesOf, Text, app_of, fault_of, found_of, is_simple_and_free, kind_of, matches_of}
+use Rattle.clap.specs.declared.error.kind.ErrorKind.TheVariants.{OutOfMemory}
+use Rattle.bosh_commands.specs.Options.{is_shown, options_in, serve_app}
+use Rattle.bosh_commands.proofs.OptionLemmas.{asked_by_fault, asked_by_none, by_fault, by_rows, none_wanted, serve_is_free, serve_is_simple}
+use Rattle.bosh_commands.proofs.options.read_options.Goals as goal
+
+pub returns-in-Ok-clause-options : goal.returns-in-Ok-clause-options
+returns-in-Ok-clause-options c =
+    let words : List Text = map (λ word. string_bytes word) c.args.words.now in
+    let app_is : app_of c.in_ok-command.command ≡ serve_app = c.in_ok-command.ensures in
+    let none = subst (λ (a : App). is_simple_and_free a ≡ true → fault_of a words ≡ []) app_is c.in-Ok.ensures.kinds serve_is_free in
+    let rows = subst (λ (a : App). HasMatchesOf a words c.in-Ok.matches) app_is c.in-Ok.ensures.matches serve_is_simple in
+    c.wanted_by.ensures.options ∙ by_rows (found_of c.in-Ok.matches) (fault_of serve_app words) (matches_of serve_app words) none rows.0
+
+pub returns-in-Ok-clause-shows : goal.returns-in-Ok-clause-shows
+returns-in-Ok-clause-shows c =
+    let words : List Text = map (λ word. string_bytes word) c.args.words.now in
+    let app_is : app_of c.in_ok-command.command ≡ serve_app = c.in_ok-command.ensures in
+    let none = subst (λ (a : App). is_simple_and_free a ≡ true → fault_of a words ≡ []) app_is c.in-Ok.ensures.kinds serve_is_free in
+    asked_by_none (fault_of serve_app words) (is_shown c.wanted_by.result) none c.wanted_by.ensures.shows
+
+pub returns-in-Err-clause-options : goal.returns-in-Err-clause-options
+returns-in-Err-clause-options c =
+    let words : List Text = map (λ word. string_bytes word) c.args.words.now in
+    let app_is : app_of c.in_ok-command.command ≡ serve_app = c.in_ok-command.ensures in
+    let fails = subst (λ (a : App). is_simple_and_free a ≡ true → FailsBy (fault_of a words) c.try_get_matches_from.result) app_is c.try_get_matches_from.ensures.kinds serve_is_free in
+    let has = subst (FailsBy (fault_of serve_app words)) c.in-Err.is fails in
+    none_wanted c.without_matches.result (kind_of c.in-Err.error ≢ OutOfMemory) (options_in words) c.without_matches.ensures.none c.without_matches.ensures.mistake
+    (by_fault (fault_of serve_app words) (matches_of serve_app words) c.in-Err.error has)
+
+pub returns-in-Err-clause-shows : goal.returns-in-Err-clause-shows
+returns-in-Err-clause-shows c =
+    let words : List Text = map (λ word. string_bytes word) c.args.words.now in
+    let app_is : app_of c.in_ok-command.command ≡ serve_app = c.in_ok-command.ensures in
+    let fails = subst (λ (a : App). is_simple_and_free a ≡ true → FailsBy (fault_of a words) c.try_get_matches_from.result) app_is c.try_get_matches_from.ensures.kinds serve_is_free in
+    let has = subst (FailsBy (fault_of serve_app words)) c.in-Err.is fails in
+    asked_by_fault is_shown (fault_of serve_app words) c.in-Err.error has c.without_matches.result c.without_matches.ensures.mistake c.without_matches.ensures.shows c.without_matches.ensures.shown

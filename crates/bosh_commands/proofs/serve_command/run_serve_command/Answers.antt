@@ -1,0 +1,5 @@
+use Rattle.bosh_commands.proofs.StatusLemmas.{of_command}
+use Rattle.bosh_commands.proofs.serve_command.run_serve_command.Goals as goal
+
+pub returns-in-Ok-Serve-clause-statuses : goal.returns-in-Ok-Serve-clause-statuses
+returns-in-Ok-Serve-clause-statuses g c = of_command _ c.serve.ensures.statuses

@@ -1,0 +1,92 @@
+-- The words of the command `serve`.
+use Rattle.std.specs.Prelude.{ℕ, ◌≡◌, ◌⊎◌, ◌&&◌, nat_le, Bool, true, false, List, [], ◌∷◌, Option, Some, None, String, codes, map, string_bytes, if◌then◌else◌}
+use Rattle.std.specs.Str.{bytes_eq}
+use Rattle.std.specs.Global.{Global}
+use Rattle.clap.specs.Words.{App, IsAmong, Kinds, Row, Rule, Text, fault_of, first_of, matches_of, new_app, new_rule, with_rule}
+use Rattle.clap.specs.declared.error.kind.ErrorKind.TheVariants.{DisplayHelp, DisplayVersion}
+use Rattle.bosh_types.specs.Rid.{rid_of}
+use Rattle.bosh_commands.specs.declared.options.ServeOptions.{ServeOptions}
+use Rattle.bosh_commands.specs.declared.options.Wanted.{Wanted}
+use Rattle.bosh_commands.specs.declared.options.Wanted.TheVariants as wanted
+
+-- the options, as the parser of words knows them
+abbrev pub port_rule : Rule
+port_rule = record (new_rule (codes "port")) { long = Some (codes "port"); value_names = 1; required = true }
+
+abbrev pub workers_rule : Rule
+workers_rule = record (new_rule (codes "workers")) { long = Some (codes "workers"); value_names = 1; defaults = codes "8" ∷ [] }
+
+abbrev pub connections_rule : Rule
+connections_rule = record (new_rule (codes "connections")) { long = Some (codes "connections"); value_names = 1; defaults = codes "0" ∷ [] }
+
+-- the same, and it tells its version
+abbrev pub with_version : App → App
+with_version app = record app { top = record app.top { has_version = true } }
+
+abbrev pub serve_app : App
+serve_app = with_rule (with_rule (with_rule (with_version (new_app (codes "serve"))) port_rule) workers_rule) connections_rule
+
+-- the number that a text writes in plain decimal, without a sign or a leading zero
+abbrev pub plain_number : Text → Option ℕ
+plain_number text = if bytes_eq text (codes "0") then Some 0 else rid_of text
+
+-- a number within these bounds
+abbrev pub within : ℕ → ℕ → Option ℕ → Option ℕ
+within least greatest None = None
+within least greatest (Some n) = if nat_le least n && nat_le n greatest then Some n else None
+
+abbrev pub number_in : ℕ → ℕ → Option Text → Option ℕ
+number_in least greatest None = None
+number_in least greatest (Some text) = within least greatest (plain_number text)
+
+abbrev pub options_from : Option ℕ → Option ℕ → Option ℕ → Option ServeOptions
+options_from (Some port) (Some workers) (Some connections) = Some (record { port = port; plan = record { workers = workers; connections = connections } })
+options_from (Some port) (Some workers) None = None
+options_from (Some port) None connections = None
+options_from None workers connections = None
+
+-- what the texts of the options say: the port from 1 to 65535, 1 to 64 workers, and up to 1048576 connections
+abbrev pub options_of : (Text → Option Text) → Option ServeOptions
+options_of text_of = options_from (number_in 1 65535 (text_of (codes "port"))) (number_in 1 64 (text_of (codes "workers"))) (number_in 0 1048576 (text_of (codes "connections")))
+
+-- options where the parser of words has no fault to find
+abbrev pub options_by : Kinds → List Row → Option ServeOptions
+options_by [] rows = options_of (λ id. first_of id rows)
+options_by (kind ∷ kinds) rows = None
+
+-- the options that the words of `serve` are, where they are any
+abbrev pub options_in : List Text → Option ServeOptions
+options_in words = options_by (fault_of serve_app words) (matches_of serve_app words)
+
+abbrev pub options_wanted : Wanted → Option ServeOptions
+options_wanted (wanted.Shown text) = None
+options_wanted (wanted.Serve options) = Some options
+options_wanted wanted.Nothing = None
+
+-- a text is to be shown
+abbrev pub is_shown : Wanted → Bool
+is_shown (wanted.Shown text) = true
+is_shown (wanted.Serve options) = false
+is_shown wanted.Nothing = false
+
+-- the parser of words may tell that help is wanted, or the version
+abbrev pub MayAsk : Kinds → Type 0
+MayAsk kinds = IsAmong DisplayHelp kinds ⊎ IsAmong DisplayVersion kinds
+
+-- it tells just that
+abbrev pub Asks : Kinds → Type 0
+Asks kinds = (kinds ≡ DisplayHelp ∷ []) ⊎ (kinds ≡ DisplayVersion ∷ [])
+
+-- whether a text is shown: only where help or the version may be what is asked for, and wherever just that is
+abbrev pub ShowsWhatIsAsked : Kinds → Bool → Type 0
+ShowsWhatIsAsked kinds shown = (shown ≡ true → MayAsk kinds) × (Asks kinds → shown ≡ true)
+
+-- what the parser of words may find of words of `serve`: faults, or that a text is asked for
+abbrev pub serve_findings : List (String Global) → Kinds
+serve_findings [] = []
+serve_findings (first ∷ rest) = if bytes_eq (string_bytes first) (codes "serve") then fault_of serve_app (map (λ word. string_bytes word) (first ∷ rest)) else []
+
+-- the first word names the command
+abbrev pub serve_options : List (String Global) → Option ServeOptions
+serve_options [] = None
+serve_options (first ∷ rest) = if bytes_eq (string_bytes first) (codes "serve") then options_in (map (λ word. string_bytes word) (first ∷ rest)) else None

@@ -1,0 +1,150 @@
+// The words of the command `serve`.
+ghost use Rattle.std.specs.Prelude.{◌≡◌, ◌≢◌, ◌≤◌, ◌⊎◌, ℕ, true, false, IfOk, IfSome, None, map, option_map, string_bytes};
+ghost use Rattle.clap.specs.Words.{app_of, fault_of, first_value, found_of, kind_of};
+ghost use Rattle.bosh_commands.specs.Options.{ShowsWhatIsAsked, is_shown, number_in, options_from, options_in, options_of, options_wanted, plain_number, serve_app};
+
+use bosh_server::ServePlan;
+use bosh_types::Rid;
+use clap::error::ErrorKind;
+use clap::{Arg, ArgMatches, Command, Error};
+use std::alloc::{AllocError, Global};
+
+/// How the command `serve` is to run.
+#[derive(Clone, Copy, Debug, PartialEq, Eq)]
+pub struct ServeOptions {
+    pub port: u16,
+    pub plan: ServePlan,
+}
+
+/// What the words ask for.
+#[derive(Drop)]
+pub enum Wanted {
+    /// This text is to be shown: help, or the version.
+    Shown(String),
+    Serve(ServeOptions),
+    /// They are no command.
+    Nothing,
+}
+
+/// The version of the program.
+pub const VERSION: &str = "0.1.0";
+
+const WORKERS: u32 = 64;
+
+const CONNECTIONS: u32 = 1_048_576;
+
+fn serve_command<'a>(alloc: Global) -> Result<Command<'a>, AllocError>
+    ensures { IfOk result (λ command. app_of command ≡ serve_app) }
+{
+    let port = Arg::new(alloc, "port")
+        .long("port")
+        .value_name("PORT")
+        .help("The port of 127.0.0.1 to listen at, from 1 to 65535")
+        .required(true);
+    let workers = Arg::new(alloc, "workers")
+        .long("workers")
+        .value_name("WORKERS")
+        .help("How many connections are served at once, from 1 to 64")
+        .default_value("8");
+    let connections = Arg::new(alloc, "connections")
+        .long("connections")
+        .value_name("CONNECTIONS")
+        .help("After how many connections to end, up to 1048576; 0 is without end")
+        .default_value("0");
+    Command::new(alloc, "serve")
+        .about(
+            "Serves XMPP over BOSH at http://127.0.0.1:PORT/http-bind, with an echo at echo.localhost and a room at room.localhost",
+        )
+        .version(VERSION)
+        .arg(port)?
+        .arg(workers)?
+        .arg(connections)
+}
+
+/// Reads the words, of which the first is the command's. The only error is want of memory.
+pub fn read_options(alloc: Global, words: &[String]) -> Result<Wanted, AllocError>
+    ensures options { IfOk result (λ wanted. options_wanted wanted ≡ options_in (map (λ word. string_bytes word) words.now)) }
+    ensures shows { IfOk result (λ wanted. ShowsWhatIsAsked (fault_of serve_app (map (λ word. string_bytes word) words.now)) (is_shown wanted)) }
+{
+    let command = serve_command(alloc)?;
+    match command.try_get_matches_from(words) {
+        Ok(matches) => Ok(wanted_by(&matches)),
+        Err(error) => without_matches(alloc, &error),
+    }
+}
+
+fn without_matches(alloc: Global, error: &Error) -> Result<Wanted, AllocError>
+    ensures none { IfOk result (λ wanted. options_wanted wanted ≡ None) }
+    ensures mistake { IfOk result (λ _. kind_of error.now ≢ ErrorKind.OutOfMemory) }
+    ensures shows { IfOk result (λ wanted. is_shown wanted ≡ true → (kind_of error.now ≡ ErrorKind.DisplayHelp) ⊎ (kind_of error.now ≡ ErrorKind.DisplayVersion)) }
+    ensures shown { IfOk result (λ wanted. (kind_of error.now ≡ ErrorKind.DisplayHelp) ⊎ (kind_of error.now ≡ ErrorKind.DisplayVersion) → is_shown wanted ≡ true) }
+{
+    match error.kind() {
+        ErrorKind::OutOfMemory => Err(AllocError),
+        ErrorKind::DisplayHelp | ErrorKind::DisplayVersion => {
+            Ok(Wanted::Shown(format!(in alloc; "{error}")?))
+        }
+        _ => Ok(Wanted::Nothing),
+    }
+}
+
+fn wanted_by(matches: &ArgMatches<'_>) -> Wanted
+    ensures options { options_wanted result ≡ options_of (λ id. first_value (found_of matches.now) id) }
+    ensures shows { is_shown result ≡ false }
+{
+    match options(matches) {
+        Some(options) => Wanted::Serve(options),
+        None => Wanted::Nothing,
+    }
+}
+
+fn options(matches: &ArgMatches<'_>) -> Option<ServeOptions>
+    ensures { result ≡ options_of (λ id. first_value (found_of matches.now) id) }
+{
+    let port = number(matches.get_str("port"), 1, u32::from(u16::MAX));
+    let workers = number(matches.get_str("workers"), 1, WORKERS);
+    let connections = number(matches.get_str("connections"), 0, CONNECTIONS);
+    options_from(port, workers, connections)
+}
+
+fn options_from(
+    port: Option<u32>,
+    workers: Option<u32>,
+    connections: Option<u32>,
+) -> Option<ServeOptions>
+    requires { IfSome port (λ port. port ≤ 65535) }
+    ensures { result ≡ options_from port workers connections }
+{
+    let port = port?;
+    let workers = workers?;
+    let connections = connections?;
+    Some(ServeOptions {
+        port: port as u16,
+        plan: ServePlan {
+            workers,
+            connections,
+        },
+    })
+}
+
+// The number that the text writes in plain decimal, where it lies within these bounds.
+pub(crate) fn number(text: Option<&str>, least: u32, greatest: u32) -> Option<u32>
+    ensures number { result ≡ number_in least greatest (option_map (λ text. text.now) text.entry) }
+    ensures low { IfSome result (λ n. n ≤ greatest) }
+{
+    let number = plain_number(text?.as_bytes())?;
+    if u64::from(least) <= number && number <= u64::from(greatest) {
+        return Some(number as u32);
+    }
+    None
+}
+
+fn plain_number(text: &[u8]) -> Option<u64>
+    ensures { result ≡ plain_number text.now }
+{
+    if text == b"0".as_slice() {
+        return Some(0);
+    }
+    let rid = Rid::read(text)?;
+    Some(rid.value())
+}

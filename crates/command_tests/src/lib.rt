@@ -1,0 +1,15 @@
+// Tests over the public calls of `bosh_commands`: scripts, serving, a client, over streams and networks in memory and over loopback.
+#![tactic(auto)]
+
+#[cfg(test)]
+mod asking;
+#[cfg(test)]
+mod limits;
+#[cfg(test)]
+mod loopback;
+#[cfg(test)]
+mod noting;
+#[cfg(test)]
+mod scripts;
+#[cfg(test)]
+mod serving;

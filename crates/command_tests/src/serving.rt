@@ -1,0 +1,128 @@
+// The command `serve` over a network in memory.
+use bosh_commands::{DONE, NET_FAULT, WRONG_WORDS, run_serve_command};
+use bosh_ports::{MemorySink, SteadyBell};
+use bosh_server::Outside;
+use bosh_types::{Moment, Rid};
+use server_ports::{GivenNames, LinkPlan, MemoryNetwork, StillClock, ThreadSpawner};
+use std::alloc::Global;
+use std::rt::Clock;
+use std::sync::Wait;
+use std::test::Fail;
+use std::thread::Threads;
+
+const LATER: &[u8] =
+    b"POST /http-bind HTTP/1.1\r\nHost: localhost\r\nContent-Length: 68\r\n\r\n<body rid='7' sid='zz' xmlns='http://jabber.org/protocol/httpbind'/>";
+
+// What was written, and what went wrong.
+#[derive(Drop)]
+struct Outcome {
+    status: u8,
+    written: MemorySink,
+    errors: MemorySink,
+}
+
+// Runs the words over a network of one link, which fails at the listed calls.
+fn shown<R: Wait + Threads + Copy + Send + Drop + 'static>(
+    rt: &R,
+    alloc: Global,
+    line: &str,
+    failing: &[u64],
+) -> Result<Outcome, Fail> {
+    let mut words = Vec::new(alloc);
+    for word in line.split(' ') {
+        words.push(String::from_str(alloc, word)?)?;
+    }
+    let plan = LinkPlan::new(alloc, LATER.to_vec(alloc)?);
+    let mut written = MemorySink::new(alloc, Vec::new(alloc));
+    let mut errors = MemorySink::new(alloc, Vec::new(alloc));
+    let net = MemoryNetwork::new(alloc, vec![in alloc; plan]?, failing.to_vec(alloc)?);
+    let names = GivenNames::new(alloc, b"s", Rid::new(1000).ok_or("an id")?);
+    let mut outside = Outside {
+        net,
+        clock: StillClock {
+            moment: Moment::from_millis(0),
+        },
+        bell: SteadyBell,
+        spawner: ThreadSpawner::new(alloc),
+        names,
+    };
+    let status = run_serve_command(
+        rt,
+        alloc,
+        &words,
+        &mut written,
+        &mut errors,
+        &mut outside,
+        Vec::new(alloc),
+    );
+    let Outside {
+        net: _net,
+        clock: _clock,
+        bell: _bell,
+        spawner,
+        names: _names,
+    } = outside;
+    spawner.join_all(rt);
+    Ok(Outcome {
+        status,
+        written,
+        errors,
+    })
+}
+
+#[test]
+fn one_link_is_served(rt: HostRuntime) -> Result<(), Fail> {
+    let line = "serve --port 47001 --workers 1 --connections 1";
+    let shown = shown(&rt, rt.alloc(), line, &[])?;
+    assert_eq!(rt; shown.status, DONE);
+    assert_eq!(rt; shown.written.as_slice(), b"serving\nserved 1\n".as_slice());
+    Ok(())
+}
+
+#[test]
+fn words_that_are_no_command_write_nothing(rt: HostRuntime) -> Result<(), Fail> {
+    let lines = [
+        "serve",
+        "serve --port 0",
+        "serve --port 65536",
+        "serve --port 05280",
+        "serve --port +5280",
+        "serve --port 5280 --workers 0",
+        "serve --port 5280 --workers 65",
+        "serve --port 5280 --connections 1048577",
+        "serve --port 5280 again",
+        "serve --port 5280 --port 5281",
+        "client --port 5280",
+    ];
+    for line in lines {
+        let shown = shown(&rt, rt.alloc(), line, &[])?;
+        assert_eq!(rt; shown.status, WRONG_WORDS, "of {line:?}");
+        assert!(rt; shown.written.as_slice().is_empty(), "of {line:?}");
+    }
+    Ok(())
+}
+
+#[test]
+fn a_port_that_is_taken_is_named(rt: HostRuntime) -> Result<(), Fail> {
+    let shown = shown(&rt, rt.alloc(), "serve --port 5280", &[1])?;
+    assert_eq!(rt; shown.status, NET_FAULT);
+    assert!(rt; shown.written.as_slice().is_empty());
+    let wanted = b"serve: cannot listen at 127.0.0.1:5280, which may be taken\n".as_slice();
+    assert_eq!(rt; shown.errors.as_slice(), wanted);
+    Ok(())
+}
+
+#[test]
+fn what_is_asked_for_is_shown(rt: HostRuntime) -> Result<(), Fail> {
+    let rows: [(&str, &[u8]); 3] = [
+        ("serve --help", b"Serves XMPP over BOSH at"),
+        ("serve --port 5280 -h", b"Serves XMPP over BOSH at"),
+        ("serve --version", b"serve 0.1.0\n"),
+    ];
+    for (line, front) in rows {
+        let shown = shown(&rt, rt.alloc(), line, &[])?;
+        assert_eq!(rt; shown.status, DONE, "of {line:?}");
+        assert!(rt; shown.written.as_slice().starts_with(front), "of {line:?}");
+    }
+    Ok(())
+}

@@ -1,0 +1,150 @@
+// Connections in memory, from the bytes of their requests to the bytes of their answers.
+ghost use Rattle.parked_gate.specs.Passes.{IsPassOf};
+
+use bosh_ports::{Bell, ListedBell, MemoryLink, MemorySink, MemorySource};
+use bosh_types::{HostName, HostNames, Moment, Rid, Stanzas, Text};
+use parked_gate::{Gate, Pass};
+use serve_loop::{ConnectionEnd, Site, Trail, TrailLine, Worker, serve_connection};
+use server_ports::{GivenNames, StillClock};
+use session_table::{Directory, Purse};
+use std::alloc::{AllocError, Global};
+use std::sync::Wait;
+use std::test::Fail;
+
+mod bodies;
+mod refusals;
+mod threads;
+
+fn text(alloc: Global, bytes: &[u8]) -> Result<Text, AllocError> {
+    Ok(Text::from_vec(Vec::from_slice(alloc, bytes)?))
+}
+
+/// One host, which greets with its features.
+fn one_host(alloc: Global) -> Result<HostNames, AllocError> {
+    let mut greeting = Vec::new(alloc);
+    greeting.push(text(alloc, b"<stream:features/>")?)?;
+    let mut hosts = Vec::new(alloc);
+    hosts.push(HostName {
+        name: text(alloc, b"example.org")?,
+        greeting: Stanzas::from_vec(greeting),
+    })?;
+    Ok(HostNames::from_vec(hosts))
+}
+
+fn letter(line: &TrailLine) -> u8 {
+    match line {
+        TrailLine::Http(_) => b'h',
+        TrailLine::Entry { .. } => b'e',
+        TrailLine::Opened { .. } => b'o',
+        TrailLine::Unknown { .. } => b'u',
+        TrailLine::NoSession(_) => b'n',
+    }
+}
+
+/// A letter for each line.
+fn letters(alloc: Global, trail: &Trail) -> Result<Vec<u8>, AllocError> {
+    let mut letters = Vec::new(alloc);
+    for traced in trail.lines() {
+        letters.push(letter(&traced.line))?;
+    }
+    Ok(letters)
+}
+
+/// A link over these bytes, which come in pieces of these sizes, and of whose gives these fail.
+fn link_over(
+    alloc: Global,
+    bytes: &[u8],
+    sizes: &[usize],
+    failing: &[u64],
+) -> Result<MemoryLink, AllocError> {
+    let source = MemorySource::new(Vec::from_slice(alloc, bytes)?, Vec::new(alloc));
+    let sink = MemorySink::new(alloc, Vec::from_slice(alloc, failing)?);
+    Ok(MemoryLink::new(source, sink, Vec::from_slice(alloc, sizes)?))
+}
+
+/// How a connection ended, and a letter for each line of its trail.
+#[derive(Drop)]
+struct Served {
+    end: ConnectionEnd,
+    trail: Vec<u8>,
+}
+
+/// Serves a link by a worker with this purse and this bell.
+fn serve_by<R: Wait, B: Bell + Drop>(
+    rt: &R,
+    site: &Site<'_, StillClock>,
+    purse: Purse,
+    bell: B,
+    link: &mut MemoryLink,
+) -> Result<Served, &'static str>
+    requires { IsPassOf site.now.directory.now purse.directory }
+{
+    let Some(first) = Rid::new(1) else {
+        return Err("no id");
+    };
+    let mut worker = Worker {
+        purse,
+        bell,
+        names: GivenNames::new(site.alloc, b"s", first),
+        trail: Trail::new(site.alloc),
+    };
+    let end = serve_connection(rt, site, &mut worker, link);
+    match letters(site.alloc, &worker.trail) {
+        Ok(trail) => Ok(Served { end, trail }),
+        Err(AllocError) => Err("no memory"),
+    }
+}
+
+/// Serves a link at a directory of its own.
+fn serve_at<R: Wait>(
+    rt: &R,
+    alloc: Global,
+    directory: &Gate<Directory>,
+    pass: Pass<Directory>,
+    link: &mut MemoryLink,
+) -> Result<Served, &'static str>
+    requires { IsPassOf directory.now pass }
+{
+    let clock = StillClock {
+        moment: Moment::from_millis(0),
+    };
+    let Ok(hosts) = one_host(alloc) else {
+        return Err("no memory");
+    };
+    let Ok(Some(site)) = Site::new(alloc, directory, &hosts, &clock) else {
+        return Err("a host that can't be served");
+    };
+    let Ok(silent) = vec![in alloc; 1] else {
+        return Err("no memory");
+    };
+    let purse = Purse::new(alloc, pass);
+    serve_by(rt, &site, purse, ListedBell::new(alloc, silent), link)
+}
+
+/// What is served on this link, to the end of its bytes or to its first wait.
+fn serve_alone<R: Wait>(
+    rt: &R,
+    alloc: Global,
+    link: &mut MemoryLink,
+) -> Result<Served, &'static str> {
+    match Gate::new(alloc, Directory::new(alloc)) {
+        Ok((directory, pass)) => serve_at(rt, alloc, &directory, pass, link),
+        Err(_) => Err("no memory"),
+    }
+}
+
+/// Whether a link is served so: what is written, a letter for each line of the trail, and how it ends.
+fn is_served<R: Wait>(
+    rt: &R,
+    alloc: Global,
+    link: &mut MemoryLink,
+    wanted: &[u8],
+    trail: &[u8],
+    end: ConnectionEnd,
+) -> Result<bool, &'static str> {
+    let seen = serve_alone(rt, alloc, link)?;
+    if seen.end != end || seen.trail.as_slice() != trail {
+        return Ok(false);
+    }
+    Ok(link.as_slice() == wanted)
+}

@@ -1,0 +1,207 @@
+// Servers over links whose requests are written out.
+use super::ports::{Given, PausingBell, ShownLink, ShownNetwork};
+use bosh_ports::QuietSource;
+use bosh_server::{Outside, Ran, ServePlan, run_workers};
+use bosh_types::{Moment, Rid, Stanzas, Text};
+use server_ports::{GivenNames, ListedSpawner, StillClock, ThreadSpawner};
+use session_pump::Host;
+use std::alloc::{AllocError, Global};
+use std::rt::Clock;
+use std::sync::{Arc, Mutex, Wait};
+use std::test::Fail;
+use std::thread::Threads;
+use xmpp_backend::{Backend, Echo, Scripted};
+
+const NAMESPACE: &str = "xmlns='http://jabber.org/protocol/httpbind'";
+
+const CREATION: &str =
+    "<body rid='1000' to='example.org' wait='60' hold='1' ver='1.6' xmlns='http://jabber.org/protocol/httpbind'/>";
+
+// A request with this content.
+fn post(alloc: Global, body: &str) -> Result<String, AllocError> {
+    let length = body.len();
+    format!(in alloc;
+        "POST /http-bind HTTP/1.1\r\nHost: localhost\r\nContent-Length: {length}\r\n\r\n{body}"
+    )
+}
+
+// The answer with this content.
+fn answer(alloc: Global, body: &str) -> Result<String, AllocError> {
+    let length = body.len();
+    format!(in alloc;
+        "HTTP/1.1 200 OK\r\nContent-Type: text/xml; charset=utf-8\r\nContent-Length: {length}\r\n\r\n{body}"
+    )
+}
+
+// A later request of the session with this content.
+fn later(alloc: Global, rid: u64, content: &str) -> Result<String, AllocError> {
+    let body = format!(in alloc; "<body rid='{rid}' sid='s1' {NAMESPACE}>{content}</body>")?;
+    post(alloc, body.as_str())
+}
+
+// The creation and a later request behind it.
+fn two_requests(alloc: Global, content: &str) -> Result<String, AllocError> {
+    let creation = post(alloc, CREATION)?;
+    let request = later(alloc, 1001, content)?;
+    format!(in alloc; "{creation}{request}")
+}
+
+// Nothing was given yet.
+fn given_nothing(alloc: Global) -> Result<Given, Fail> {
+    Ok(Arc::new(alloc, Mutex::new(Vec::new(alloc)))?)
+}
+
+// A link with these bytes.
+fn link<R: Wait + Clock + Copy + Drop>(
+    rt: &R,
+    text: &String,
+    given: &Given,
+    after: Option<Given>,
+) -> Result<ShownLink<R>, AllocError> {
+    Ok(ShownLink {
+        rt: *rt,
+        source: QuietSource::new(text.as_bytes().to_vec(*text.allocator())?),
+        given: Arc::try_clone(given)?,
+        after,
+        faults: 0,
+    })
+}
+
+// Whether this was given last.
+fn ends_with<R: Wait>(rt: &R, given: &Given, text: &String) -> bool {
+    given.lock(rt).as_slice().ends_with(text.as_bytes())
+}
+
+// The host `example.org` with this back end behind it.
+fn one_host(alloc: Global, end: Box<dyn Backend + Send>) -> Result<Vec<Host>, AllocError> {
+    let features = Text::from_vec(b"<stream:features/>".to_vec(alloc)?);
+    let greeting = Stanzas::from_vec(vec![in alloc; features]?);
+    let name = Text::from_vec(b"example.org".to_vec(alloc)?);
+    let spares = Vec::new(alloc);
+    Ok(vec![in alloc;
+        Host {
+            name,
+            greeting,
+            end,
+            spares
+        },
+    ]?)
+}
+
+// Serves the links of the network to their end, over a clock that stands. The spawner refuses the listed jobs.
+fn served<R: Wait + Threads + Clock + Copy + Send + Drop + 'static>(
+    rt: &R,
+    alloc: Global,
+    net: ShownNetwork<R>,
+    plan: &ServePlan,
+    refused: Vec<u64>,
+    hosts: Vec<Host>,
+) -> Result<Ran, Fail> {
+    let names = GivenNames::new(alloc, b"s", Rid::new(1000).ok_or("an id")?);
+    let mut outside = Outside {
+        net,
+        clock: StillClock {
+            moment: Moment::from_millis(0),
+        },
+        bell: PausingBell::new(*rt),
+        spawner: ListedSpawner::new(ThreadSpawner::new(alloc), refused),
+        names,
+    };
+    let ran = run_workers(rt, alloc, &mut outside, plan, hosts);
+    let Outside {
+        net: _net,
+        clock: _clock,
+        bell: _bell,
+        spawner,
+        names: _names,
+    } = outside;
+    spawner.into_inner().join_all(rt);
+    Ok(ran?)
+}
+
+#[test]
+fn a_request_elsewhere_frees_the_one_that_waits(rt: HostRuntime) -> Result<(), Fail> {
+    let alloc = rt.alloc();
+    let (one, two) = (given_nothing(alloc)?, given_nothing(alloc)?);
+    let first = link(&rt, &two_requests(alloc, "<a/>")?, &one, None)?;
+    let after = Some(Arc::try_clone(&one)?);
+    let second = link(&rt, &later(alloc, 1002, "<b/>")?, &two, after)?;
+    let net = ShownNetwork::new(vec![in alloc; first, second]?);
+    let plan = ServePlan {
+        workers: 2,
+        connections: 2,
+    };
+    let end = Scripted::new(alloc, Vec::new(alloc), Vec::new(alloc));
+    let hosts = one_host(alloc, Box::new(alloc, end)?)?;
+    let ran = served(&rt, alloc, net, &plan, Vec::new(alloc), hosts)?;
+    assert_eq!(rt; ran, Ran::Done { connections: 2 });
+    let wanted = answer(
+        alloc,
+        "<body xmlns='http://jabber.org/protocol/httpbind' ack='1002'/>",
+    )?;
+    assert!(rt; ends_with(&rt, &one, &wanted));
+    Ok(())
+}
+
+#[test]
+fn the_pump_brings_what_the_back_end_gives(rt: HostRuntime) -> Result<(), Fail> {
+    let alloc = rt.alloc();
+    let given = given_nothing(alloc)?;
+    let only = link(&rt, &two_requests(alloc, "<message/>")?, &given, None)?;
+    let net = ShownNetwork::new(vec![in alloc; only]?);
+    let plan = ServePlan {
+        workers: 1,
+        connections: 1,
+    };
+    let hosts = one_host(alloc, Box::new(alloc, Echo::new(alloc))?)?;
+    let ran = served(&rt, alloc, net, &plan, Vec::new(alloc), hosts)?;
+    assert_eq!(rt; ran, Ran::Done { connections: 1 });
+    let wanted = answer(
+        alloc,
+        "<body xmlns='http://jabber.org/protocol/httpbind' xmlns:stream='http://etherx.jabber.org/streams'><message/></body>",
+    )?;
+    assert!(rt; ends_with(&rt, &given, &wanted));
+    Ok(())
+}
+
+#[test]
+fn a_network_that_stops_ends_the_server(rt: HostRuntime) -> Result<(), Fail> {
+    let alloc = rt.alloc();
+    let given = given_nothing(alloc)?;
+    let only = link(&rt, &two_requests(alloc, "<a/>")?, &given, None)?;
+    let net = ShownNetwork::new(vec![in alloc; only]?);
+    let plan = ServePlan {
+        workers: 0,
+        connections: 0,
+    };
+    let end = Scripted::new(alloc, Vec::new(alloc), Vec::new(alloc));
+    let hosts = one_host(alloc, Box::new(alloc, end)?)?;
+    let ran = served(&rt, alloc, net, &plan, Vec::new(alloc), hosts)?;
+    assert_eq!(rt; ran, Ran::Done { connections: 1 });
+    let wanted = answer(
+        alloc,
+        "<body xmlns='http://jabber.org/protocol/httpbind' type='terminate' condition='system-shutdown'/>",
+    )?;
+    assert!(rt; ends_with(&rt, &given, &wanted));
+    Ok(())
+}
+
+#[test]
+fn a_refused_start_ends_the_server(rt: HostRuntime) -> Result<(), Fail> {
+    let alloc = rt.alloc();
+    for number in 1..=3 {
+        let given = given_nothing(alloc)?;
+        let only = link(&rt, &two_requests(alloc, "<a/>")?, &given, None)?;
+        let net = ShownNetwork::new(vec![in alloc; only]?);
+        let plan = ServePlan {
+            workers: 2,
+            connections: 1,
+        };
+        let hosts = one_host(alloc, Box::new(alloc, Echo::new(alloc))?)?;
+        let refused = vec![in alloc; number]?;
+        let ran = served(&rt, alloc, net, &plan, refused, hosts)?;
+        assert_eq!(rt; ran, Ran::SpawnFault);
+        assert!(rt; given.lock(&rt).is_empty());
+    }
+    Ok(())
+}

@@ -1,0 +1,9 @@
+// Tests over the public calls of a session, and of a session beside its journal.
+#![tactic(auto)]
+
+#[cfg(test)]
+mod calls;
+#[cfg(test)]
+mod journals;
+#[cfg(test)]
+mod parts;

@@ -1,0 +1,399 @@
+// A pump between sessions and their back ends.
+ghost use Rattle.std.specs.Prelude.{◌≡◌, IfOk, IfSome, IsSome, List, [], true, ℕ};
+ghost use Rattle.parked_gate.specs.Passes.{IsPassOf};
+ghost use Rattle.session_attrs.specs.declared.request.Creation.{Creation};
+ghost use Rattle.session_attrs.specs.declared.request.Kind.TheVariants as kinds;
+ghost use Rattle.session_core.specs.Journal.{IsAllowed, IsReadFrom};
+ghost use Rattle.session_journal.specs.Calls.{call_in};
+ghost use Rattle.session_table.specs.Purses.{held};
+ghost use Rattle.session_table.specs.Replies.{MayOpen};
+
+use body_cutter::cut;
+use bosh_ports::SteadyBell;
+use bosh_types::{Moment, Row, SharedText, Stanzas, Text, Ticket};
+use parked_gate::Gate;
+use server_ports::StillClock;
+use session_attrs::{Kind, Request, read_request};
+use session_core::Arrived;
+use session_journal::{Answer, Call, Found, Question, Reply};
+use session_pump::{Host, Hosts, Pump};
+use session_table::{Directory, NewSession, Opening, Purse};
+use std::alloc::{AllocError, Global};
+use std::sync::Wait;
+use std::test::Fail;
+use xmpp_backend::{Backend, BackendCall, Echo, Failing, Scripted, are_answers};
+
+const CREATION: &[u8] =
+    b"<body rid='1000' to='example.org' wait='60' hold='1' ver='1.6' xmlns='http://jabber.org/protocol/httpbind'/>";
+
+const STANZA: &[u8] =
+    b"<body rid='1001' sid='s1' xmlns='http://jabber.org/protocol/httpbind'><message/></body>";
+
+const EMPTY: &[u8] = b"<body rid='1001' sid='s1' xmlns='http://jabber.org/protocol/httpbind'/>";
+
+const ITEM: &[u8] =
+    b"<body rid='1001' sid='s1' xmlns='http://jabber.org/protocol/httpbind'><a/></body>";
+
+const NEXT: &[u8] = b"<body rid='1002' sid='s1' xmlns='http://jabber.org/protocol/httpbind'/>";
+
+const LAST: &[u8] =
+    b"<body rid='1001' sid='s1' type='terminate' xmlns='http://jabber.org/protocol/httpbind'/>";
+
+/// The request that this body is, if it is one.
+fn request_in(alloc: Global, text: &[u8]) -> Option<Request>
+    ensures { IfSome result (λ request. IsReadFrom text.now request) }
+{
+    let Ok(parts) = cut(alloc, text) else {
+        return None;
+    };
+    match read_request(alloc, &parts, text) {
+        Ok(request) => Some(request),
+        Err(_) => None,
+    }
+}
+
+/// Whether the request creates a session.
+fn is_creation(request: &Request) -> bool
+    ensures { result ≡ true → (creation : Creation) × (request.now.kind ≡ kinds.Creation creation) }
+{
+    match &request.kind {
+        Kind::Creation(_) => true,
+        Kind::Later { .. } => false,
+    }
+}
+
+/// Whether the request is for a session that there is.
+fn is_later(request: &Request) -> bool
+    ensures { result ≡ true → (sid : List ℕ) × (request.now.kind ≡ kinds.Later sid) }
+{
+    match &request.kind {
+        Kind::Creation(_) => false,
+        Kind::Later { .. } => true,
+    }
+}
+
+fn text(alloc: Global, bytes: &[u8]) -> Result<Text, AllocError>
+    ensures { IfOk result (λ text. text ≡ bytes.now) }
+{
+    Ok(Row::from_vec(Vec::from_slice(alloc, bytes)?))
+}
+
+fn shared(alloc: Global, bytes: &[u8]) -> Result<SharedText, AllocError>
+    ensures { IfOk result (λ text. text ≡ bytes.now) }
+{
+    SharedText::new(alloc, text(alloc, bytes)?)
+}
+
+fn no_stanzas(alloc: Global) -> Stanzas
+    ensures { result ≡ [] }
+{
+    Stanzas::from_vec(Vec::new(alloc))
+}
+
+/// A creation for example.org, which greets nobody.
+fn an_opening(alloc: Global) -> Result<Opening, &'static str>
+    ensures { IfOk result MayOpen }
+{
+    let Some(request) = request_in(alloc, CREATION) else {
+        return Err("no request");
+    };
+    if !is_creation(&request) {
+        return Err("no creation");
+    }
+    match opening_with(alloc, request) {
+        Ok(opening) => Ok(opening),
+        Err(AllocError) => Err("no memory"),
+    }
+}
+
+fn opening_with(alloc: Global, request: Request) -> Result<Opening, AllocError>
+    requires read { IsReadFrom CREATION.now request }
+    requires creation { (creation : Creation) × (request.kind ≡ kinds.Creation creation) }
+    ensures { IfOk result MayOpen }
+{
+    Ok(Opening {
+        name: text(alloc, b"s")?,
+        host: shared(alloc, b"example.org")?,
+        greeting: no_stanzas(alloc),
+        request,
+        body: shared(alloc, CREATION)?,
+        at: Moment::from_millis(0),
+    })
+}
+
+/// The arrival of a body at this moment.
+fn arrival(alloc: Global, body: &[u8], at: u64) -> Result<Call, &'static str>
+    ensures { IfOk result (λ call. IsAllowed (call_in call)) }
+{
+    let Some(request) = request_in(alloc, body) else {
+        return Err("no request");
+    };
+    if !is_later(&request) {
+        return Err("no later request");
+    }
+    let Ok(body) = shared(alloc, body) else {
+        return Err("no memory");
+    };
+    Ok(Call::Arrive {
+        request,
+        body,
+        now: Moment::from_millis(at),
+    })
+}
+
+/// How many payloads the body has that answers a request at once.
+fn payloads_in(alloc: Global, reply: &Reply) -> Option<usize> {
+    let Reply::Arrive(Arrived::Answer(body)) = reply else {
+        return None;
+    };
+    match cut(alloc, body.as_slice()) {
+        Ok(parts) => Some(parts.children.as_slice().len()),
+        Err(_) => None,
+    }
+}
+
+/// The ticket of a request that waits.
+fn ticket_of(reply: &Reply) -> Option<Ticket> {
+    let Reply::Arrive(arrived) = reply else {
+        return None;
+    };
+    match arrived {
+        Arrived::Parked(ticket) => Some(*ticket),
+        _ => None,
+    }
+}
+
+/// A worker and a pump at one directory.
+#[derive(Drop)]
+struct Scene {
+    alloc: Global,
+    directory: Gate<Directory>,
+    worker: Purse,
+    pump: Pump,
+    ghost worker_fits: { IsPassOf directory worker.directory },
+    ghost pump_fits: { IsPassOf directory pump.purse.directory },
+}
+
+/// A scene with one host.
+fn set_up<R: Wait>(rt: &R, alloc: Global, host: Host) -> Result<Scene, &'static str> {
+    let Ok((directory, mut mine)) = Gate::new(alloc, Directory::new(alloc)) else {
+        return Err("no memory");
+    };
+    let theirs = directory.split(rt, &mut mine);
+    let Ok(hosts) = only(alloc, host) else {
+        return Err("no memory");
+    };
+    let worker = Purse::new(alloc, mine);
+    let pump = Pump::new(alloc, Purse::new(alloc, theirs), hosts);
+    Ok(Scene {
+        alloc,
+        directory,
+        worker,
+        pump,
+    })
+}
+
+/// This host alone.
+fn only(alloc: Global, host: Host) -> Result<Hosts, AllocError> {
+    let mut hosts = Vec::new(alloc);
+    hosts.push(host)?;
+    Hosts::new(alloc, hosts)
+}
+
+/// A host with this back end and these spares.
+fn host(
+    alloc: Global,
+    end: Box<dyn Backend + Send>,
+    spares: Vec<Box<dyn Backend + Send>>,
+) -> Result<Host, AllocError> {
+    Ok(Host {
+        name: text(alloc, b"example.org")?,
+        greeting: no_stanzas(alloc),
+        end,
+        spares,
+    })
+}
+
+/// Opens a session through the worker.
+fn open<R: Wait>(rt: &R, scene: &mut Scene) -> Result<(), &'static str> {
+    let opening = an_opening(scene.alloc)?;
+    match scene.worker.open(rt, &scene.directory, opening) {
+        Ok(NewSession::Opened { .. }) => Ok(()),
+        _ => Err("not opened"),
+    }
+}
+
+/// What the first session replies to a request that comes through the worker.
+fn arrive<R: Wait>(rt: &R, scene: &mut Scene, body: &[u8], at: u64) -> Result<Reply, &'static str> {
+    let call = arrival(scene.alloc, body, at)?;
+    if !holds(&scene.worker, 1) {
+        return Err("no session");
+    }
+    match scene.worker.call(rt, 1, call) {
+        Ok(reply) => Ok(reply),
+        Err(AllocError) => Err("no memory"),
+    }
+}
+
+/// Whether the purse holds a session under this number.
+fn holds(purse: &Purse, number: u64) -> bool
+    ensures { result ≡ true → IsSome (held purse.now.sessions number) }
+{
+    purse.sessions.contains_key(&number)
+}
+
+/// One turn of the pump at this moment. How many sessions are live after it.
+fn turn<R: Wait>(rt: &R, scene: &mut Scene, at: u64) -> Result<usize, AllocError> {
+    let clock = StillClock {
+        moment: Moment::from_millis(at),
+    };
+    let mut bell = SteadyBell;
+    scene.pump.turn(rt, &scene.directory, &clock, &mut bell)
+}
+
+/// What there is for a ticket of the first session.
+fn collected<R: Wait>(rt: &R, scene: &mut Scene, ticket: Ticket) -> Option<SharedText> {
+    if !holds(&scene.worker, 1) {
+        return None;
+    }
+    match scene.worker.poll(rt, 1, ticket) {
+        Some(Found::Answer(text)) => Some(text),
+        _ => None,
+    }
+}
+
+/// How many items wait in the first session to be given to the client.
+fn waiting<R: Wait>(rt: &R, scene: &mut Scene) -> Option<u32> {
+    if !holds(&scene.worker, 1) {
+        return None;
+    }
+    match scene.worker.look(rt, 1, &Question::Load) {
+        Ok(Answer::Load { waiting, .. }) => Some(waiting.items),
+        _ => None,
+    }
+}
+
+/// Whether the pump keeps something that the first host's back end gave.
+fn keeps_something(scene: &Scene) -> bool {
+    match scene.pump.hosts.stands.first() {
+        Some(stand) => stand.kept.is_some(),
+        None => false,
+    }
+}
+
+/// A back end that gives so many times the same stanza for the first item that it is passed.
+fn giving(alloc: Global, count: usize) -> Result<Scripted, &'static str> {
+    let Ok(answers) = one_answer(alloc, count) else {
+        return Err("no memory");
+    };
+    let Ok(true) = are_answers(alloc, answers.as_slice()) else {
+        return Err("no stanzas");
+    };
+    Ok(Scripted::new(alloc, answers, Vec::new(alloc)))
+}
+
+fn one_answer(alloc: Global, count: usize) -> Result<Vec<Stanzas>, AllocError> {
+    let mut stanzas = Vec::new(alloc);
+    for _ in 0..count {
+        stanzas.push(text(alloc, b"<x/>")?)?;
+    }
+    let mut answers = Vec::new(alloc);
+    answers.push(Stanzas::from_vec(stanzas))?;
+    Ok(answers)
+}
+
+/// Whether the request of this body waits until a turn at a moment, and is answered then with these last bytes.
+fn is_answered_by_turn<R: Wait>(
+    rt: &R,
+    scene: &mut Scene,
+    body: &[u8],
+    at: u64,
+    end: &[u8],
+) -> Result<bool, &'static str> {
+    open(rt, scene)?;
+    let Some(ticket) = ticket_of(&arrive(rt, scene, body, 0)?) else {
+        return Ok(false);
+    };
+    if collected(rt, scene, ticket).is_some() {
+        return Ok(false);
+    }
+    if turn(rt, scene, at).is_err() {
+        return Err("no memory");
+    }
+    Ok(ends_with(collected(rt, scene, ticket), end))
+}
+
+fn ends_with(answer: Option<SharedText>, end: &[u8]) -> bool {
+    match answer {
+        Some(text) => text.as_slice().ends_with(end),
+        None => false,
+    }
+}
+
+#[test]
+fn an_echo_gives_a_stanza_back(rt: HostRuntime) -> Result<(), Fail> {
+    let alloc = rt.alloc();
+    let host = host(alloc, Box::new(alloc, Echo::new(alloc))?, Vec::new(alloc))?;
+    let mut scene = set_up(&rt, alloc, host)?;
+    let end = b" xmlns:stream='http://etherx.jabber.org/streams'><message/></body>";
+    assert!(rt; is_answered_by_turn(&rt, &mut scene, STANZA, 0, end)?);
+    Ok(())
+}
+
+#[test]
+fn a_request_is_answered_when_its_time_is_over(rt: HostRuntime) -> Result<(), Fail> {
+    let alloc = rt.alloc();
+    let host = host(alloc, Box::new(alloc, Echo::new(alloc))?, Vec::new(alloc))?;
+    let mut scene = set_up(&rt, alloc, host)?;
+    let end = b"<body xmlns='http://jabber.org/protocol/httpbind'/>";
+    assert!(rt; is_answered_by_turn(&rt, &mut scene, EMPTY, 60000, end)?);
+    Ok(())
+}
+
+#[test]
+fn a_session_that_has_ended_is_removed(rt: HostRuntime) -> Result<(), Fail> {
+    let alloc = rt.alloc();
+    let host = host(alloc, Box::new(alloc, Echo::new(alloc))?, Vec::new(alloc))?;
+    let mut scene = set_up(&rt, alloc, host)?;
+    open(&rt, &mut scene)?;
+    assert_eq!(rt; turn(&rt, &mut scene, 0)?, 1);
+    assert!(rt; ticket_of(&arrive(&rt, &mut scene, LAST, 0)?).is_none());
+    assert_eq!(rt; turn(&rt, &mut scene, 0)?, 0);
+    Ok(())
+}
+
+#[test]
+fn a_session_is_told_that_its_back_end_failed(rt: HostRuntime) -> Result<(), Fail> {
+    let alloc = rt.alloc();
+    let mut failing = Vec::new(alloc);
+    failing.push(Failing {
+        call: BackendCall::Pass,
+        number: 1,
+    })?;
+    let end = Scripted::new(alloc, Vec::new(alloc), failing);
+    let mut spares: Vec<Box<dyn Backend + Send>> = Vec::new(alloc);
+    spares.push(Box::new(alloc, Echo::new(alloc))?)?;
+    let host = host(alloc, Box::new(alloc, end)?, spares)?;
+    let mut scene = set_up(&rt, alloc, host)?;
+    let end = b" type='terminate' condition='remote-connection-failed'/>";
+    assert!(rt; is_answered_by_turn(&rt, &mut scene, STANZA, 0, end)?);
+    Ok(())
+}
+
+#[test]
+fn what_a_session_has_no_room_for_is_kept(rt: HostRuntime) -> Result<(), Fail> {
+    let alloc = rt.alloc();
+    let end = giving(alloc, 1026)?;
+    let host = host(alloc, Box::new(alloc, end)?, Vec::new(alloc))?;
+    let mut scene = set_up(&rt, alloc, host)?;
+    let end = b" xmlns:stream='http://etherx.jabber.org/streams'><x/></body>";
+    assert!(rt; is_answered_by_turn(&rt, &mut scene, ITEM, 0, end)?);
+    assert_eq!(rt; waiting(&rt, &mut scene), Some(1024));
+    assert!(rt; keeps_something(&scene));
+    let reply = arrive(&rt, &mut scene, NEXT, 0)?;
+    assert_eq!(rt; payloads_in(alloc, &reply), Some(1024));
+    assert_eq!(rt; turn(&rt, &mut scene, 0)?, 1);
+    assert_eq!(rt; waiting(&rt, &mut scene), Some(1));
+    assert!(rt; !keeps_something(&scene));
+    Ok(())
+}
