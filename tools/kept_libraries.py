@@ -68,4 +68,5 @@ def main(top):
     print("not kept:", *lacking)
 
 
-main(sys.argv[1] if len(sys.argv) > 1 else ".")
+if __name__ == "__main__":
+    main(sys.argv[1] if len(sys.argv) > 1 else ".")
