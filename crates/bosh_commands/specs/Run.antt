@@ -20,7 +20,18 @@ use Rattle.bosh_commands.specs.Number.{number_of}
 -- a word alone
 unfoldable pub script_command : List ℕ → Option LocalCommand
 script_command word =
-    if bytes_eq word (codes "drive") then Some commands.Drive else if bytes_eq word (codes "pair") then Some commands.Pair else None
+    if bytes_eq word (codes "drive") then Some commands.Drive
+    else if bytes_eq word (codes "pair") then Some commands.Pair
+    else if bytes_eq word (codes "--help") then Some commands.Help
+    else if bytes_eq word (codes "--version") then Some commands.Version
+    else None
+
+-- what is shown of the program: its commands, its version
+unfoldable pub help_text : List ℕ
+help_text = codes "Robelava, an XMPP BOSH connection manager.\n\nrobelava serve --port PORT       serves XMPP over BOSH at http://127.0.0.1:PORT/http-bind\nrobelava client --port PORT --to HOST\n                                 sends each line of its input as a stanza, and writes what comes\nrobelava drive < SCRIPT          reports what becomes of bodies that reach a manager\nrobelava pair < SCRIPT           the same of a client and a manager over a network that loses\nrobelava load NUMBER             makes such a run from a number\n\nserve --help and client --help show their options.\n"
+
+unfoldable pub version_text : List ℕ
+version_text = codes "robelava 0.1.0\n"
 
 -- `load` and a number
 unfoldable pub load_command : List ℕ → List ℕ → Option LocalCommand
@@ -47,6 +58,8 @@ GivesWhole (Some commands.Drive) left status old new =
 GivesWhole (Some commands.Pair) left status old new =
     IfSome left (λ script. (status ≡ status_of (pair_of script).outcome) × Appends old new (pair_report_text (pair_of script).report))
 GivesWhole (Some (commands.Load number)) left status old new = (status ≡ 0) × Appends old new (load_text number)
+GivesWhole (Some commands.Help) left status old new = (status ≡ 0) × Appends old new help_text
+GivesWhole (Some commands.Version) left status old new = (status ≡ 0) × Appends old new version_text
 
 -- the sink was given a front of the report
 abbrev pub GivesFront : Option LocalCommand → Option (List ℕ) → Option (List ℕ) → Option (List ℕ) → Type 0
@@ -54,6 +67,8 @@ GivesFront None left old new = ⊥
 GivesFront (Some commands.Drive) left old new = IfSome left (λ script. AppendsFront old new (report_text (drive_of script).report))
 GivesFront (Some commands.Pair) left old new = IfSome left (λ script. AppendsFront old new (pair_report_text (pair_of script).report))
 GivesFront (Some (commands.Load number)) left old new = AppendsFront old new (load_text number)
+GivesFront (Some commands.Help) left old new = AppendsFront old new help_text
+GivesFront (Some commands.Version) left old new = AppendsFront old new version_text
 
 -- the sink was given a report that keeps its word: of each session of a script, or of the two ends of its world
 abbrev pub GivesItsWord : Option LocalCommand → Option (List ℕ) → Option (List ℕ) → Option (List ℕ) → Type 0
@@ -61,3 +76,5 @@ GivesItsWord None left old new = ⊥
 GivesItsWord (Some commands.Drive) left old new = IfSome left (λ script. GivesItsReport script old new)
 GivesItsWord (Some commands.Pair) left old new = IfSome left (λ script. GivesItsPair script old new)
 GivesItsWord (Some (commands.Load number)) left old new = GivesItsLoad number old new
+GivesItsWord (Some commands.Help) left old new = Appends old new help_text
+GivesItsWord (Some commands.Version) left old new = Appends old new version_text

@@ -203,3 +203,11 @@ fn first_in(text: Option<&str>) -> Option<First>
         None => None,
     }
 }
+
+/// What the parser of words says is wrong with them, where it finds a fault. The only error is want of memory.
+pub(crate) fn parser_says(alloc: Global, words: &[String]) -> Result<Option<String>, AllocError> {
+    match client_command(alloc)?.try_get_matches_from(words) {
+        Ok(_) => Ok(None),
+        Err(error) => Ok(Some(format!(in alloc; "{error}")?)),
+    }
+}

@@ -13,6 +13,10 @@ pub enum LocalCommand {
     Pair,
     /// `load`: the run of this number in such a world.
     Load(u64),
+    /// `--help`: what the program does for which words.
+    Help,
+    /// `--version`.
+    Version,
 }
 
 /// The command that the words are, which leave out the program's own name: `None` exactly where they are none.
@@ -45,6 +49,12 @@ fn script_command(word: &[u8]) -> Option<LocalCommand>
     }
     if word == b"pair".as_slice() {
         return Some(LocalCommand::Pair);
+    }
+    if word == b"--help".as_slice() {
+        return Some(LocalCommand::Help);
+    }
+    if word == b"--version".as_slice() {
+        return Some(LocalCommand::Version);
     }
     None
 }

@@ -9,6 +9,7 @@ mod number;
 mod options;
 mod run;
 mod serve_command;
+mod wrong_words;
 
 pub use client_command::{ENDED, run_client_command};
 pub use run::{
@@ -16,3 +17,4 @@ pub use run::{
     status_without_words,
 };
 pub use serve_command::{NET_FAULT, SPAWN_FAULT, run_serve_command};
+pub use wrong_words::{Mistake, mistake_in, wrong_words_text};

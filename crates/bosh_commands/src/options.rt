@@ -148,3 +148,11 @@ fn plain_number(text: &[u8]) -> Option<u64>
     let rid = Rid::read(text)?;
     Some(rid.value())
 }
+
+/// What the parser of words says is wrong with them, where it finds a fault. The only error is want of memory.
+pub(crate) fn parser_says(alloc: Global, words: &[String]) -> Result<Option<String>, AllocError> {
+    match serve_command(alloc)?.try_get_matches_from(words) {
+        Ok(_) => Ok(None),
+        Err(error) => Ok(Some(format!(in alloc; "{error}")?)),
+    }
+}

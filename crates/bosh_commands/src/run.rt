@@ -1,12 +1,13 @@
 // What the program does over what it is handed.
-ghost use Rattle.std.specs.Prelude.{◌≡◌, ◌≢◌, ◌↔◌, [], ◌∷◌, Contains, IfOk, IsErrOf, None, OnErr, OnOk, Some};
+ghost use Rattle.std.specs.Prelude.{◌≡◌, ◌≢◌, ◌↔◌, [], ◌∷◌, Contains, Err, IfOk, IsErrOf, None, OnErr, OnOk, Some};
+ghost use Rattle.std.specs.Io.KnownBytes.{Appends};
 ghost use Rattle.bosh_ports.specs.Faults.{HasRisen};
 ghost use Rattle.bosh_ports.specs.Sink.{AppendsFront};
 ghost use Rattle.pair_text.specs.Load.{GivesItsLoad, load_text};
-ghost use Rattle.bosh_commands.specs.Run.{GivesFront, GivesItsWord, GivesWhole, command_of, status_of};
+ghost use Rattle.bosh_commands.specs.Run.{GivesFront, GivesItsWord, GivesWhole, command_of, help_text, status_of, version_text};
 
 use crate::command::{LocalCommand, command_of};
-use bosh_ports::{Sink, Source};
+use bosh_ports::{Sink, Source, give_all};
 use pair_text::{run_load, run_pair};
 use script_text::{DriveError, Driven, run_drive};
 use std::alloc::Global;
@@ -25,9 +26,15 @@ pub const WRITE_FAULT: u8 = 5;
 /// Memory ran out.
 pub const NO_MEMORY: u8 = 6;
 
+/// What the program does for which words.
+const HELP: &str =
+    "Robelava, an XMPP BOSH connection manager.\n\nrobelava serve --port PORT       serves XMPP over BOSH at http://127.0.0.1:PORT/http-bind\nrobelava client --port PORT --to HOST\n                                 sends each line of its input as a stanza, and writes what comes\nrobelava drive < SCRIPT          reports what becomes of bodies that reach a manager\nrobelava pair < SCRIPT           the same of a client and a manager over a network that loses\nrobelava load NUMBER             makes such a run from a number\n\nserve --help and client --help show their options.\n";
+
+const VERSION_LINE: &str = "robelava 0.1.0\n";
+
 /// Runs the command that the words name, which leave out the program's own name, and answers the program's status. The
 /// commands `drive` and `pair` run the script that the source gives, and give its report to the sink; `load` gives the line of the run
-/// that its number makes.
+/// that its number makes; `--help` and `--version` give what they ask for.
 pub fn run_local<S: Source, K: Sink>(
     alloc: Global,
     words: &[String],
@@ -95,6 +102,8 @@ fn run<S: Source, K: Sink>(
         LocalCommand::Drive => run_drive(alloc, source, sink),
         LocalCommand::Pair => run_pair(alloc, source, sink),
         LocalCommand::Load(number) => load(alloc, number, sink),
+        LocalCommand::Help => show_help(sink),
+        LocalCommand::Version => show_version(sink),
     }
 }
 
@@ -110,6 +119,44 @@ fn load<K: Sink>(alloc: Global, number: u64, sink: &mut K) -> Result<Driven, Dri
     match run_load(alloc, number, sink) {
         Ok(()) => Ok(Driven::Done),
         Err(error) => Err(error),
+    }
+}
+
+#[tactic(auto, unfolding(crate::specs::Run::help_text))]
+fn show_help<K: Sink>(sink: &mut K) -> Result<Driven, DriveError>
+    ensures done { IfOk result (λ outcome. outcome ≡ Driven.Done) }
+    ensures given { OnOk result (Appends (K.given sink.old) (K.given sink.new) help_text) }
+    ensures part { OnErr result (AppendsFront (K.given sink.old) (K.given sink.new) help_text) }
+    ensures write_fault { OnErr result (HasRisen (K.faults sink.old) (K.faults sink.new)) }
+    ensures error { OnErr result (result ≡ Err DriveError.WriteFault) }
+    ensures counts { OnOk result (K.faults sink.new ≡ K.faults sink.old) }
+{
+    show(sink, HELP.as_bytes())
+}
+
+#[tactic(auto, unfolding(crate::specs::Run::version_text))]
+fn show_version<K: Sink>(sink: &mut K) -> Result<Driven, DriveError>
+    ensures done { IfOk result (λ outcome. outcome ≡ Driven.Done) }
+    ensures given { OnOk result (Appends (K.given sink.old) (K.given sink.new) version_text) }
+    ensures part { OnErr result (AppendsFront (K.given sink.old) (K.given sink.new) version_text) }
+    ensures write_fault { OnErr result (HasRisen (K.faults sink.old) (K.faults sink.new)) }
+    ensures error { OnErr result (result ≡ Err DriveError.WriteFault) }
+    ensures counts { OnOk result (K.faults sink.new ≡ K.faults sink.old) }
+{
+    show(sink, VERSION_LINE.as_bytes())
+}
+
+fn show<K: Sink>(sink: &mut K, text: &[u8]) -> Result<Driven, DriveError>
+    ensures done { IfOk result (λ outcome. outcome ≡ Driven.Done) }
+    ensures given { OnOk result (Appends (K.given sink.old) (K.given sink.new) text.now) }
+    ensures part { OnErr result (AppendsFront (K.given sink.old) (K.given sink.new) text.now) }
+    ensures write_fault { OnErr result (HasRisen (K.faults sink.old) (K.faults sink.new)) }
+    ensures error { OnErr result (result ≡ Err DriveError.WriteFault) }
+    ensures counts { OnOk result (K.faults sink.new ≡ K.faults sink.old) }
+{
+    match give_all(sink, text) {
+        Ok(()) => Ok(Driven::Done),
+        Err(_) => Err(DriveError::WriteFault),
     }
 }
 

@@ -2,9 +2,10 @@
 #![tactic(auto)]
 
 use bosh_commands::{
-    NO_MEMORY, run_client_command, run_local, run_serve_command, status_without_words,
+    NO_MEMORY, WRONG_WORDS, run_client_command, run_local, run_serve_command, status_without_words,
+    wrong_words_text,
 };
-use bosh_ports::{ReadSource, RealBell, Sink, Source, WriteSink};
+use bosh_ports::{ReadSource, RealBell, Sink, Source, WriteSink, give_all};
 use bosh_server::Outside;
 use bosh_types::{Stanzas, Text};
 use client_run::Outside as ClientOutside;
@@ -20,25 +21,31 @@ use std::{env, io};
 use xmpp_backend::{Backend, Echo, Room};
 
 fn main(rt: HostRuntime) -> ExitCode {
-    let status = match words(&rt) {
-        Ok(words) if is_command(&words, "serve") => {
-            let mut sink = WriteSink::new(io::writer(&rt));
-            let mut errors = WriteSink::new(rt.stderr());
-            serve_for_real(&rt, rt.alloc(), &words, &mut sink, &mut errors).unwrap_or(NO_MEMORY)
-        }
-        Ok(words) if is_command(&words, "client") => {
-            let mut source = ReadSource::new(rt.reader());
-            let mut sink = WriteSink::new(io::writer(&rt));
-            ask_for_real(&rt, rt.alloc(), &words, &mut source, &mut sink).unwrap_or(NO_MEMORY)
-        }
-        Ok(words) => {
-            let mut source = ReadSource::new(rt.reader());
-            let mut sink = WriteSink::new(io::writer(&rt));
-            run_local(rt.alloc(), &words, &mut source, &mut sink)
-        }
-        Err(error) => status_without_words(error.kind()),
+    let words = match words(&rt) {
+        Ok(words) => words,
+        Err(error) => return ExitCode::from(status_without_words(error.kind())),
     };
+    let mut source = ReadSource::new(rt.reader());
+    let mut sink = WriteSink::new(io::writer(&rt));
+    let mut errors = WriteSink::new(rt.stderr());
+    let status = if is_command(&words, "serve") {
+        serve_for_real(&rt, rt.alloc(), &words, &mut sink, &mut errors).unwrap_or(NO_MEMORY)
+    } else if is_command(&words, "client") {
+        ask_for_real(&rt, rt.alloc(), &words, &mut source, &mut sink).unwrap_or(NO_MEMORY)
+    } else {
+        run_local(rt.alloc(), &words, &mut source, &mut sink)
+    };
+    if status == WRONG_WORDS {
+        tell_wrong_words(rt.alloc(), &words, &mut errors);
+    }
     ExitCode::from(status)
+}
+
+/// Says what is wrong with the words, where memory and the stream allow it.
+fn tell_wrong_words<E: Sink>(alloc: Global, words: &[String], errors: &mut E) {
+    if let Ok(text) = wrong_words_text(alloc, words) {
+        let _ = give_all(errors, text.as_bytes());
+    }
 }
 
 /// The program's words without its own name.

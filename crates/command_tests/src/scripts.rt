@@ -1,6 +1,8 @@
-use bosh_commands::{BAD_SCRIPT, DONE, READ_FAULT, WRITE_FAULT, WRONG_WORDS, run_local};
+use bosh_commands::{
+    BAD_SCRIPT, DONE, READ_FAULT, WRITE_FAULT, WRONG_WORDS, run_local, wrong_words_text,
+};
 use bosh_ports::{MemorySink, MemorySource};
-use std::alloc::Global;
+use std::alloc::{AllocError, Global};
 use std::test::Fail;
 
 // The status and the report of a script, over a source and a sink that fail at the listed calls.
@@ -123,12 +125,17 @@ fn nothing_is_asked_for_after_the_end(rt: HostRuntime) -> Result<(), Fail> {
     Ok(())
 }
 
-// The status of these words over a script, and what was given.
-fn run_words(alloc: Global, words: &[&str], script: &[u8]) -> Result<(u8, Vec<u8>), Fail> {
+fn words_of(alloc: Global, words: &[&str]) -> Result<Vec<String>, AllocError> {
     let mut all = Vec::new(alloc);
     for word in words {
         all.push(String::from_str(alloc, word)?)?;
     }
+    Ok(all)
+}
+
+// The status of these words over a script, and what was given.
+fn run_words(alloc: Global, words: &[&str], script: &[u8]) -> Result<(u8, Vec<u8>), Fail> {
+    let all = words_of(alloc, words)?;
     let mut source = MemorySource::new(Vec::from_slice(alloc, script)?, Vec::new(alloc));
     let mut sink = MemorySink::new(alloc, Vec::new(alloc));
     let status = run_local(alloc, &all, &mut source, &mut sink);
@@ -151,6 +158,51 @@ fn other_words_are_no_command(rt: HostRuntime) -> Result<(), Fail> {
         let (status, given) = run_words(rt.alloc(), row, b"open 5\nend\n")?;
         assert_eq!(rt; status, WRONG_WORDS);
         assert_eq!(rt; given.as_slice(), b"".as_slice());
+    }
+    Ok(())
+}
+
+#[test]
+fn questions_are_answered(rt: HostRuntime) -> Result<(), Fail> {
+    let rows: [(&[&str], &[u8]); 2] = [
+        (&["--help"], b"Robelava, an XMPP BOSH connection manager.\n"),
+        (&["--version"], b"robelava 0.1.0\n"),
+    ];
+    for (words, front) in rows {
+        let (status, given) = run_words(rt.alloc(), words, b"")?;
+        assert!(rt; status == DONE && given.starts_with(front), "of {words:?}");
+    }
+    Ok(())
+}
+
+// The front of what is told of words that are no command.
+#[test]
+fn wrong_words_are_told(rt: HostRuntime) -> Result<(), Fail> {
+    let rows: [(&[&str], &[u8]); 7] = [
+        (&[], b"robelava: a command is wanted\nusage: "),
+        (&["Drive"], b"robelava: 'Drive' is no command\nusage: "),
+        (
+            &["drive", "now"],
+            b"robelava: a script is read from standard input",
+        ),
+        (&["load"], b"robelava: load takes one number"),
+        (
+            &["--help", "x"],
+            b"robelava: --help and --version stand alone",
+        ),
+        (
+            &["serve", "--port", "0"],
+            b"robelava serve: --port is from 1 to 65535",
+        ),
+        (
+            &["client", "--port", "0", "--to", "h"],
+            b"robelava client: --port is from 1 to 65535",
+        ),
+    ];
+    for (words, front) in rows {
+        let words = words_of(rt.alloc(), words)?;
+        let text = wrong_words_text(rt.alloc(), &words)?;
+        assert!(rt; text.as_bytes().starts_with(front), "of {words:?}");
     }
     Ok(())
 }
