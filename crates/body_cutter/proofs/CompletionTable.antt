@@ -24,7 +24,7 @@ body_forbids : (front : List ℕ) (s : State) (b : ℕ) → reading 0 (first_sta
 body_forbids front s b h l =
     forbidden_is kinds.Body (ctl Start [] [] []) (record { names = tt; name = refl; under = tt; quote = tt }) (inl refl) NamesBody body_lands front s b (body_runs front s h) l
 
-stanza_forbids : (front : List ℕ) (s : State) (b : ℕ) → reading 0 (first_state kinds.Stanza StanzaStart) front ≡ Ended s → is_before_body s.place ≡ false → (is_forbidden front s b ≡ true) ↔ IsForbiddenAfter Anything front b
+pub stanza_forbids : (front : List ℕ) (s : State) (b : ℕ) → reading 0 (first_state kinds.Stanza StanzaStart) front ≡ Ended s → is_before_body s.place ≡ false → (is_forbidden front s b ≡ true) ↔ IsForbiddenAfter Anything front b
 stanza_forbids front s b h l =
     forbidden_is kinds.Stanza (ctl StanzaStart [] [] []) (record { names = tt; name = refl; under = tt; quote = tt }) (inr refl) Anything stanza_lands front s b (stanza_runs front s h) l
 

@@ -89,7 +89,7 @@ read_on kind text s t tail len piece r h =
     }
 
 -- what is before the byte at which a reading stops is read to its end
-front_read : (kind : Kind) (text : List ℕ) (at b : ℕ) (t : State) → reading_from kind text ≡ Stopped at b t → reading_from kind (take at text) ≡ Ended t
+pub front_read : (kind : Kind) (text : List ℕ) (at b : ℕ) (t : State) → reading_from kind text ≡ Stopped at b t → reading_from kind (take at text) ≡ Ended t
 front_read kind text at b t h =
     let k = stops text 0 (first_state kind (start_of kind)) at b t h in
     let len : length k.0 ≡ at = omega (arith, k.3) in
@@ -104,10 +104,10 @@ same_forbidden : (before other : List ℕ) (s : State) (b : ℕ) → ends_in_sec
 unfolding is_forbidden
 same_forbidden before other s b e = ap (λ (t : Bool). is_some s.reference || ((is_opened s.place && (b == 63 || b == 33)) || t)) e
 
-same_refusal : (before other : List ℕ) (at b : ℕ) (s : State) → ends_in_section_start before ≡ ends_in_section_start other → refusal_after before at b s ≡ refusal_after other at b s
+pub same_refusal : (before other : List ℕ) (at b : ℕ) (s : State) → ends_in_section_start before ≡ ends_in_section_start other → refusal_after before at b s ≡ refusal_after other at b s
 same_refusal before other at b s e = ap (λ (t : Bool). if is_before_body s.place then NotBody else if t then Forbidden at else Malformed at) (same_forbidden before other s b e)
 
-stopped_is : (text : List ℕ) (at b : ℕ) (s : State) → stopped_refusal text at b s ≡ refusal_after (take at text) at b s
+pub stopped_is : (text : List ℕ) (at b : ℕ) (s : State) → stopped_refusal text at b s ≡ refusal_after (take at text) at b s
 unfolding stopped_refusal
 stopped_is text at b s = refl
 

@@ -62,4 +62,5 @@ pub mod CompletionOpens
 pub mod CompletionForbidden
 pub mod CompletionTable
 pub mod Cuts
+pub mod BegunStanzas
 pub mod Rows

@@ -17,11 +17,11 @@ use Rattle.body_cutter.specs.declared.place.Around.TheVariants.{NoBody, NoStanza
 use Rattle.body_cutter.specs.declared.place.Act.TheVariants.{Pass, GrowName, ValueByte}
 use Rattle.body_cutter.specs.declared.place.Move.{Move}
 use Rattle.body_cutter.specs.declared.place.Run.{Run}
-use Rattle.body_cutter.specs.declared.place.Run.TheVariants.{Data, Section, Value, Name, Zeros}
+use Rattle.body_cutter.specs.declared.place.Run.TheVariants.{Data, Section, Value, Name, Zeros, Brackets}
 use Rattle.body_cutter.specs.Chars.{is_char_byte, is_plain, is_name_byte, grows_name_plainly, begins_name_plainly, is_letter, is_digit, is_whole, wide_next}
 use Rattle.body_cutter.specs.Names.{around, due}
 use Rattle.body_cutter.specs.References.{reference_next, decimal_or_end, decimal_next, decimal_more, hex_or_end, hex_next, hex_digit, hex_more}
-use Rattle.body_cutter.specs.Tables.{goes, child_content_next, content_next, section_next, value_next, value_plain, tag_name_next, attr_name_next}
+use Rattle.body_cutter.specs.Tables.{goes, more_brackets, child_content_next, content_next, section_next, value_next, value_plain, tag_name_next, attr_name_next}
 use Rattle.body_cutter.specs.Reader.{State, acted, is_body_tag, matched, move_of, next_move, place_next, placed, step, with_name_grown, with_value}
 use Rattle.body_cutter.specs.Refusal.{Reading, Stopped, reading}
 use Rattle.body_cutter.specs.Scanning.{IsRun, ReadsFront, TakesRun, is_child, is_plain_byte, is_run_byte, is_text_byte, is_zero, stops_of, wide_rest}
@@ -115,6 +115,10 @@ data_next : (b : ℕ) → is_run_byte Data b ≡ true → child_content_next 0 b
 unfolding is_run_byte child_content_next
 data_next b h = let t = text_parts 60 38 93 b h in rw (t.one, t.two, t.three, and_no (b == 62), text_char b t.least) refl
 
+bracket_stays : (b : ℕ) → is_run_byte Brackets b ≡ true → child_content_next 2 b ≡ goes (Content 2) Pass
+unfolding is_run_byte child_content_next more_brackets
+bracket_stays b h = let e : b ≡ 93 = eqb-true b 93 h in rw e refl
+
 section_stays : (b : ℕ) → is_run_byte Section b ≡ true → section_next 0 b ≡ goes (InSection 0) Pass
 unfolding is_run_byte section_next
 section_stays b h = let t = text_parts 93 93 93 b h in rw (t.one, and_no (b == 62), text_char b t.least) refl
@@ -193,6 +197,13 @@ data_read s bytes count new x same p r a =
     passed s Data bytes count new x same (λ w next at b g e.
     passes (record s { wide = w }) (Content 0) None next at b p r
     (place_moves (record s { wide = w }) b (Content 0) _ p r (rw (child_is _ a) (data_next b g))) e)
+
+pub brackets_read : (s : State) (bytes : List ℕ) (count : ℕ) (new : State) → IsRun Brackets s.wide bytes count new.wide → new ≡ record s { wide = new.wide } → s.place ≡ Content 2 → s.reference ≡ None → is_child (around s.kind s.elements) ≡ true → ReadsFront s bytes count new
+unfolding place_next content_next
+brackets_read s bytes count new x same p r a =
+    passed s Brackets bytes count new x same (λ w next at b g e.
+    passes (record s { wide = w }) (Content 2) None next at b p r
+    (place_moves (record s { wide = w }) b (Content 2) _ p r (rw (child_is _ a) (bracket_stays b g))) e)
 
 pub section_read : (s : State) (bytes : List ℕ) (count : ℕ) (new : State) → IsRun Section s.wide bytes count new.wide → new ≡ record s { wide = new.wide } → s.place ≡ InSection 0 → s.reference ≡ None → ReadsFront s bytes count new
 unfolding place_next
@@ -361,6 +372,7 @@ plain_goes Section stops b e h = subst (λ (s : ℕ × ℕ × ℕ). is_text_byte
 plain_goes (Value quote) stops b e h = subst (λ (s : ℕ × ℕ × ℕ). is_text_byte s.0 s.1 s.2 b ≡ true) (sym (some_stops e)) h.text
 plain_goes Name stops b e h = none_stops e
 plain_goes Zeros stops b e h = none_stops e
+plain_goes Brackets stops b e h = none_stops e
 
 plain_each : (run : Run) (stops : ℕ × ℕ × ℕ) (bytes : List ℕ) → stops_of run ≡ Some stops → list_all (is_plain_byte stops.0 stops.1 stops.2) bytes ≡ true → (list_all (is_run_byte run) bytes ≡ true) × (wide_rest Whole bytes ≡ Some Whole)
 unfolding wide_rest

@@ -12,6 +12,7 @@ pub mod Scanning
 pub mod Cutting
 pub mod Ends
 pub mod Feeding
+pub mod Begun
 pub mod Grammar
 pub mod Parts
 pub mod BodyText

@@ -3,7 +3,7 @@ use Rattle.std.specs.Prelude.{◌≡◌, ℕ, ◌+◌, ◌≤◌, Bool, true, fa
 use Rattle.std.specs.List.{list_all}
 use Rattle.body_cutter.specs.declared.place.Wide.{Wide}
 use Rattle.body_cutter.specs.declared.place.Run.{Run}
-use Rattle.body_cutter.specs.declared.place.Run.TheVariants.{Data, Section, Value, Name, Zeros}
+use Rattle.body_cutter.specs.declared.place.Run.TheVariants.{Data, Section, Value, Name, Zeros, Brackets}
 use Rattle.body_cutter.specs.declared.place.Around.{Around}
 use Rattle.body_cutter.specs.declared.place.Around.TheVariants.{Child}
 use Rattle.body_cutter.specs.declared.place.Reference.{Reference}
@@ -28,6 +28,7 @@ is_run_byte Section b = is_text_byte 93 93 93 b
 is_run_byte (Value quote) b = is_text_byte quote 60 38 b
 is_run_byte Name b = is_name_byte b
 is_run_byte Zeros b = b == 48
+is_run_byte Brackets b = b == 93
 
 -- the three bytes that end a run of text, if it is one
 abbrev pub stops_of : Run → Option (ℕ × ℕ × ℕ)
@@ -36,6 +37,7 @@ stops_of Section = Some (93, 93, 93)
 stops_of (Value quote) = Some (quote, 60, 38)
 stops_of Name = None
 stops_of Zeros = None
+stops_of Brackets = None
 
 -- a character of text below U+0080, and none of these
 abbrev pub is_plain_byte : ℕ → ℕ → ℕ → ℕ → Bool
@@ -54,6 +56,7 @@ with_run Section s wide bytes = record s { wide = wide }
 with_run (Value quote) s wide bytes = with_value (record s { wide = wide }) bytes
 with_run Name s wide bytes = record s { wide = wide; name = s.name ++ bytes }
 with_run Zeros s wide bytes = record s { wide = wide }
+with_run Brackets s wide bytes = record s { wide = wide }
 
 -- so many bytes at the front go on with a run, and are read so
 pub record TakesRun (run : Run) (old : State) (bytes : List ℕ) (count : ℕ) (new : State) : Type 0 where

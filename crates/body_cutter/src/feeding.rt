@@ -90,7 +90,7 @@ fn rest_with(rest: Option<Wide>, piece: &[u8]) -> Option<Wide>
 
 /// Reads a piece that begins at this place to its end, or to the first byte that is wrong.
 #[tactic(auto, unfolding(crate::specs::Refusal::reading))]
-fn read_piece(
+pub(crate) fn read_piece(
     reader: &mut Reader,
     start: usize,
     piece: &[u8],

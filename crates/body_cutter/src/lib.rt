@@ -18,6 +18,7 @@ mod reader;
 mod references;
 mod refusing;
 mod run;
+mod stanza_cutter;
 mod tags;
 mod tail;
 mod whole_text;
@@ -31,4 +32,5 @@ pub use laws::{
 };
 pub use parts::{Attr, Attrs, Cut, CutError, CutRefusal, Span, Spans};
 pub use prefixes::prefixes_are_viable_where_read;
+pub use stanza_cutter::{Fed, StanzaCutter};
 pub use whole_text::{cut, read_stanza};

@@ -132,6 +132,8 @@ pub enum Run {
     Name,
     /// The zeros before a number.
     Zeros,
+    /// More than two `]` in character data of a child.
+    Brackets,
 }
 
 /// What a byte does to what the reader keeps.

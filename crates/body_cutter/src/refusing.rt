@@ -89,7 +89,7 @@ pub(crate) fn refusal_after(before: &[u8], at: usize, b: u8, reader: &Reader) ->
 
 /// The first limit that a complete text passes.
 #[tactic(auto, unfolding(crate::specs::Refusal::limit_refusal))]
-fn limit_refusal(reader: &Reader) -> Option<CutRefusal>
+pub(crate) fn limit_refusal(reader: &Reader) -> Option<CutRefusal>
     ensures { result ≡ limit_refusal (state_of reader.now) }
 {
     if reader.too_many_attributes {
@@ -105,7 +105,7 @@ fn limit_refusal(reader: &Reader) -> Option<CutRefusal>
 }
 
 #[tactic(auto, unfolding(crate::specs::Refusal::is_complete))]
-fn is_complete(reader: &Reader) -> bool
+pub(crate) fn is_complete(reader: &Reader) -> bool
     ensures { result ≡ is_complete (state_of reader.now) }
 {
     is_content(reader.place)

@@ -35,6 +35,7 @@ fn is_run_byte(run: Run, b: u8) -> bool
         Run::Value(quote) => is_text_byte(quote, b'<', b'&', b),
         Run::Name => is_name_byte(b),
         Run::Zeros => b == b'0',
+        Run::Brackets => b == b']',
     }
 }
 
@@ -49,6 +50,7 @@ fn stops_of(run: Run) -> Option<(u8, u8, u8)>
         Run::Value(quote) => Some((quote, b'<', b'&')),
         Run::Name => None,
         Run::Zeros => None,
+        Run::Brackets => None,
     }
 }
 
@@ -170,13 +172,16 @@ impl Reader {
     fn run_in_content(&mut self, brackets: u8, bytes: &[u8]) -> usize
         ensures { (state_of self.old).place ≡ places.Content brackets → (state_of self.old).reference ≡ None → ReadsFront (state_of self.old) bytes.now result (state_of self.new) }
     {
-        if brackets != 0 {
-            return 0;
-        }
         if !is_child(self.elements.around(self.kind)) {
             return 0;
         }
-        self.pass(Run::Data, bytes)
+        if brackets == 0 {
+            return self.pass(Run::Data, bytes);
+        }
+        if brackets != 2 {
+            return 0;
+        }
+        self.pass(Run::Brackets, bytes)
     }
 
     #[inline]

@@ -8,4 +8,6 @@ mod reading;
 #[cfg(test)]
 mod refusals;
 #[cfg(test)]
+mod whole_bodies;
+#[cfg(test)]
 mod writing;

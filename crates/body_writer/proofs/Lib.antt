@@ -5,6 +5,7 @@ pub mod Fresh
 pub mod Blocks
 pub mod RowsTexts
 pub mod AnswerPieces
+pub mod Refusals
 pub mod RequestPieces
 pub mod ReadBacks
 pub mod AnswerBlocks

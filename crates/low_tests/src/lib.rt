@@ -4,11 +4,15 @@
 #[cfg(test)]
 mod deadlines;
 #[cfg(test)]
+mod due_moments;
+#[cfg(test)]
 mod keeps;
 #[cfg(test)]
 mod keys;
 #[cfg(test)]
 mod reports;
+#[cfg(test)]
+mod striking;
 #[cfg(test)]
 mod types;
 #[cfg(test)]

@@ -1,3 +1,5 @@
 pub mod Due
+pub mod NextDue
 pub mod Overactive
 pub mod Pace
+pub mod Paired

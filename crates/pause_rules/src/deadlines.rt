@@ -1,6 +1,6 @@
-ghost use Rattle.std.specs.Prelude.{◌≡◌, ◌<◌, ◌↔◌, IsTrue};
+ghost use Rattle.std.specs.Prelude.{◌≡◌, ◌+◌, ◌<◌, ◌↔◌, IsTrue};
 ghost use Rattle.std.specs.Option.{SomeIff};
-ghost use Rattle.pause_rules.specs.Due.{is_wait_due, is_silent_due};
+ghost use Rattle.pause_rules.specs.Due.{IsFirstMoment, is_silent_due, is_wait_due, silent_due_at, wait_due_at, within_moments};
 ghost use Rattle.pause_rules.specs.Overactive.{apart, is_overactive, serves_nothing};
 
 use crate::mark::Mark;
@@ -77,6 +77,25 @@ impl Deadlines {
         }
     }
 
+    /// The first moment at which a request that arrived then is due: `None` exactly where no moment of 64 bits is so late.
+    pub fn wait_due_at(&self, arrived: Moment) -> Option<Moment>
+        ensures value { result ≡ wait_due_at self.now.terms arrived }
+        ensures first { IsFirstMoment (is_wait_due self.now.terms arrived) result }
+    {
+        let wait = u64::from(self.terms.wait) * SECOND;
+        moment_after(arrived, wait)
+    }
+
+    /// The first moment at which a client that was last heard or answered then is silent for too long: `None` exactly
+    /// where no moment of 64 bits is so late.
+    pub fn silent_due_at(&self, quiet: Moment) -> Option<Moment>
+        ensures value { result ≡ silent_due_at self.now.period quiet }
+        ensures first { IsFirstMoment (is_silent_due self.now.period quiet) result }
+    {
+        let period = u64::from(self.period) * SECOND;
+        moment_after(quiet, period + 1)
+    }
+
     /// Allows a silence of so many seconds, until `usual` is called (XEP-0124, section 10).
     pub fn pause(&mut self, seconds: u32) -> PauseSet
         ensures too_long { (result ≡ PauseSet.TooLong) ↔ (self.old.terms.maxpause < seconds) }
@@ -124,5 +143,15 @@ impl Deadlines {
             return !prior.creation && prior.empty && prior.bare;
         }
         held >= self.terms.hold
+    }
+}
+
+// The moment so many milliseconds later, if 64 bits hold it.
+fn moment_after(start: Moment, millis: u64) -> Option<Moment>
+    ensures { result ≡ within_moments (start + millis) }
+{
+    match start.millis().checked_add(millis) {
+        Some(later) => Some(Moment::from_millis(later)),
+        None => None,
     }
 }

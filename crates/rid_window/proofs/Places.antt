@@ -1,5 +1,5 @@
 -- The places of a window against the list of all that was placed.
-use Rattle.std.proofs.Common.{◌≡◌, ◌≢◌, ℕ, zero, suc, ◌+◌, ◌-◌, ◌<◌, ◌≤◌, Bool, true, false, inl, inr, List, [], ◌∷◌, ◌++◌, Option, Some, None, is_some, is_none, length, set, drop, take, get_or, refl, sym, ◌∙◌, ap, subst, arith, IsTrue, ◌↔◌, ◌&&◌, get_or-set_same, get_or-set_other, length-append, length-set}
+use Rattle.std.proofs.Common.{◌≡◌, ◌≢◌, ℕ, zero, suc, ◌+◌, ◌-◌, ◌<◌, ◌≤◌, Bool, true, false, inl, inr, List, [], ◌∷◌, ◌++◌, Option, Some, None, is_some, is_none, length, set, drop, take, get_or, refl, sym, ◌∙◌, ap, subst, arith, IsTrue, ◌↔◌, get_or-set_same, get_or-set_other, length-append, length-set}
 use Rattle.std.specs.List.{list_all}
 use Rattle.std.specs.Option.{SomeIff}
 use Rattle.std.proofs.lemmas.Bool.{cases_eq}

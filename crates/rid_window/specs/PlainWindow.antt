@@ -1,5 +1,6 @@
 -- The plain window: everything that was placed in it, and how far it was taken, XEP-0124 section 14.2.
-use Rattle.std.specs.Prelude.{◌≡◌, ℕ, ◌+◌, ◌<◌, ◌≤◌, nat_lt, Bool, if◌then◌else◌, List, [], ◌∷◌, ◌++◌, Option, Some, None, IsSome, ⊤}
+use Rattle.std.specs.Prelude.{◌≡◌, ℕ, ◌+◌, ◌<◌, ◌≤◌, ◌==◌, nat_le, nat_lt, not, Bool, if◌then◌else◌, List, [], ◌∷◌, ◌++◌, Option, Some, None, IsSome, ⊤}
+use Rattle.std.specs.List.{filter}
 use Rattle.bosh_types.specs.ById.{at_id}
 use Rattle.bosh_types.specs.Rid.{greatest_rid}
 use Rattle.rid_window.specs.declared.window.Placed.{Placed}
@@ -96,3 +97,25 @@ module _ {T : Type 0} where
   -- the item that is next was taken, if there is one
   abbrev pub after_ready : PlainWindow T → PlainWindow T
   after_ready plain = record plain { next = next_after plain (ready plain) }
+
+  -- the pairs of all other ids
+  abbrev pub without_id : List (ℕ × T) → ℕ → List (ℕ × T)
+  without_id pairs rid = filter (λ pair. not (pair.0 == rid)) pairs
+
+  -- what stands at an id that was not taken
+  abbrev pub open_at : Option ℕ → List (ℕ × T) → ℕ → Option T
+  open_at None pairs rid = None
+  open_at (Some next) pairs rid = if nat_le next rid then at_id pairs rid else None
+
+  -- nothing was placed at an id that was not taken
+  abbrev pub emptied_at : Option ℕ → List (ℕ × T) → ℕ → List (ℕ × T)
+  emptied_at None pairs rid = pairs
+  emptied_at (Some next) pairs rid = if nat_le next rid then without_id pairs rid else pairs
+
+  -- the item that an id has, where it was not taken
+  abbrev pub open_item : PlainWindow T → ℕ → Option T
+  open_item plain rid = open_at plain.next plain.placed rid
+
+  -- what was placed at the id counts as not placed, where it was not taken
+  abbrev pub after_strike : PlainWindow T → ℕ → PlainWindow T
+  after_strike plain rid = record plain { placed = emptied_at plain.next plain.placed rid }

@@ -1,4 +1,4 @@
-ghost use Rattle.std.specs.Prelude.{◌≡◌, ◌↔◌, ◌-◌, ◌<◌, ◌≤◌, IfOk, IsTrue, is_none, is_some, slice_index_or, vec_len};
+ghost use Rattle.std.specs.Prelude.{◌≡◌, ◌↔◌, ◌-◌, ◌<◌, ◌≤◌, IfOk, IsTrue, is_none, is_some, slice_index_or, slice_set, vec_len};
 ghost use Rattle.std.specs.List.{list_all};
 ghost use Rattle.std.specs.Option.{option_copied};
 
@@ -28,7 +28,7 @@ pub struct Window<T> {
 }
 
 impl<T: Drop> Window<T> {
-    ghost use Rattle.rid_window.specs.PlainWindow.{PlainWindow, new_window, PlaceSays, IsClear, after_place, first_item, reach, ready, after_ready};
+    ghost use Rattle.rid_window.specs.PlainWindow.{PlainWindow, new_window, PlaceSays, IsClear, after_place, first_item, reach, ready, after_ready, after_strike, open_item};
     ghost use Rattle.rid_window.specs.StandsFor.{StandsFor};
 
     /// An empty window of `width` ids from `first` on.
@@ -84,6 +84,18 @@ impl<T: Drop> Window<T> {
         let later = next.next();
         self.next = later;
         Some((next, item))
+    }
+
+    /// Takes the item of an id out of its place, which is empty then: `None` exactly where the place is empty already or
+    /// the id was taken, and then nothing changes. It may be placed again (XEP-0124, section 17.3).
+    pub fn strike(&mut self, rid: Rid) -> Option<T>
+        ensures answer { (plain : PlainWindow T) → StandsFor self.old plain → result ≡ open_item plain rid }
+        ensures after { (plain : PlainWindow T) → StandsFor self.old plain
+            → StandsFor self.new (after_strike plain rid) }
+    {
+        let next = self.next?;
+        let ahead = rid.value().checked_sub(next.value())?;
+        take_at(&mut self.places, ahead as usize)
     }
 
     /// The lowest id not taken: `None` exactly after the greatest was taken.
@@ -152,6 +164,17 @@ fn item_at<T>(places: &[Option<T>], place: usize) -> Option<&T>
         Some(item) => item.as_ref(),
         None => None,
     }
+}
+
+// Takes the item of a place, if it has one, and leaves the place empty.
+fn take_at<T>(places: &mut [Option<T>], place: usize) -> Option<T>
+    ensures item { result ≡ slice_index_or places.old place None }
+    ensures emptied { places.new ≡ slice_set places.old place None }
+{
+    if place >= places.len() {
+        return None;
+    }
+    places[place].take()
 }
 
 // Whether no place has an item.

@@ -5,3 +5,4 @@ pub mod MeaningLemmas
 pub mod NamedValues
 pub mod WrittenNumbers
 pub mod ServingLemmas
+pub mod BodyLemmas

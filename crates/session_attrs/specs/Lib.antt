@@ -1,5 +1,6 @@
 pub mod Admission
 pub mod Attributes
+pub mod Body
 pub mod Forms
 pub mod Meaning
 pub mod Reading

@@ -1,4 +1,4 @@
-use Rattle.std.proofs.Common.{◌≡◌, None, get_or, not, ◌∙◌, ap}
+use Rattle.std.proofs.Common.{None, get_or, not, ◌∙◌, ap}
 use Rattle.rid_window.specs.StandsFor.{StandsFor}
 use Rattle.rid_window.proofs.Places.{first_is, first_none, no_left}
 use Rattle.rid_window.proofs.window.Window.first.Goals as goal

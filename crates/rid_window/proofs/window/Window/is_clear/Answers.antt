@@ -1,4 +1,4 @@
-use Rattle.std.proofs.Common.{◌≡◌, ◌∙◌, ap, not}
+use Rattle.std.proofs.Common.{◌∙◌, ap, not}
 use Rattle.rid_window.specs.StandsFor.{StandsFor}
 use Rattle.rid_window.proofs.Places.{clear_is, clear_past, no_left}
 use Rattle.rid_window.proofs.window.Window.is_clear.Goals as goal

@@ -1,0 +1,2 @@
+pub mod FirstPair
+pub mod Pairs
