@@ -18,7 +18,7 @@ IsRun (runs.Hosted host) (Hosted name greeting) = (host.name ≡ name) × (host.
 IsRun (runs.Hosted host) (Meeting w) = ⊥
 IsRun (runs.Meeting world) Beginning = ⊥
 IsRun (runs.Meeting world) (Hosted host greeting) = ⊥
-IsRun (runs.Meeting world) (Meeting w) = IsWorld world w
+IsRun (runs.Meeting world) (Meeting w) = IsWorld world.value w
 
 abbrev pub IsNext : Next → PlainPairNext → Type 0
 IsNext (nexts.Goes run) (Goes plain) = IsRun run plain

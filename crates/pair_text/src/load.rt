@@ -4,6 +4,7 @@ ghost use Rattle.bosh_ports.specs.Faults.{HasRisen};
 ghost use Rattle.bosh_ports.specs.Sink.{AppendsFront};
 ghost use Rattle.bosh_types.specs.Rid.{IsRid};
 ghost use Rattle.two_ends.specs.Worlds.{IsWorld};
+ghost use Rattle.world_laws.specs.declared.event.WorldEvent.TheVariants.{Return, Send};
 ghost use Rattle.world_laws.specs.Setup.{IsAllowed};
 ghost use Rattle.world_laws.specs.World.{new_world};
 ghost use Rattle.pair_text.specs.Load.{GivesItsLoad, PlainLoad, begun, beginning, carries, carries_greatest, carries_lowest, carries_some, first_id, gives_one, happens, load_of, load_text, message_text, puts_one, returns_for, returns_lowest, round, greeting, host, seed_of, setup_of, told_of, turn, waits};
@@ -19,7 +20,7 @@ use rand_core::SeedableRng;
 use rand_core::utils::NextWord;
 use script_text::{DriveError, push_number};
 use std::alloc::{AllocError, Global};
-use two_ends::{Stepped, World, WorldEvent, every_world_keeps_both_prefixes};
+use two_ends::{World, WorldEvent, every_world_keeps_both_prefixes};
 
 const TURNS: u32 = 2000;
 
@@ -28,7 +29,7 @@ const ROUNDS: u32 = 100;
 // A world that is driven by the words of a generator.
 #[derive(Drop)]
 pub struct Load {
-    pub(crate) world: World,
+    pub(crate) world: Box<World>,
     // How many copies were carried, and how many stanzas were put and given, or were to be.
     pub(crate) copies: u64,
     pub(crate) puts: u64,
@@ -51,8 +52,8 @@ pub fn run_load<K: Sink>(alloc: Global, number: u64, sink: &mut K) -> Result<(),
 {
     every_world_keeps_both_prefixes();
     texts_are_cut_by_the_grammar();
-    let load = load_of(alloc, number)?;
-    let text = print_load_line(alloc, &line_of(number, &load))?;
+    let line = line_of(alloc, number)?;
+    let text = print_load_line(alloc, &line)?;
     give_all(sink, text.as_slice())?;
     Ok(())
 }
@@ -63,10 +64,10 @@ fn load_of(alloc: Global, number: u64) -> Result<Load, AllocError>
     let mut words = ChaCha8Rng::from_seed(seed_of(number));
     let mut load = begun(alloc, words.next_word())?;
     for _ in 0..TURNS {
-        load = load.turn(alloc, words.next_word())?;
+        load.turn(alloc, words.next_word())?;
     }
     for _ in 0..ROUNDS {
-        load = load.round(alloc)?;
+        load.round(alloc)?;
     }
     Ok(load)
 }
@@ -85,15 +86,14 @@ fn begun(alloc: Global, word: u32) -> Result<Load, AllocError>
     ensures { IfOk result (λ load. IsLoad load (begun (first_id word))) }
 {
     let first = first_id(word);
-    let load = Load {
+    let mut load = Load {
         world: new_world(alloc, first)?,
         copies: 0,
         puts: 0,
         gives: 0,
     };
-    let load = load.happens(alloc, WorldEvent::Send)?;
-    let load = load.carry(alloc, first)?;
-    load.happens(alloc, WorldEvent::Return(1))
+    load.begin(alloc, first)?;
+    Ok(load)
 }
 
 fn first_id(word: u32) -> Rid
@@ -106,9 +106,9 @@ fn first_id(word: u32) -> Rid
 }
 
 // A host with a greeting, and a client that wants to reach it.
-fn new_world(alloc: Global, first: Rid) -> Result<World, AllocError>
+fn new_world(alloc: Global, first: Rid) -> Result<Box<World>, AllocError>
     requires { IsRid first }
-    ensures { IfOk result (λ world. IsWorld world (new_world host greeting (setup_of first))) }
+    ensures { IfOk result (λ world. IsWorld world.value (new_world host greeting (setup_of first))) }
 {
     let mut greeting = Vec::new(alloc);
     greeting.push(text(alloc, b"<stream:features/>")?)?;
@@ -122,7 +122,8 @@ fn new_world(alloc: Global, first: Rid) -> Result<World, AllocError>
         keys: 16,
     };
     let host = text(alloc, b"load.example")?;
-    World::new(alloc, host, Stanzas::from_vec(greeting), setup)
+    let world = World::new(alloc, host, Stanzas::from_vec(greeting), setup)?;
+    Ok(Box::new(alloc, world)?)
 }
 
 fn text(alloc: Global, bytes: &[u8]) -> Result<Text, AllocError>
@@ -132,25 +133,33 @@ fn text(alloc: Global, bytes: &[u8]) -> Result<Text, AllocError>
 }
 
 impl Load {
-    fn happens(mut self, alloc: Global, event: WorldEvent) -> Result<Load, AllocError>
-        requires { IsAllowed event }
-        ensures { IfOk result (λ load. (plain : PlainLoad) → IsLoad self plain → IsLoad load (happens event plain)) }
+    // The client's first request is made, carried and answered.
+    fn begin(&mut self, alloc: Global, first: Rid) -> Result<(), AllocError>
+        ensures { OnOk result ((plain : PlainLoad) → IsLoad self.old plain → IsLoad self.new (happens (Return 1) (carries first (happens Send plain)))) }
     {
-        let Stepped { seen: _seen, world } = self.world.step(alloc, event)?;
-        self.world = world;
-        Ok(self)
+        self.happens(alloc, WorldEvent::Send)?;
+        self.carry(alloc, first)?;
+        self.happens(alloc, WorldEvent::Return(1))
     }
 
-    fn carry(mut self, alloc: Global, rid: Rid) -> Result<Load, AllocError>
-        ensures { IfOk result (λ load. (plain : PlainLoad) → IsLoad self plain → IsLoad load (carries rid plain)) }
+    fn happens(&mut self, alloc: Global, event: WorldEvent) -> Result<(), AllocError>
+        requires { IsAllowed event }
+        ensures { OnOk result ((plain : PlainLoad) → IsLoad self.old plain → IsLoad self.new (happens event plain)) }
+    {
+        let _seen = self.world.step(alloc, event)?;
+        Ok(())
+    }
+
+    fn carry(&mut self, alloc: Global, rid: Rid) -> Result<(), AllocError>
+        ensures { OnOk result ((plain : PlainLoad) → IsLoad self.old plain → IsLoad self.new (carries rid plain)) }
     {
         self.copies = self.copies.saturating_add(1);
         self.happens(alloc, WorldEvent::Carry(rid))
     }
 
     // What a word brings.
-    fn turn(self, alloc: Global, word: u32) -> Result<Load, AllocError>
-        ensures { IfOk result (λ load. (plain : PlainLoad) → IsLoad self plain → IsLoad load (turn word plain)) }
+    fn turn(&mut self, alloc: Global, word: u32) -> Result<(), AllocError>
+        ensures { OnOk result ((plain : PlainLoad) → IsLoad self.old plain → IsLoad self.new (turn word plain)) }
     {
         match word % 8 {
             0 => self.put(alloc),
@@ -166,17 +175,17 @@ impl Load {
     }
 
     // What can be brought to an end is.
-    fn round(self, alloc: Global) -> Result<Load, AllocError>
-        ensures { IfOk result (λ load. (plain : PlainLoad) → IsLoad self plain → IsLoad load (round plain)) }
+    fn round(&mut self, alloc: Global) -> Result<(), AllocError>
+        ensures { OnOk result ((plain : PlainLoad) → IsLoad self.old plain → IsLoad self.new (round plain)) }
     {
-        let load = self.happens(alloc, WorldEvent::Send)?;
-        let load = load.carry_lowest(alloc)?;
-        let load = load.carry_greatest(alloc)?;
-        load.return_lowest(alloc)
+        self.happens(alloc, WorldEvent::Send)?;
+        self.carry_lowest(alloc)?;
+        self.carry_greatest(alloc)?;
+        self.return_lowest(alloc)
     }
 
-    fn put(mut self, alloc: Global) -> Result<Load, AllocError>
-        ensures { IfOk result (λ load. (plain : PlainLoad) → IsLoad self plain → IsLoad load (puts_one plain)) }
+    fn put(&mut self, alloc: Global) -> Result<(), AllocError>
+        ensures { OnOk result ((plain : PlainLoad) → IsLoad self.old plain → IsLoad self.new (puts_one plain)) }
     {
         texts_are_cut_by_the_grammar();
         self.puts = self.puts.saturating_add(1);
@@ -184,8 +193,8 @@ impl Load {
         self.happens(alloc, WorldEvent::Put(stanza))
     }
 
-    fn give(mut self, alloc: Global) -> Result<Load, AllocError>
-        ensures { IfOk result (λ load. (plain : PlainLoad) → IsLoad self plain → IsLoad load (gives_one plain)) }
+    fn give(&mut self, alloc: Global) -> Result<(), AllocError>
+        ensures { OnOk result ((plain : PlainLoad) → IsLoad self.old plain → IsLoad self.new (gives_one plain)) }
     {
         texts_are_cut_by_the_grammar();
         self.gives = self.gives.saturating_add(1);
@@ -194,8 +203,8 @@ impl Load {
     }
 
     // Time passes.
-    fn wait(self, alloc: Global, millis: u32) -> Result<Load, AllocError>
-        ensures { IfOk result (λ load. (plain : PlainLoad) → IsLoad self plain → IsLoad load (waits millis plain)) }
+    fn wait(&mut self, alloc: Global, millis: u32) -> Result<(), AllocError>
+        ensures { OnOk result ((plain : PlainLoad) → IsLoad self.old plain → IsLoad self.new (waits millis plain)) }
     {
         let now = self.world.moment().millis();
         let moment = Moment::from_millis(now.saturating_add(u64::from(millis)));
@@ -203,45 +212,45 @@ impl Load {
     }
 
     // A copy of this request comes, if there is one.
-    fn carry_some(self, alloc: Global, rid: Option<Rid>) -> Result<Load, AllocError>
-        ensures { IfOk result (λ load. (plain : PlainLoad) → IsLoad self plain → IsLoad load (carries_some rid plain)) }
+    fn carry_some(&mut self, alloc: Global, rid: Option<Rid>) -> Result<(), AllocError>
+        ensures { OnOk result ((plain : PlainLoad) → IsLoad self.old plain → IsLoad self.new (carries_some rid plain)) }
     {
         match rid {
             Some(rid) => self.carry(alloc, rid),
-            None => Ok(self),
+            None => Ok(()),
         }
     }
 
-    fn carry_lowest(self, alloc: Global) -> Result<Load, AllocError>
-        ensures { IfOk result (λ load. (plain : PlainLoad) → IsLoad self plain → IsLoad load (carries_lowest plain)) }
+    fn carry_lowest(&mut self, alloc: Global) -> Result<(), AllocError>
+        ensures { OnOk result ((plain : PlainLoad) → IsLoad self.old plain → IsLoad self.new (carries_lowest plain)) }
     {
         let rid = self.world.lowest_open();
         self.carry_some(alloc, rid)
     }
 
-    fn carry_greatest(self, alloc: Global) -> Result<Load, AllocError>
-        ensures { IfOk result (λ load. (plain : PlainLoad) → IsLoad self plain → IsLoad load (carries_greatest plain)) }
+    fn carry_greatest(&mut self, alloc: Global) -> Result<(), AllocError>
+        ensures { OnOk result ((plain : PlainLoad) → IsLoad self.old plain → IsLoad self.new (carries_greatest plain)) }
     {
         let rid = self.world.greatest_open();
         self.carry_some(alloc, rid)
     }
 
     // The last answer that was written for the lowest request comes back, if there is one.
-    fn return_lowest(self, alloc: Global) -> Result<Load, AllocError>
-        ensures { IfOk result (λ load. (plain : PlainLoad) → IsLoad self plain → IsLoad load (returns_lowest plain)) }
+    fn return_lowest(&mut self, alloc: Global) -> Result<(), AllocError>
+        ensures { OnOk result ((plain : PlainLoad) → IsLoad self.old plain → IsLoad self.new (returns_lowest plain)) }
     {
         match self.world.lowest_open() {
             Some(rid) => self.return_for(alloc, rid),
-            None => Ok(self),
+            None => Ok(()),
         }
     }
 
-    fn return_for(self, alloc: Global, rid: Rid) -> Result<Load, AllocError>
-        ensures { IfOk result (λ load. (plain : PlainLoad) → IsLoad self plain → IsLoad load (returns_for (Some rid) plain)) }
+    fn return_for(&mut self, alloc: Global, rid: Rid) -> Result<(), AllocError>
+        ensures { OnOk result ((plain : PlainLoad) → IsLoad self.old plain → IsLoad self.new (returns_for (Some rid) plain)) }
     {
         match self.world.last_answer(rid) {
             Some(number) => self.happens(alloc, WorldEvent::Return(number)),
-            None => Ok(self),
+            None => Ok(()),
         }
     }
 }
@@ -257,7 +266,15 @@ fn message(alloc: Global, letter: u8, number: u64) -> Result<Text, AllocError>
     Ok(Text::from_vec(text))
 }
 
-fn line_of(number: u64, load: &Load) -> LoadLine
+// The line that tells of this number's run.
+fn line_of(alloc: Global, number: u64) -> Result<LoadLine, AllocError>
+    ensures { IfOk result (λ line. line ≡ told_of number (load_of number)) }
+{
+    let load = load_of(alloc, number)?;
+    Ok(told_of(number, &load))
+}
+
+fn told_of(number: u64, load: &Load) -> LoadLine
     ensures { (plain : PlainLoad) → IsLoad load.now plain → result ≡ told_of number plain }
 {
     LoadLine {

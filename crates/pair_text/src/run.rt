@@ -16,7 +16,7 @@ use bosh_client::ClientSetup;
 use bosh_types::Text;
 use script_text::{BadKind, Driven};
 use std::alloc::{AllocError, Global};
-use two_ends::{Stepped, World};
+use two_ends::World;
 use world_laws::{Seen, SeenItem, WorldEvent};
 
 // What the lines so far make of a script.
@@ -27,7 +27,7 @@ pub(crate) enum Run {
     // Its first line names the host and its greeting.
     Hosted(Host),
     // Its second line tells the client, and the world goes on.
-    Meeting(World),
+    Meeting(Box<World>),
 }
 
 // What follows a line.
@@ -109,7 +109,7 @@ fn meet(alloc: Global, host: Host, n: u64, terms: ClientTerms) -> Result<Effect,
     if !setup.is_valid() {
         return Effect::bad(alloc, n, BadKind::Grammar);
     }
-    let world = World::new(alloc, host.name, host.greeting, setup)?;
+    let world = Box::new(alloc, World::new(alloc, host.name, host.greeting, setup)?)?;
     Ok(Effect {
         lines: Vec::new(alloc),
         next: Next::Goes(Run::Meeting(world)),
@@ -139,26 +139,36 @@ fn setup_of(alloc: Global, host: &[u8], terms: ClientTerms) -> Result<ClientSetu
 }
 
 // A line after the first two.
-fn later_effect(alloc: Global, world: World, n: u64, said: PairLine) -> Result<Effect, AllocError>
+fn later_effect(
+    alloc: Global,
+    world: Box<World>,
+    n: u64,
+    said: PairLine,
+) -> Result<Effect, AllocError>
     requires { IsSaid said }
-    ensures { IfOk result (λ effect. (w : PlainWorld) → IsWorld world w → Does effect (later_step w n said)) }
+    ensures { IfOk result (λ effect. (w : PlainWorld) → IsWorld world.value w → Does effect (later_step w n said)) }
 {
     match said {
         PairLine::Event(event) => happens(alloc, world, n, event),
-        PairLine::End => end(alloc, world, n),
+        PairLine::End => end(alloc, &world, n),
         _ => Effect::bad(alloc, n, BadKind::Grammar),
     }
 }
 
 // This happens in the world.
-fn happens(alloc: Global, world: World, n: u64, event: WorldEvent) -> Result<Effect, AllocError>
+fn happens(
+    alloc: Global,
+    mut world: Box<World>,
+    n: u64,
+    event: WorldEvent,
+) -> Result<Effect, AllocError>
     requires { IsAllowed event }
-    ensures { IfOk result (λ effect. (w : PlainWorld) → IsWorld world w → Does effect (event_step w n event)) }
+    ensures { IfOk result (λ effect. (w : PlainWorld) → IsWorld world.value w → Does effect (event_step w n event)) }
 {
     if is_past(&world, &event) {
         return Effect::bad(alloc, n, BadKind::Time);
     }
-    let Stepped { seen, world } = world.step(alloc, event)?;
+    let seen = world.step(alloc, event)?;
     if is_no_copy(seen.as_slice()) {
         return Effect::bad(alloc, n, BadKind::Copy);
     }
@@ -201,8 +211,8 @@ fn saw_all(alloc: Global, seen: Seen) -> Result<Vec<PairReport>, AllocError>
 }
 
 // The last line.
-fn end(alloc: Global, world: World, n: u64) -> Result<Effect, AllocError>
-    ensures { IfOk result (λ effect. (w : PlainWorld) → IsWorld world w → Does effect (end_step w n)) }
+fn end(alloc: Global, world: &World, n: u64) -> Result<Effect, AllocError>
+    ensures { IfOk result (λ effect. (w : PlainWorld) → IsWorld world.now w → Does effect (end_step w n)) }
 {
     let mut lines = Vec::new(alloc);
     lines.push(PairReport::Summed(world.sums()))?;

@@ -17,20 +17,19 @@ use Rattle.bosh_client.specs.PlainClient.{Made, PlainClient, bytes_of, id_of}
 use Rattle.bosh_client.specs.StandsFor.{AreFrom, StandsFor}
 use Rattle.world_laws.specs.declared.seen.SeenItem.{SeenItem}
 use Rattle.world_laws.specs.declared.seen.SeenItem.TheVariants as seen
-use Rattle.world_laws.specs.Manager.{PlainManager, arrives, opens}
+use Rattle.world_laws.specs.declared.told.Told.{Told}
+use Rattle.world_laws.specs.Manager.{PlainManager, Turn, arrives, opens}
 use Rattle.world_laws.specs.Sound.{sent_of}
 use Rattle.world_laws.specs.Steps.{carried, carries, carries_to, comes, opening, turns}
 use Rattle.world_laws.specs.World.{PlainWorld}
 use Rattle.world_laws.proofs.InwardLemmas.{id_at}
 use Rattle.world_laws.proofs.PlaceLemmas.{AreNumbered, at_place, past_place}
 use Rattle.two_ends.specs.declared.manager.Manager.{Manager}
-use Rattle.two_ends.specs.declared.manager.Turned.{Turned}
-use Rattle.two_ends.specs.declared.world.Stepped.{Stepped}
 use Rattle.two_ends.specs.declared.world.World.{World}
 use Rattle.two_ends.specs.Copies.{creation_in}
 use Rattle.two_ends.specs.Stands.{IsManager, IsTurn}
 use Rattle.two_ends.specs.Worlds.{IsEnd, IsPlain, IsPlainStep, IsRest}
-use Rattle.two_ends.proofs.EndLemmas.{has_manager, no_manager, rest_without}
+use Rattle.two_ends.proofs.EndLemmas.{has_manager, no_manager}
 
 -- Where a copy stands.
 
@@ -85,19 +84,18 @@ none_sent world w is rid past =
 -- What a copy does.
 
 -- nothing but this is seen, and the world is as before
-pub kept_step : (world : World) (w : PlainWorld) → IsPlain world w → (items : List SeenItem) (stepped : Stepped) → (stepped.seen ≡ items) × (stepped.world ≡ world)
-    → IsPlainStep stepped (record { seen = items; after = w })
-kept_step world w is items stepped it = record { seen_is = it.0; world_is = subst (λ (v : World). IsPlain v w) (sym it.1) is }
+pub kept_step : (world : World) (w : PlainWorld) → IsPlain world w → (items news : List SeenItem) → news ≡ items → IsPlainStep news world (record { seen = items; after = w })
+kept_step world w is items news it = record { seen_is = it; world_is = is }
 
 pub carry_some : (world : World) (w : PlainWorld) → IsPlain world w → (rid place : ℕ) (body : List ℕ) → rid ≡ world.first + place → slice_get world.sent.items place ≡ Some body
-    → (stepped : Stepped) → IsPlainStep stepped (carried w body (request_in body)) → IsPlainStep stepped (carries w rid)
-carry_some world w is rid place body there found stepped step =
-    subst (λ o. IsPlainStep stepped (carries_to w o)) (sym (sent_at world w is.rest rid place there ∙ found)) step
+    → (news : List SeenItem) (next : World) → IsPlainStep news next (carried w body (request_in body)) → IsPlainStep news next (carries w rid)
+carry_some world w is rid place body there found news next step =
+    subst (λ o. IsPlainStep news next (carries_to w o)) (sym (sent_at world w is.rest rid place there ∙ found)) step
 
 pub carry_none : (world : World) (w : PlainWorld) → IsPlain world w → (rid : ℕ) → (world.first ≤ rid → world.first + length world.sent.items ≤ rid)
-    → (stepped : Stepped) → (stepped.seen ≡ seen.NoCopy ∷ []) × (stepped.world ≡ world) → IsPlainStep stepped (carries w rid)
-carry_none world w is rid past stepped it =
-    subst (λ o. IsPlainStep stepped (carries_to w o)) (sym (none_sent world w is.rest rid past)) (kept_step world w is (seen.NoCopy ∷ []) stepped it)
+    → (news : List SeenItem) → news ≡ seen.NoCopy ∷ [] → IsPlainStep news world (carries w rid)
+carry_none world w is rid past news it =
+    subst (λ o. IsPlainStep news world (carries_to w o)) (sym (none_sent world w is.rest rid past)) (kept_step world w is (seen.NoCopy ∷ []) news it)
 
 pub creation_is : (kind : Kind) (creation : Creation) → creation_in kind ≡ Some creation → kind ≡ kinds.Creation creation
 creation_is (kinds.Creation other) creation is = cc
@@ -108,44 +106,38 @@ later_is (kinds.Creation other) is = absurd (cc)
 later_is (kinds.Later sid) is = (sid, refl)
 
 pub dup_step : (world : World) (w : PlainWorld) → IsPlain world w → (body : List ℕ) (request : Request) (creation : Creation) → is_some world.manager ≡ true
-    → (stepped : Stepped) → (stepped.seen ≡ seen.Dup request.rid ∷ []) × (stepped.world ≡ world) → IsPlainStep stepped (comes w body request (kinds.Creation creation) w.manager)
-dup_step world w is body request creation some stepped it = by world.manager w.manager some is.end
+    → (news : List SeenItem) → news ≡ seen.Dup request.rid ∷ [] → IsPlainStep news world (comes w body request (kinds.Creation creation) w.manager)
+dup_step world w is body request creation some news it = by world.manager w.manager some is.end
   where
-    by : (end : Option Manager) (o : Option PlainManager) → is_some end ≡ true → IsEnd end o → IsPlainStep stepped (comes w body request (kinds.Creation creation) o)
+    by : (end : Option Manager) (o : Option PlainManager) → is_some end ≡ true → IsEnd end o → IsPlainStep news world (comes w body request (kinds.Creation creation) o)
     by None o some is_end = absurd (cc)
     by (Some manager) None some is_end = absurd is_end
-    by (Some manager) (Some m) some is_end = kept_step world w is (seen.Dup request.rid ∷ []) stepped it
+    by (Some manager) (Some m) some is_end = kept_step world w is (seen.Dup request.rid ∷ []) news it
 
 pub first_step : (world : World) (w : PlainWorld) → IsPlain world w → (body : List ℕ) (request : Request) (creation : Creation) → is_some world.manager ≡ false
-    → (stepped : Stepped) → IsPlainStep stepped (turns w [] (opens (opening w request body creation))) → IsPlainStep stepped (comes w body request (kinds.Creation creation) w.manager)
-first_step world w is body request creation none stepped step = by world.manager w.manager none is.end
+    → (news : List SeenItem) (next : World) → IsPlainStep news next (turns w [] (opens (opening w request body creation))) → IsPlainStep news next (comes w body request (kinds.Creation creation) w.manager)
+first_step world w is body request creation none news next step = by world.manager w.manager none is.end
   where
-    by : (end : Option Manager) (o : Option PlainManager) → is_some end ≡ false → IsEnd end o → IsPlainStep stepped (comes w body request (kinds.Creation creation) o)
+    by : (end : Option Manager) (o : Option PlainManager) → is_some end ≡ false → IsEnd end o → IsPlainStep news next (comes w body request (kinds.Creation creation) o)
     by None None none is_end = step
     by None (Some m) none is_end = absurd is_end
     by (Some manager) o none is_end = absurd (cc)
 
 -- before the creation came a copy is lost
-pub lost_step : (world : World) (w : PlainWorld) → IsPlain world w → (left : Option Manager) (body sid : List ℕ) (request : Request) → request.kind ≡ kinds.Later sid → world.manager ≡ None → left ≡ None
-    → (items : List SeenItem) → items ≡ [] → (stepped : Stepped) → (stepped.seen ≡ items) × (stepped.world ≡ record world { manager = left }) → IsPlainStep stepped (comes w body request request.kind w.manager)
-lost_step world w is left body sid request kind has out items none stepped it =
-    let absent = no_manager world.manager w.manager has is.end in
-    subst (λ k. IsPlainStep stepped (comes w body request k w.manager)) (sym kind)
-    (subst (λ o. IsPlainStep stepped (comes w body request (kinds.Later sid) o)) (sym absent)
-    (record {
-      seen_is = it.0 ∙ none;
-      world_is = subst (λ v. IsPlain v w) (sym it.1)
-          (record { rest = rest_without world w left is.rest; end = subst (λ o. IsEnd o w.manager) (sym out) (subst (λ o. IsEnd None o) (sym absent) tt) });
-    }))
+pub lost_step : (world : World) (w : PlainWorld) → IsPlain world w → (body sid : List ℕ) (request : Request) → request.kind ≡ kinds.Later sid → world.manager ≡ None
+    → (news : List SeenItem) → news ≡ [] → IsPlainStep news world (comes w body request request.kind w.manager)
+lost_step world w is body sid request kind has news it =
+    subst (λ k. IsPlainStep news world (comes w body request k w.manager)) (sym kind)
+    (subst (λ o. IsPlainStep news world (comes w body request (kinds.Later sid) o)) (sym (no_manager world.manager w.manager has is.end)) (record { seen_is = it; world_is = is }))
 
 pub arrive_step : (world : World) (w : PlainWorld) → IsPlain world w → (manager : Manager) (body sid : List ℕ) (request : Request) → request.kind ≡ kinds.Later sid → world.manager ≡ Some manager
-    → (turned : Turned) → ((m : PlainManager) → IsManager manager m → IsTurn turned (arrives m request body world.moment))
-    → (first : List SeenItem) → first ≡ [] → (stepped : Stepped) → ((turn : _) → IsTurn turned turn → IsPlainStep stepped (turns w first turn))
-    → IsPlainStep stepped (comes w body request request.kind w.manager)
-arrive_step world w is manager body sid request kind has turned call first none stepped step =
+    → (told : List Told) (after : Manager) → ((m : PlainManager) → IsManager manager m → IsTurn told after (arrives m request body world.moment))
+    → (first : List SeenItem) → first ≡ [] → (news : List SeenItem) (next : World) → ((turn : Turn) → IsTurn told after turn → IsPlainStep news next (turns w first turn))
+    → IsPlainStep news next (comes w body request request.kind w.manager)
+arrive_step world w is manager body sid request kind has told after call first none news next step =
     let there = has_manager world.manager manager w.manager has is.end in
     let m = there.plain in
-    subst (λ k. IsPlainStep stepped (comes w body request k w.manager)) (sym kind)
-    (subst (λ o. IsPlainStep stepped (comes w body request (kinds.Later sid) o)) (sym there.is)
-    (subst (λ items. IsPlainStep stepped (turns w items (arrives m request body w.moment))) none
-    (step (arrives m request body w.moment) (subst (λ (n : ℕ). IsTurn turned (arrives m request body n)) is.rest.moment_is (call m there.stands)))))
+    subst (λ k. IsPlainStep news next (comes w body request k w.manager)) (sym kind)
+    (subst (λ o. IsPlainStep news next (comes w body request (kinds.Later sid) o)) (sym there.is)
+    (subst (λ items. IsPlainStep news next (turns w items (arrives m request body w.moment))) none
+    (step (arrives m request body w.moment) (subst (λ (n : ℕ). IsTurn told after (arrives m request body n)) is.rest.moment_is (call m there.stands)))))

@@ -11,7 +11,6 @@ use Rattle.world_laws.specs.Sums.{PlainSums, sums_of}
 use Rattle.world_laws.specs.World.{PlainWorld}
 use Rattle.two_ends.specs.declared.manager.Manager.{Manager}
 use Rattle.two_ends.specs.declared.sums.Sums.{Sums}
-use Rattle.two_ends.specs.declared.world.Stepped.{Stepped}
 use Rattle.two_ends.specs.declared.world.World.{World}
 use Rattle.two_ends.specs.Counting.{Grows, IsMadeEnd, IsPassedOn}
 use Rattle.two_ends.specs.Serves.{serves}
@@ -56,11 +55,11 @@ Counts = (w : PlainWorld) (event : WorldEvent) → IsTrue (serves w.host w.greet
     → w.client.handed_out ≤ length (deliverable w.client) → IsAllowed event → Grows w.client w.manager w.greeting (put_by event) (given_by event) (step w event)
 
 pub counted_step : (world : World) (w : PlainWorld) → IsWorld world w → (event : WorldEvent) → IsAllowed event → Counts
-    → (stepped : Stepped) → IsPlainStep stepped (step w event)
-    → (put given : ℕ) → put ≡ put_by event → given ≡ given_now (is_some world.manager) (is_some stepped.world.manager) (length world.site.greeting) (given_by event)
-    → (items : List SeenItem) → items ≡ stepped.seen → (sums : Sums) → ((plain : PlainSums) → IsCounted world.sums plain → IsCounted sums (grown plain put given items))
-    → IsStep (record { seen = stepped.seen; world = record stepped.world { sums = sums } }) (step w event)
-counted_step world w is event allowed counts stepped happens put given put_is given_is items items_are sums after =
+    → (news : List SeenItem) (next : World) → IsPlainStep news next (step w event)
+    → (put given : ℕ) → put ≡ put_by event → given ≡ given_now (is_some world.manager) (is_some next.manager) (length world.site.greeting) (given_by event)
+    → (items : List SeenItem) → items ≡ news → (sums : Sums) → ((plain : PlainSums) → IsCounted world.sums plain → IsCounted sums (grown plain put given items))
+    → IsStep news (record next { sums = sums }) (step w event)
+counted_step world w is event allowed counts news next happens put given put_is given_is items items_are sums after =
     let rest = is.plain.rest in
     let served : IsTrue (serves w.host w.greeting) =
     subst (λ g. IsTrue (serves w.host g)) rest.greeting_is (subst (λ h. IsTrue (serves h world.site.greeting)) rest.host_is world.site.served) in
@@ -70,8 +69,8 @@ counted_step world w is event allowed counts stepped happens put given put_is gi
     let seen : items ≡ (step w event).seen = items_are ∙ happens.seen_is in
     let since : given ≡ given_since w.manager later.manager w.greeting (given_by event) =
     given_is
-    ∙ ap (λ (b : Bool). given_now b (is_some stepped.world.manager) (length world.site.greeting) (given_by event)) (both_open world.manager w.manager is.plain.end)
-    ∙ ap (λ (b : Bool). given_now (is_some w.manager) b (length world.site.greeting) (given_by event)) (both_open stepped.world.manager later.manager happens.world_is.end)
+    ∙ ap (λ (b : Bool). given_now b (is_some next.manager) (length world.site.greeting) (given_by event)) (both_open world.manager w.manager is.plain.end)
+    ∙ ap (λ (b : Bool). given_now (is_some w.manager) b (length world.site.greeting) (given_by event)) (both_open next.manager later.manager happens.world_is.end)
     ∙ ap (λ (g : List (List ℕ)). given_now (is_some w.manager) (is_some later.manager) (length g) (given_by event)) rest.greeting_is
     ∙ since_is w.manager later.manager w.greeting (given_by event) in
     let sum : IsCounted sums (grown (sums_of w) (put_by event) (given_since w.manager later.manager w.greeting (given_by event)) (step w event).seen) =
@@ -81,7 +80,7 @@ counted_step world w is event allowed counts stepped happens put given put_is gi
     record {
       seen_is = happens.seen_is;
       world_is = record {
-        plain = with_sums stepped.world later sums happens.world_is;
+        plain = with_sums next later sums happens.world_is;
         sums_are = record {
           put_is = sum.put_is ∙ ap counted (sym grows.put_is);
           inward_is = sum.inward_is ∙ ap counted (sym grows.inward_is);

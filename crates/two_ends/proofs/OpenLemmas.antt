@@ -20,11 +20,12 @@ use Rattle.session_core.proofs.GreetingLemmas.{greeting_fits}
 use Rattle.session_journal.specs.declared.entry.Entry.{Entry}
 use Rattle.session_journal.specs.Entries.{request_in}
 use Rattle.session_journal.specs.Stored.{IsJournalOf}
+use Rattle.world_laws.specs.declared.told.Told.{Told}
 use Rattle.world_laws.specs.Manager.{opens}
 use Rattle.world_laws.specs.Steps.{name, opening}
 use Rattle.world_laws.specs.World.{PlainWorld}
 use Rattle.world_laws.proofs.RequestLemmas.{given_read}
-use Rattle.two_ends.specs.declared.manager.Turned.{Turned}
+use Rattle.two_ends.specs.declared.manager.Manager.{Manager}
 use Rattle.two_ends.specs.declared.world.World.{World}
 use Rattle.two_ends.specs.Serves.{serves}
 use Rattle.two_ends.specs.Stands.{IsTurn}
@@ -60,12 +61,12 @@ opening_same w request creation body bytes sid host greeting terms now body_is t
     ∙ ap (λ g. opening_of request body (terms_of creation) name w.host g now) greeting_is
     ∙ ap (λ (n : ℕ). opening_of request body (terms_of creation) name w.host w.greeting n) now_is
 
-pub opened_turn : (world : World) (w : PlainWorld) → IsRest world w → (request : Request) (creation : Creation) (body bytes sid : List ℕ) (terms : Terms) (log : List Entry) (answer : List ℕ) (turned : Turned)
+pub opened_turn : (world : World) (w : PlainWorld) → IsRest world w → (request : Request) (creation : Creation) (body bytes sid : List ℕ) (terms : Terms) (log : List Entry) (answer : List ℕ) (news : List Told) (manager : Manager)
     → bytes ≡ body → terms ≡ terms_of creation → sid ≡ name
     → IsJournalOf log (record { opening = opening_of request bytes terms sid world.site.host world.site.greeting world.moment; entries = [] })
     → answer ≡ answer_text (created_parts (opening_of request bytes terms sid world.site.host world.site.greeting world.moment))
-    → ((o : Opening) → IsJournalOf log (record { opening = o; entries = [] }) → o.request.rid ≡ request.rid → answer ≡ answer_text (created_parts o) → IsTurn turned (opens o))
-    → IsTurn turned (opens (opening w request body creation))
-opened_turn world w rest request creation body bytes sid terms log answer turned body_is terms_are sid_is stored told turn =
+    → ((o : Opening) → IsJournalOf log (record { opening = o; entries = [] }) → o.request.rid ≡ request.rid → answer ≡ answer_text (created_parts o) → IsTurn news manager (opens o))
+    → IsTurn news manager (opens (opening w request body creation))
+opened_turn world w rest request creation body bytes sid terms log answer news manager body_is terms_are sid_is stored told turn =
     let same = opening_same w request creation body bytes sid world.site.host world.site.greeting terms world.moment body_is terms_are sid_is rest.host_is rest.greeting_is rest.moment_is in
     turn (opening w request body creation) (subst (λ o. IsJournalOf log (record { opening = o; entries = [] })) same stored) refl (told ∙ ap (λ o. answer_text (created_parts o)) same)

@@ -18,7 +18,6 @@ use Rattle.world_laws.specs.Steps.{queues, refusals, sends}
 use Rattle.world_laws.specs.World.{PlainWorld}
 use Rattle.world_laws.proofs.ClientLemmas.{Queues, next_by}
 use Rattle.two_ends.specs.declared.site.Site.{Site}
-use Rattle.two_ends.specs.declared.world.Stepped.{Stepped}
 use Rattle.two_ends.specs.declared.world.World.{World}
 use Rattle.two_ends.specs.Worlds.{IsEnd, IsRest, IsPlainStep, IsPlain, pair_of}
 
@@ -37,11 +36,10 @@ rest_client world w is client c stands setup requests = record {
 }
 
 pub queued_step : (world : World) (w : PlainWorld) → IsPlain world w → (client : Client) (word : Word) (queued : Queued) (p : PlainClient × Queued) → Does client queued p → Queues w.client p.0
-    → (stepped : Stepped) → (stepped.seen ≡ refusals word queued) × (stepped.world ≡ record world { client = client }) → IsPlainStep stepped (queues w word p)
-queued_step world w is client word queued p does q stepped it = record {
-  seen_is = it.0 ∙ ap (refusals word) does.replies;
-  world_is = subst (λ (v : World). IsPlain v (record w { client = p.0 })) (sym it.1)
-      (record { rest = rest_client world w is.rest client p.0 does.after q.setup_is q.requests_are; end = is.end });
+    → (news : List SeenItem) → news ≡ refusals word queued → IsPlainStep news (record world { client = client }) (queues w word p)
+queued_step world w is client word queued p does q news it = record {
+  seen_is = it ∙ ap (refusals word) does.replies;
+  world_is = record { rest = rest_client world w is.rest client p.0 does.after q.setup_is q.requests_are; end = is.end };
 }
 
 -- A request is made, or none.
@@ -68,56 +66,54 @@ none_made c now = next_by c now (λ p. p.1 ≡ nexts.Nothing → p.0 ≡ c) (λ 
 none_spent : (c : PlainClient) (now : ℕ) → (next_request c now).1 ≡ nexts.RidsSpent → (next_request c now).0 ≡ c
 none_spent c now = next_by c now (λ p. p.1 ≡ nexts.RidsSpent → p.0 ≡ c) (λ is. refl) (λ is. refl) (λ is. absurd (cc))
 
-module _ (world : World) (w : PlainWorld) (is : IsPlain world w) (client : Client) (next : Next) (does : Does client next (next_request w.client world.moment)) (stepped : Stepped) where
+module _ (world : World) (w : PlainWorld) (is : IsPlain world w) (client : Client) (next : Next) (does : Does client next (next_request w.client world.moment)) (news : List SeenItem) where
   at_moment : Does client next (next_request w.client w.moment)
   at_moment = subst (λ (n : ℕ). Does client next (next_request w.client n)) (is.rest.moment_is) does
 
-  sends_as : (n : Next) → next ≡ n → IsPlainStep stepped (sends w ((next_request w.client w.moment).0, n)) → IsPlainStep stepped (sends w (next_request w.client w.moment))
-  sends_as n same step = subst (λ (x : Next). IsPlainStep stepped (sends w ((next_request w.client w.moment).0, x))) (sym same ∙ at_moment.replies) step
+  sends_as : (later : World) (n : Next) → next ≡ n → IsPlainStep news later (sends w ((next_request w.client w.moment).0, n)) → IsPlainStep news later (sends w (next_request w.client w.moment))
+  sends_as later n same step = subst (λ (x : Next). IsPlainStep news later (sends w ((next_request w.client w.moment).0, x))) (sym same ∙ at_moment.replies) step
 
-  unmoved : (item : SeenItem) → (next_request w.client w.moment).0 ≡ w.client → (stepped.seen ≡ item ∷ []) × (stepped.world ≡ record world { client = client })
-      → IsPlainStep stepped (record { seen = item ∷ []; after = record w { client = (next_request w.client w.moment).0 } })
+  unmoved : (item : SeenItem) → (next_request w.client w.moment).0 ≡ w.client → news ≡ item ∷ []
+      → IsPlainStep news (record world { client = client }) (record { seen = item ∷ []; after = record w { client = (next_request w.client w.moment).0 } })
   unmoved item same it = record {
-    seen_is = it.0;
-    world_is = subst (λ (v : World). IsPlain v (record w { client = (next_request w.client w.moment).0 })) (sym it.1)
-        (record {
-          rest = rest_client world w is.rest client (next_request w.client w.moment).0 at_moment.after (ap (λ (c : PlainClient). c.setup) same) (ap (λ (c : PlainClient). c.requests) same);
-          end = is.end;
-        });
+    seen_is = it;
+    world_is = record {
+      rest = rest_client world w is.rest client (next_request w.client w.moment).0 at_moment.after (ap (λ (c : PlainClient). c.setup) same) (ap (λ (c : PlainClient). c.requests) same);
+      end = is.end;
+    };
   }
 
-  pub none_step : next ≡ nexts.Nothing → (stepped.seen ≡ seen.Nothing ∷ []) × (stepped.world ≡ record world { client = client }) → IsPlainStep stepped (sends w (next_request w.client w.moment))
-  none_step same it = sends_as nexts.Nothing same (unmoved seen.Nothing (none_made w.client w.moment (sym at_moment.replies ∙ same)) it)
+  pub none_step : next ≡ nexts.Nothing → news ≡ seen.Nothing ∷ [] → IsPlainStep news (record world { client = client }) (sends w (next_request w.client w.moment))
+  none_step same it = sends_as _ nexts.Nothing same (unmoved seen.Nothing (none_made w.client w.moment (sym at_moment.replies ∙ same)) it)
 
-  pub spent_step : next ≡ nexts.RidsSpent → (stepped.seen ≡ seen.Spent ∷ []) × (stepped.world ≡ record world { client = client }) → IsPlainStep stepped (sends w (next_request w.client w.moment))
-  spent_step same it = sends_as nexts.RidsSpent same (unmoved seen.Spent (none_spent w.client w.moment (sym at_moment.replies ∙ same)) it)
+  pub spent_step : next ≡ nexts.RidsSpent → news ≡ seen.Spent ∷ [] → IsPlainStep news (record world { client = client }) (sends w (next_request w.client w.moment))
+  spent_step same it = sends_as _ nexts.RidsSpent same (unmoved seen.Spent (none_spent w.client w.moment (sym at_moment.replies ∙ same)) it)
 
   -- one request more is in the network
   pub made_step : (rid : ℕ) (body : List ℕ) (later : World) → next ≡ nexts.Request rid body → later.site ≡ world.site → later.moment ≡ world.moment → later.first ≡ world.first
       → later.client ≡ client → later.manager ≡ world.manager → later.written ≡ world.written → later.sent.items ≡ world.sent.items ++ body ∷ []
-      → (stepped.seen ≡ seen.Req rid body ∷ []) × (stepped.world ≡ later) → IsPlainStep stepped (sends w (next_request w.client w.moment))
+      → news ≡ seen.Req rid body ∷ [] → IsPlainStep news later (sends w (next_request w.client w.moment))
   made_step rid body later same site moment first client_is manager written more it =
       let made = made_so w.client w.moment rid body (sym at_moment.replies ∙ same) in
       let c : PlainClient = (next_request w.client w.moment).0 in
       let requests : c.requests ≡ w.client.requests ++ made.0 ∷ [] = ap (λ (d : PlainClient). d.requests) made.1 in
       let setup : c.setup ≡ w.client.setup = ap (λ (d : PlainClient). d.setup) made.1 in
       let pair : sent_of made.0 ≡ (rid, body) = pair_is made.0 rid body made.2 made.3 in
-      sends_as (nexts.Request rid body) same (record {
-        seen_is = it.0;
-        world_is = subst (λ (v : World). IsPlain v (record w { client = c; sent = w.sent ++ (rid, body) ∷ [] })) (sym it.1)
-            (record {
-              rest = record {
-                host_is = ap (λ (s : Site). s.host) site ∙ is.rest.host_is;
-                greeting_is = ap (λ (s : Site). s.greeting) site ∙ is.rest.greeting_is;
-                moment_is = moment ∙ is.rest.moment_is;
-                first_is = first ∙ is.rest.first_is ∙ ap (λ (s : ClientSetup). s.first) (sym setup);
-                client = subst (λ (x : Client). StandsFor x c) (sym client_is) at_moment.after;
-                sent_are = more ∙ ap (λ l. l ++ body ∷ []) is.rest.sent_are ∙ ap (λ (b : List ℕ). map bytes_of w.client.requests ++ b ∷ []) (sym made.3)
-                    ∙ sym (map-append bytes_of w.client.requests (made.0 ∷ [])) ∙ ap (map bytes_of) (sym requests);
-                network_is = ap (λ l. l ++ (rid, body) ∷ []) is.rest.network_is ∙ ap (λ (p : ℕ × List ℕ). map sent_of w.client.requests ++ p ∷ []) (sym pair)
-                    ∙ sym (map-append sent_of w.client.requests (made.0 ∷ [])) ∙ ap (map sent_of) (sym requests);
-                written_are = ap (λ v. map pair_of v.items) written ∙ is.rest.written_are;
-              };
-              end = subst (λ o. IsEnd o w.manager) (sym manager) is.end;
-            });
+      sends_as later (nexts.Request rid body) same (record {
+        seen_is = it;
+        world_is = record {
+          rest = record {
+            host_is = ap (λ (s : Site). s.host) site ∙ is.rest.host_is;
+            greeting_is = ap (λ (s : Site). s.greeting) site ∙ is.rest.greeting_is;
+            moment_is = moment ∙ is.rest.moment_is;
+            first_is = first ∙ is.rest.first_is ∙ ap (λ (s : ClientSetup). s.first) (sym setup);
+            client = subst (λ (x : Client). StandsFor x c) (sym client_is) at_moment.after;
+            sent_are = more ∙ ap (λ l. l ++ body ∷ []) is.rest.sent_are ∙ ap (λ (b : List ℕ). map bytes_of w.client.requests ++ b ∷ []) (sym made.3)
+                ∙ sym (map-append bytes_of w.client.requests (made.0 ∷ [])) ∙ ap (map bytes_of) (sym requests);
+            network_is = ap (λ l. l ++ (rid, body) ∷ []) is.rest.network_is ∙ ap (λ (p : ℕ × List ℕ). map sent_of w.client.requests ++ p ∷ []) (sym pair)
+                ∙ sym (map-append sent_of w.client.requests (made.0 ∷ [])) ∙ ap (map sent_of) (sym requests);
+            written_are = ap (λ v. map pair_of v.items) written ∙ is.rest.written_are;
+          };
+          end = subst (λ o. IsEnd o w.manager) (sym manager) is.end;
+        };
       })

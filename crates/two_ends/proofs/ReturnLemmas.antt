@@ -15,7 +15,6 @@ use Rattle.world_laws.specs.declared.seen.SeenItem.TheVariants as seen
 use Rattle.world_laws.specs.Steps.{all_handed, ended_seen, left_of, returned, returns, returns_to}
 use Rattle.world_laws.specs.World.{PlainWorld}
 use Rattle.world_laws.proofs.ClientLemmas.{answer_by}
-use Rattle.two_ends.specs.declared.world.Stepped.{Stepped}
 use Rattle.two_ends.specs.declared.world.World.{World}
 use Rattle.two_ends.specs.declared.world.Written.{Written}
 use Rattle.two_ends.specs.Worlds.{IsPlain, IsPlainStep, IsRest, pair_of}
@@ -28,17 +27,17 @@ written_at : (world : World) (w : PlainWorld) → IsRest world w → (place : �
 written_at world w is place = ap (λ (l : List (ℕ × List ℕ)). slice_get l place) (sym is.written_are) ∙ slice_get-map pair_of world.written.items place
 
 pub return_some : (world : World) (w : PlainWorld) → IsPlain world w → (number place : ℕ) (written : Written) → number ≡ suc place → slice_get world.written.items place ≡ Some written
-    → (stepped : Stepped) → IsPlainStep stepped (returned w written.rid (answer w.client written.rid written.body w.moment)) → IsPlainStep stepped (returns w number)
-return_some world w is number place written same there stepped step =
-    subst (λ (n : ℕ). IsPlainStep stepped (returns w n)) (sym same)
-    (subst (λ o. IsPlainStep stepped (returns_to w o)) (sym (written_at world w is.rest place ∙ ap (option_map pair_of) there)) step)
+    → (news : List SeenItem) (next : World) → IsPlainStep news next (returned w written.rid (answer w.client written.rid written.body w.moment)) → IsPlainStep news next (returns w number)
+return_some world w is number place written same there news next step =
+    subst (λ (n : ℕ). IsPlainStep news next (returns w n)) (sym same)
+    (subst (λ o. IsPlainStep news next (returns_to w o)) (sym (written_at world w is.rest place ∙ ap (option_map pair_of) there)) step)
 
 pub return_none : (world : World) (w : PlainWorld) → IsPlain world w → (number : ℕ) → (0 < number → length world.written.items < number)
-    → (stepped : Stepped) → (stepped.seen ≡ seen.NoCopy ∷ []) × (stepped.world ≡ world) → IsPlainStep stepped (returns w number)
-return_none world w is zero past stepped it = kept_step world w is (seen.NoCopy ∷ []) stepped it
-return_none world w is (suc place) past stepped it =
+    → (news : List SeenItem) → news ≡ seen.NoCopy ∷ [] → IsPlainStep news world (returns w number)
+return_none world w is zero past news it = kept_step world w is (seen.NoCopy ∷ []) news it
+return_none world w is (suc place) past news it =
     let none : slice_get world.written.items place ≡ None = slice_get_past world.written.items place (omega (arith, past (omega arith))) in
-    subst (λ o. IsPlainStep stepped (returns_to w o)) (sym (written_at world w is.rest place ∙ ap (option_map pair_of) none)) (kept_step world w is (seen.NoCopy ∷ []) stepped it)
+    subst (λ o. IsPlainStep news world (returns_to w o)) (sym (written_at world w is.rest place ∙ ap (option_map pair_of) none)) (kept_step world w is (seen.NoCopy ∷ []) news it)
 
 -- What it does.
 
@@ -68,48 +67,44 @@ module _ (world : World) (w : PlainWorld) (is : IsPlain world w) (rid : ℕ) (bo
       let keeps = answers_keep w.client rid body w.moment in
       record { rest = rest_client world w is.rest client after at_moment.after keeps.0 keeps.1; end = is.end }
 
-  module _ (stepped : Stepped) where
-    returned_as : (reply : Answered) → answered ≡ reply → IsPlainStep stepped (returned w rid (after, reply)) → IsPlainStep stepped (returned w rid (answer w.client rid body w.moment))
-    returned_as reply same step = subst (λ (r : Answered). IsPlainStep stepped (returned w rid (after, r))) (sym same ∙ at_moment.replies) step
+  abbrev later : World
+  later = record world { client = client }
+
+  module _ (news : List SeenItem) where
+    returned_as : (next : World) (reply : Answered) → answered ≡ reply → IsPlainStep news next (returned w rid (after, reply)) → IsPlainStep news next (returned w rid (answer w.client rid body w.moment))
+    returned_as next reply same step = subst (λ (r : Answered). IsPlainStep news next (returned w rid (after, r))) (sym same ∙ at_moment.replies) step
 
     -- where it was not taken nothing changes
-    unchanged : (items : List SeenItem) → after ≡ w.client → (stepped.seen ≡ items) × (stepped.world ≡ record world { client = client }) → IsPlainStep stepped (record { seen = items; after = w })
-    unchanged items same it =
-        kept_step (record world { client = client }) w (subst (λ (c : PlainClient). IsPlain (record world { client = client }) (record w { client = c })) same taken_world) items stepped it
+    unchanged : (items : List SeenItem) → after ≡ w.client → news ≡ items → IsPlainStep news later (record { seen = items; after = w })
+    unchanged items same it = kept_step later w (subst (λ (c : PlainClient). IsPlain later (record w { client = c })) same taken_world) items news it
 
-    pub unmade_step : answered ≡ answerings.Unmade → (items : List SeenItem) → items ≡ [] → (stepped.seen ≡ items) × (stepped.world ≡ record world { client = client })
-        → IsPlainStep stepped (returned w rid (answer w.client rid body w.moment))
-    unmade_step same items none it =
-        returned_as answerings.Unmade same
-        (unchanged [] (unmade_same w.client rid body w.moment (sym at_moment.replies ∙ same)) (it.0 ∙ none, it.1))
+    pub unmade_step : answered ≡ answerings.Unmade → news ≡ [] → IsPlainStep news later (returned w rid (answer w.client rid body w.moment))
+    unmade_step same it = returned_as later answerings.Unmade same (unchanged [] (unmade_same w.client rid body w.moment (sym at_moment.replies ∙ same)) it)
 
-    pub stale_step : answered ≡ answerings.Stale → (stepped.seen ≡ seen.Stale rid ∷ []) × (stepped.world ≡ record world { client = client })
-        → IsPlainStep stepped (returned w rid (answer w.client rid body w.moment))
+    pub stale_step : answered ≡ answerings.Stale → news ≡ seen.Stale rid ∷ [] → IsPlainStep news later (returned w rid (answer w.client rid body w.moment))
     stale_step same it =
-        returned_as answerings.Stale same (unchanged (seen.Stale rid ∷ []) (stale_same w.client rid body w.moment (sym at_moment.replies ∙ same)) it)
+        returned_as later answerings.Stale same (unchanged (seen.Stale rid ∷ []) (stale_same w.client rid body w.moment (sym at_moment.replies ∙ same)) it)
 
-    pub broken_step : (why : Why) → answered ≡ answerings.Broken why → (stepped.seen ≡ seen.Broken rid ∷ []) × (stepped.world ≡ record world { client = client })
-        → IsPlainStep stepped (returned w rid (answer w.client rid body w.moment))
+    pub broken_step : (why : Why) → answered ≡ answerings.Broken why → news ≡ seen.Broken rid ∷ [] → IsPlainStep news later (returned w rid (answer w.client rid body w.moment))
     broken_step why same it =
-        returned_as (answerings.Broken why) same (unchanged (seen.Broken rid ∷ []) (broken_same w.client rid body w.moment why (sym at_moment.replies ∙ same)) it)
+        returned_as later (answerings.Broken why) same (unchanged (seen.Broken rid ∷ []) (broken_same w.client rid body w.moment why (sym at_moment.replies ∙ same)) it)
 
-    pub done_step : answered ≡ answerings.Done → (before : Option ClientEnd) → before ≡ end_of w.client
-        → ((v : PlainWorld) → IsPlain (record world { client = client }) v
-        → IsPlainStep stepped (record { seen = map seen.Got (left_of v.client) ++ ended_seen before (end_of v.client); after = record v { client = all_handed v.client } }))
-        → IsPlainStep stepped (returned w rid (answer w.client rid body w.moment))
-    done_step same before before_is step =
-        returned_as answerings.Done same
-        (subst (λ b. IsPlainStep stepped (record { seen = map seen.Got (left_of after) ++ ended_seen b (end_of after); after = record w { client = all_handed after } })) before_is
+    pub done_step : (next : World) → answered ≡ answerings.Done → (before : Option ClientEnd) → before ≡ end_of w.client
+        → ((v : PlainWorld) → IsPlain later v
+        → IsPlainStep news next (record { seen = map seen.Got (left_of v.client) ++ ended_seen before (end_of v.client); after = record v { client = all_handed v.client } }))
+        → IsPlainStep news next (returned w rid (answer w.client rid body w.moment))
+    done_step next same before before_is step =
+        returned_as next answerings.Done same
+        (subst (λ b. IsPlainStep news next (record { seen = map seen.Got (left_of after) ++ ended_seen b (end_of after); after = record w { client = all_handed after } })) before_is
         (step (record w { client = after }) taken_world))
 
 -- all that is left is handed out
 pub took_step : (world : World) (w : PlainWorld) → IsPlain world w → (client : Client) → StandsFor client (all_handed w.client) → (before end : Option ClientEnd) → end ≡ end_of (all_handed w.client)
     → (none items all : List SeenItem) → none ≡ [] → items ≡ none ++ map seen.Got (left_of w.client) → all ≡ items ++ ended_seen before end
-    → (stepped : Stepped) → (stepped.seen ≡ all) × (stepped.world ≡ record world { client = client })
-    → IsPlainStep stepped (record { seen = map seen.Got (left_of w.client) ++ ended_seen before (end_of w.client); after = record w { client = all_handed w.client } })
-took_step world w is client stands before end end_is none items all nothing got more stepped it = record {
-  seen_is = it.0 ∙ more ∙ ap (λ (l : List SeenItem). l ++ ended_seen before end) (got ∙ ap (λ (l : List SeenItem). l ++ map seen.Got (left_of w.client)) nothing)
+    → (news : List SeenItem) → news ≡ all
+    → IsPlainStep news (record world { client = client }) (record { seen = map seen.Got (left_of w.client) ++ ended_seen before (end_of w.client); after = record w { client = all_handed w.client } })
+took_step world w is client stands before end end_is none items all nothing got more news it = record {
+  seen_is = it ∙ more ∙ ap (λ (l : List SeenItem). l ++ ended_seen before end) (got ∙ ap (λ (l : List SeenItem). l ++ map seen.Got (left_of w.client)) nothing)
       ∙ ap (λ (e : Option ClientEnd). map seen.Got (left_of w.client) ++ ended_seen before e) end_is;
-  world_is = subst (λ (v : World). IsPlain v (record w { client = all_handed w.client })) (sym it.1)
-      (record { rest = rest_client world w is.rest client (all_handed w.client) stands refl refl; end = is.end });
+  world_is = record { rest = rest_client world w is.rest client (all_handed w.client) stands refl refl; end = is.end };
 }

@@ -6,7 +6,6 @@ use Rattle.bosh_client.specs.Promises.{Begins}
 use Rattle.world_laws.specs.Promises.{KeepsBothPrefixes, ShowsAll, all_seen, was_given, was_made}
 use Rattle.world_laws.specs.Steps.{after, report, step}
 use Rattle.world_laws.specs.World.{PlainWorld}
-use Rattle.two_ends.specs.declared.world.Stepped.{Stepped}
 use Rattle.two_ends.specs.declared.world.World.{World}
 use Rattle.two_ends.specs.Worlds.{IsStep, IsWorld, ShowsBothPrefixes}
 
@@ -20,15 +19,15 @@ pub record RunsOn (world : World) (seen : List (List SeenItem)) (rest : List Wor
 pub runs_from : (world : World) (w : PlainWorld) (events : List WorldEvent) → IsWorld world w → RunsOn world [] events w events
 runs_from world w events is = record { now = w; is = is; report_is = refl; after_is = refl }
 
-pub runs_more : (world : World) (seen : List (List SeenItem)) (event : WorldEvent) (rest : List WorldEvent) (w : PlainWorld) (events : List WorldEvent) (stepped : Stepped)
-    → ((d : PlainWorld) → IsWorld world d → IsStep stepped (step d event)) → RunsOn world seen (event ∷ rest) w events → RunsOn stepped.world (seen ++ stepped.seen ∷ []) rest w events
-runs_more world seen event rest w events stepped happens on =
+pub runs_more : (world next : World) (seen : List (List SeenItem)) (event : WorldEvent) (rest : List WorldEvent) (w : PlainWorld) (events : List WorldEvent) (news : List SeenItem)
+    → ((d : PlainWorld) → IsWorld world d → IsStep news next (step d event)) → RunsOn world seen (event ∷ rest) w events → RunsOn next (seen ++ news ∷ []) rest w events
+runs_more world next seen event rest w events news happens on =
     let s = happens on.now on.is in
-    let next = (step on.now event).after in
+    let after_it = (step on.now event).after in
     record {
-      now = next;
+      now = after_it;
       is = s.world_is;
-      report_is = append_assoc seen (stepped.seen ∷ []) (report next rest) ∙ ap (λ (items : List SeenItem). seen ++ items ∷ report next rest) s.seen_is ∙ on.report_is;
+      report_is = append_assoc seen (news ∷ []) (report after_it rest) ∙ ap (λ (items : List SeenItem). seen ++ items ∷ report after_it rest) s.seen_is ∙ on.report_is;
       after_is = on.after_is;
     }
 

@@ -10,11 +10,10 @@ use Rattle.world_laws.specs.Steps.{answers_in, numbered, turns}
 use Rattle.world_laws.specs.World.{PlainWorld}
 use Rattle.two_ends.specs.declared.manager.Manager.{Manager}
 use Rattle.two_ends.specs.declared.site.Site.{Site}
-use Rattle.two_ends.specs.declared.world.Stepped.{Stepped}
 use Rattle.two_ends.specs.declared.world.World.{World}
 use Rattle.two_ends.specs.declared.world.Written.{Written}
-use Rattle.two_ends.specs.Stands.{IsManager}
-use Rattle.two_ends.specs.Worlds.{IsEnd, IsRest, IsPlainStep, IsPlain, pair_of}
+use Rattle.two_ends.specs.Stands.{IsTurn}
+use Rattle.two_ends.specs.Worlds.{IsEnd, IsRest, IsPlainStep, pair_of}
 
 -- what was seen, and what is left to see, is all
 pub record SeesOn (seen : List SeenItem) (written : List Written) (told : List Told) (now : List SeenItem) (network : List Written) (rest : List Told) : Type 0 where
@@ -38,26 +37,25 @@ nothing_left [] is = refl
 nothing_left (first ∷ told) is = absurd (omega (arith, is))
 
 -- a world after what its manager told
-pub turned_step : (world later : World) (w : PlainWorld) → IsRest world w → (told : List Told) (manager : Manager) (turn : Turn) → told ≡ turn.told → IsManager manager turn.after
-    → (first all : List SeenItem) → (all ≡ first ++ numbered (length world.written.items) told) × (map pair_of later.written.items ≡ map pair_of world.written.items ++ answers_in told)
+pub turned_step : (world later : World) (w : PlainWorld) → IsRest world w → (told : List Told) (manager : Manager) (turn : Turn) → IsTurn told manager turn
+    → (first news : List SeenItem) → (news ≡ first ++ numbered (length world.written.items) told) × (map pair_of later.written.items ≡ map pair_of world.written.items ++ answers_in told)
     → later.site ≡ world.site → later.moment ≡ world.moment → later.first ≡ world.first → later.client ≡ world.client → later.sent ≡ world.sent → later.manager ≡ Some manager
-    → (stepped : Stepped) → (stepped.seen ≡ all) × (stepped.world ≡ later) → IsPlainStep stepped (turns w first turn)
-turned_step world later w rest told manager turn told_is stands first all sees site moment first_id client sent manager_is stepped it =
+    → IsPlainStep news later (turns w first turn)
+turned_step world later w rest told manager turn is first news sees site moment first_id client sent manager_is =
     let count : length world.written.items ≡ length w.written = sym (length-map world.written.items pair_of) ∙ ap length rest.written_are in
     record {
-      seen_is = it.0 ∙ sees.0 ∙ ap (λ (n : ℕ). first ++ numbered n told) count ∙ ap (λ (l : List Told). first ++ numbered (length w.written) l) told_is;
-      world_is = subst (λ (v : World). IsPlain v (turns w first turn).after) (sym it.1)
-          (record {
-            rest = record {
-              host_is = ap (λ (s : Site). s.host) site ∙ rest.host_is;
-              greeting_is = ap (λ (s : Site). s.greeting) site ∙ rest.greeting_is;
-              moment_is = moment ∙ rest.moment_is;
-              first_is = first_id ∙ rest.first_is;
-              client = subst (λ (x : Client). StandsFor x w.client) (sym client) rest.client;
-              sent_are = ap (λ v. v.items) sent ∙ rest.sent_are;
-              network_is = rest.network_is;
-              written_are = sees.1 ∙ ap (λ (l : List (ℕ × List ℕ)). l ++ answers_in told) rest.written_are ∙ ap (λ (l : List Told). w.written ++ answers_in l) told_is;
-            };
-            end = subst (λ o. IsEnd o (Some turn.after)) (sym manager_is) stands;
-          });
+      seen_is = sees.0 ∙ ap (λ (n : ℕ). first ++ numbered n told) count ∙ ap (λ (l : List Told). first ++ numbered (length w.written) l) is.told_is;
+      world_is = record {
+        rest = record {
+          host_is = ap (λ (s : Site). s.host) site ∙ rest.host_is;
+          greeting_is = ap (λ (s : Site). s.greeting) site ∙ rest.greeting_is;
+          moment_is = moment ∙ rest.moment_is;
+          first_is = first_id ∙ rest.first_is;
+          client = subst (λ (x : Client). StandsFor x w.client) (sym client) rest.client;
+          sent_are = ap (λ v. v.items) sent ∙ rest.sent_are;
+          network_is = rest.network_is;
+          written_are = sees.1 ∙ ap (λ (l : List (ℕ × List ℕ)). l ++ answers_in told) rest.written_are ∙ ap (λ (l : List Told). w.written ++ answers_in l) is.told_is;
+        };
+        end = subst (λ o. IsEnd o (Some turn.after)) (sym manager_is) is.manager_is;
+      };
     }

@@ -4,8 +4,6 @@ use Rattle.bosh_client.specs.PlainClient.{bytes_of}
 use Rattle.bosh_client.specs.Promises.{Begins}
 use Rattle.bosh_client.specs.StandsFor.{StandsFor}
 use Rattle.two_ends.specs.declared.manager.Manager.{Manager}
-use Rattle.two_ends.specs.declared.running.Ran.{Ran}
-use Rattle.two_ends.specs.declared.world.Stepped.{Stepped}
 use Rattle.two_ends.specs.declared.world.World.{World}
 use Rattle.two_ends.specs.declared.world.Written.{Written}
 use Rattle.two_ends.specs.Counting.{IsPassedOn}
@@ -47,9 +45,10 @@ pub record IsPlain (world : World) (w : PlainWorld) : Type 0 where
   pub rest : IsRest world w
   pub end : IsEnd world.manager w.manager
 
-pub record IsPlainStep (stepped : Stepped) (step : Step) : Type 0 where
-  pub seen_is : stepped.seen ≡ step.seen
-  pub world_is : IsPlain stepped.world step.after
+-- this was seen of a step, and this is the world after it
+pub record IsPlainStep (seen : List SeenItem) (world : World) (step : Step) : Type 0 where
+  pub seen_is : seen ≡ step.seen
+  pub world_is : IsPlain world step.after
 
 -- and its sums are those of the plain one
 pub record IsWorld (world : World) (w : PlainWorld) : Type 0 where
@@ -57,15 +56,15 @@ pub record IsWorld (world : World) (w : PlainWorld) : Type 0 where
   pub sums_are : IsCounted world.sums (sums_of w)
   pub is_passed_on : IsPassedOn w.manager
 
--- what was seen of a step, and the world after it
-pub record IsStep (stepped : Stepped) (step : Step) : Type 0 where
-  pub seen_is : stepped.seen ≡ step.seen
-  pub world_is : IsWorld stepped.world step.after
+-- the same of the whole world
+pub record IsStep (seen : List SeenItem) (world : World) (step : Step) : Type 0 where
+  pub seen_is : seen ≡ step.seen
+  pub world_is : IsWorld world step.after
 
--- what was seen of events, and the world after them
-pub record IsRun (ran : Ran) (w : PlainWorld) (events : List WorldEvent) : Type 0 where
-  pub report_is : ran.report ≡ report w events
-  pub world_is : IsWorld ran.world (after w events)
+-- this was seen of events, and this is the world after them
+pub record IsRun (told : List (List SeenItem)) (world : World) (w : PlainWorld) (events : List WorldEvent) : Type 0 where
+  pub report_is : told ≡ report w events
+  pub world_is : IsWorld world (after w events)
 
 -- what was seen to be passed on is a beginning of what the client made, and what was seen to be handed out of what the server gave
 pub record ShowsBothPrefixes (w : PlainWorld) (items : List SeenItem) : Type 0 where

@@ -8,16 +8,16 @@ ghost use Rattle.world_laws.specs.declared.seen.SeenItem.TheVariants.{Got};
 ghost use Rattle.world_laws.specs.Steps.{all_handed, ended_seen, left_of, returned, returns};
 ghost use Rattle.world_laws.specs.World.{PlainWorld};
 
-use crate::world::{Stepped, World, Written};
+use crate::world::{World, Written, nothing, only};
 use bosh_client::{Answered, Client, ClientEnd};
-use bosh_types::{Rid, SharedText};
+use bosh_types::{Rid, Row, SharedText};
 use std::alloc::{AllocError, Global};
-use world_laws::SeenItem;
+use world_laws::{Seen, SeenItem};
 
 impl World {
     // The answer with this number comes, where there is one.
-    pub(crate) fn answer(self, alloc: Global, number: u64) -> Result<Stepped, AllocError>
-        ensures { IfOk result (λ stepped. (w : PlainWorld) → IsPlain self w → IsPlainStep stepped (returns w number)) }
+    pub(crate) fn answer(&mut self, alloc: Global, number: u64) -> Result<Seen, AllocError>
+        ensures { IfOk result (λ seen. (w : PlainWorld) → IsPlain self.old w → IsPlainStep seen self.new (returns w number)) }
     {
         match place_of(number, self.written.as_slice()) {
             Some(place) => {
@@ -26,13 +26,13 @@ impl World {
                 let body = written.body.again()?;
                 self.answered(alloc, rid, body)
             }
-            None => self.only(alloc, SeenItem::NoCopy),
+            None => only(alloc, SeenItem::NoCopy),
         }
     }
 
     // An answer with this body comes to the request with this id.
-    fn answered(mut self, alloc: Global, rid: Rid, body: SharedText) -> Result<Stepped, AllocError>
-        ensures { IfOk result (λ stepped. (w : PlainWorld) → IsPlain self w → IsPlainStep stepped (returned w rid (answer w.client rid body w.moment))) }
+    fn answered(&mut self, alloc: Global, rid: Rid, body: SharedText) -> Result<Seen, AllocError>
+        ensures { IfOk result (λ seen. (w : PlainWorld) → IsPlain self.old w → IsPlainStep seen self.new (returned w rid (answer w.client rid body w.moment))) }
     {
         let before = self.client.ended();
         let answered = self
@@ -40,21 +40,21 @@ impl World {
             .answer(alloc, rid, body.as_slice(), self.moment)?;
         match answered {
             Answered::Done => self.took(alloc, before),
-            Answered::Unmade => Ok(self.saw(Vec::new(alloc))),
-            Answered::Stale => self.only(alloc, SeenItem::Stale { rid }),
-            Answered::Broken(_) => self.only(alloc, SeenItem::Broken { rid }),
+            Answered::Unmade => Ok(nothing(alloc)),
+            Answered::Stale => only(alloc, SeenItem::Stale { rid }),
+            Answered::Broken(_) => only(alloc, SeenItem::Broken { rid }),
         }
     }
 
     // All that can be handed out is handed out at once, and the first terminal answer is seen.
-    fn took(mut self, alloc: Global, before: Option<ClientEnd>) -> Result<Stepped, AllocError>
-        ensures { IfOk result (λ stepped. (w : PlainWorld) → IsPlain self w
-            → IsPlainStep stepped (record { seen = map Got (left_of w.client) ++ ended_seen before (end_of w.client); after = record w { client = all_handed w.client } })) }
+    fn took(&mut self, alloc: Global, before: Option<ClientEnd>) -> Result<Seen, AllocError>
+        ensures { IfOk result (λ seen. (w : PlainWorld) → IsPlain self.old w
+            → IsPlainStep seen self.new (record { seen = map Got (left_of w.client) ++ ended_seen before (end_of w.client); after = record w { client = all_handed w.client } })) }
     {
         let mut seen = Vec::new(alloc);
         hand_out_all(&mut self.client, &mut seen)?;
         push_ended(&mut seen, before, self.client.ended())?;
-        Ok(self.saw(seen))
+        Ok(Row::from_vec(seen))
     }
 }
 

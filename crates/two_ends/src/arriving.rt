@@ -10,111 +10,119 @@ ghost use Rattle.world_laws.specs.World.{PlainWorld};
 
 use crate::manager::Manager;
 use crate::reading::request_in;
-use crate::world::{Stepped, World};
+use crate::telling::see_all;
+use crate::world::{World, nothing, only};
 use bosh_types::{Rid, SharedText};
 use session_attrs::{Creation, Kind, Request, negotiate};
 use session_journal::Journalled;
 use std::alloc::{AllocError, Global};
-use world_laws::SeenItem;
+use world_laws::{Seen, SeenItem};
 
 impl World {
     // A copy of the request with this id comes, where it was made.
-    pub(crate) fn carry(self, alloc: Global, rid: Rid) -> Result<Stepped, AllocError>
-        ensures { IfOk result (λ stepped. (w : PlainWorld) → IsPlain self w → IsPlainStep stepped (carries w rid)) }
+    pub(crate) fn carry(&mut self, alloc: Global, rid: Rid) -> Result<Seen, AllocError>
+        ensures { IfOk result (λ seen. (w : PlainWorld) → IsPlain self.old w → IsPlainStep seen self.new (carries w rid)) }
     {
         match place_in(self.first, rid, self.sent.as_slice()) {
             Some(place) => {
                 let body = body_at(self.sent.as_slice(), place).again()?;
                 self.carried(alloc, body)
             }
-            None => self.only(alloc, SeenItem::NoCopy),
+            None => only(alloc, SeenItem::NoCopy),
         }
     }
 
     // A copy with this body comes, which is a request by the laws of the client; another text would be lost.
-    fn carried(self, alloc: Global, body: SharedText) -> Result<Stepped, AllocError>
-        ensures { IfOk result (λ stepped. (w : PlainWorld) → IsPlain self w → IsPlainStep stepped (carried w body (request_in body))) }
+    fn carried(&mut self, alloc: Global, body: SharedText) -> Result<Seen, AllocError>
+        ensures { IfOk result (λ seen. (w : PlainWorld) → IsPlain self.old w → IsPlainStep seen self.new (carried w body (request_in body))) }
     {
         match request_in(alloc, body.as_slice())? {
             Some(request) => self.come(alloc, body, request),
-            None => Ok(self.saw(Vec::new(alloc))),
+            None => Ok(nothing(alloc)),
         }
     }
 
     // It comes to the session, or creates it.
-    fn come(self, alloc: Global, body: SharedText, request: Request) -> Result<Stepped, AllocError>
+    fn come(
+        &mut self,
+        alloc: Global,
+        body: SharedText,
+        request: Request,
+    ) -> Result<Seen, AllocError>
         requires { request_in body ≡ Some request }
-        ensures { IfOk result (λ stepped. (w : PlainWorld) → IsPlain self w → IsPlainStep stepped (comes w body request request.kind w.manager)) }
+        ensures { IfOk result (λ seen. (w : PlainWorld) → IsPlain self.old w → IsPlainStep seen self.new (comes w body request request.kind w.manager)) }
     {
         match creation_in(&request.kind) {
-            Some(creation) => self.come_first(alloc, body, request, creation),
+            Some(creation) => self.come_first(alloc, &body, &request, creation),
             None => self.come_later(alloc, body, request),
         }
     }
 
     // The first creation opens the session, and changes nothing again.
     fn come_first(
-        self,
+        &mut self,
         alloc: Global,
-        body: SharedText,
-        request: Request,
+        body: &SharedText,
+        request: &Request,
         creation: Creation,
-    ) -> Result<Stepped, AllocError>
-        requires read { request_in body ≡ Some request }
-        requires kind { request.kind ≡ kinds.Creation creation }
-        ensures { IfOk result (λ stepped. (w : PlainWorld) → IsPlain self w → IsPlainStep stepped (comes w body request (kinds.Creation creation) w.manager)) }
+    ) -> Result<Seen, AllocError>
+        requires read { request_in body.now ≡ Some request.now }
+        requires kind { request.now.kind ≡ kinds.Creation creation }
+        ensures { IfOk result (λ seen. (w : PlainWorld) → IsPlain self.old w → IsPlainStep seen self.new (comes w body.now request.now (kinds.Creation creation) w.manager)) }
     {
         let rid = request.rid;
         if self.manager.is_some() {
-            return self.only(alloc, SeenItem::Dup { rid });
+            return only(alloc, SeenItem::Dup { rid });
         }
         self.create(alloc, body, request, creation)
     }
 
     // The session is created, and answered at once.
     fn create(
-        self,
+        &mut self,
         alloc: Global,
-        body: SharedText,
-        request: Request,
+        body: &SharedText,
+        request: &Request,
         creation: Creation,
-    ) -> Result<Stepped, AllocError>
-        requires read { request_in body ≡ Some request }
-        requires kind { request.kind ≡ kinds.Creation creation }
-        ensures { IfOk result (λ stepped. (w : PlainWorld) → IsPlain self w → IsPlainStep stepped (turns w [] (opens (opening w request body creation)))) }
+    ) -> Result<Seen, AllocError>
+        requires read { request_in body.now ≡ Some request.now }
+        requires kind { request.now.kind ≡ kinds.Creation creation }
+        ensures { IfOk result (λ seen. (w : PlainWorld) → IsPlain self.old w → IsPlainStep seen self.new (turns w [] (opens (opening w request.now body.now creation)))) }
     {
+        let site = &self.site;
         let (session, answer) = Journalled::open(
             alloc,
-            &request,
+            request,
             body.as_slice(),
             negotiate(&creation),
             b"s1",
-            self.site.host.as_slice(),
-            &self.site.greeting,
+            site.host.as_slice(),
+            &site.greeting,
             self.moment,
             0,
         )?;
-        let turned = Manager::open(alloc, session, request.rid, answer)?;
-        self.turned(Vec::new(alloc), turned)
+        let (manager, told) = Manager::open(alloc, session, request.rid, answer)?;
+        self.manager = Some(manager);
+        see_all(&mut self.written, Vec::new(alloc), told)
     }
 
     // A copy of a later request comes to the session; before the creation came it is lost.
     fn come_later(
-        mut self,
+        &mut self,
         alloc: Global,
         body: SharedText,
         request: Request,
-    ) -> Result<Stepped, AllocError>
+    ) -> Result<Seen, AllocError>
         requires read { request_in body ≡ Some request }
         requires kind { (sid : List ℕ) × (request.kind ≡ kinds.Later sid) }
-        ensures { IfOk result (λ stepped. (w : PlainWorld) → IsPlain self w → IsPlainStep stepped (comes w body request request.kind w.manager)) }
+        ensures { IfOk result (λ seen. (w : PlainWorld) → IsPlain self.old w → IsPlainStep seen self.new (comes w body request request.kind w.manager)) }
     {
-        match self.manager.take() {
+        match &mut self.manager {
             Some(manager) => {
-                let turned = manager.arrive(alloc, request, body, self.moment)?;
-                self.turned(Vec::new(alloc), turned)
+                let told = manager.arrive(alloc, request, body, self.moment)?;
+                see_all(&mut self.written, Vec::new(alloc), told)
             }
-            None => Ok(self.saw(Vec::new(alloc))),
+            None => Ok(nothing(alloc)),
         }
     }
 }

@@ -16,7 +16,6 @@ mod sums;
 mod telling;
 mod world;
 
-pub use running::Ran;
 pub use sums::Sums;
-pub use world::{Stepped, World};
+pub use world::World;
 pub use world_laws::{Report, Seen, SeenItem, Word, WorldEvent, every_world_keeps_both_prefixes};

@@ -30,13 +30,6 @@ pub struct Manager {
     pub(crate) parked: Vec<Parked>,
 }
 
-// What is told of a call, and the manager after it.
-#[derive(Drop)]
-pub struct Turned {
-    pub(crate) told: Vec<Told>,
-    pub(crate) manager: Manager,
-}
-
 impl Manager {
     // The creation came, and was answered with this body.
     pub(crate) fn open(
@@ -44,27 +37,28 @@ impl Manager {
         session: Journalled,
         rid: Rid,
         body: SharedText,
-    ) -> Result<Turned, AllocError>
-        ensures { IfOk result (λ turned. (o : Opening) → IsJournalOf session (record { opening = o; entries = [] }) → o.request.rid ≡ rid
-            → body ≡ answer_text (created_parts o) → IsTurn turned (opens o)) }
+    ) -> Result<(Manager, Vec<Told>), AllocError>
+        ensures { IfOk result (λ opened. (o : Opening) → IsJournalOf session (record { opening = o; entries = [] }) → o.request.rid ≡ rid
+            → body ≡ answer_text (created_parts o) → IsTurn opened.1.items opened.0 (opens o)) }
     {
-        let manager = Manager {
+        let mut manager = Manager {
             session,
             parked: Vec::new(alloc),
         };
-        manager.turned(alloc, false, Some(Told::Answer { rid, body }))
+        let told = manager.turned(alloc, false, Some(Told::Answer { rid, body }))?;
+        Ok((manager, told))
     }
 
     // A copy arrives.
     pub(crate) fn arrive(
-        mut self,
+        &mut self,
         alloc: Global,
         request: Request,
         body: SharedText,
         now: Moment,
-    ) -> Result<Turned, AllocError>
+    ) -> Result<Vec<Told>, AllocError>
         requires { IsAllowed (Arrive request body now) }
-        ensures { IfOk result (λ turned. (m : PlainManager) → IsManager self m → IsTurn turned (arrives m request body now)) }
+        ensures { IfOk result (λ told. (m : PlainManager) → IsManager self.old m → IsTurn told.items self.new (arrives m request body now)) }
     {
         let was_over = self.is_over();
         let rid = request.rid;
@@ -74,13 +68,13 @@ impl Manager {
 
     // The copy of this id was replied this.
     fn arrived(
-        mut self,
+        &mut self,
         alloc: Global,
         was_over: bool,
         rid: Rid,
         reply: Arrived,
-    ) -> Result<Turned, AllocError>
-        ensures { IfOk result (λ turned. (m : PlainManager) → IsManager self m → IsTurn turned (arrived was_over m rid reply)) }
+    ) -> Result<Vec<Told>, AllocError>
+        ensures { IfOk result (λ told. (m : PlainManager) → IsManager self.old m → IsTurn told.items self.new (arrived was_over m rid reply)) }
     {
         match reply {
             Arrived::Answer(body) => self.turned(alloc, was_over, Some(Told::Answer { rid, body })),
@@ -97,45 +91,44 @@ impl Manager {
 
     // The server gives a stanza.
     pub(crate) fn give(
-        mut self,
+        &mut self,
         alloc: Global,
         stanza: SharedText,
         now: Moment,
-    ) -> Result<(Taken, Turned), AllocError>
+    ) -> Result<(Taken, Vec<Told>), AllocError>
         requires { IsTrue (is_stanza stanza) }
-        ensures { IfOk result (λ given. (m : PlainManager) → IsManager self m
-            → (given.0 ≡ (back (session m) unnamed stanza now).1) × IsTurn given.1 (gives m stanza now)) }
+        ensures { IfOk result (λ given. (m : PlainManager) → IsManager self.old m
+            → (given.0 ≡ (back (session m) unnamed stanza now).1) × IsTurn given.1.items self.new (gives m stanza now)) }
     {
         let was_over = self.is_over();
         let taken = back(&mut self.session, stanza, now)?;
-        Ok((taken, self.turned(alloc, was_over, None)?))
+        let told = self.turned(alloc, was_over, None)?;
+        Ok((taken, told))
     }
 
     // The server closes the stream.
     pub(crate) fn shut(
-        mut self,
+        &mut self,
         alloc: Global,
         closing: Closing,
         now: Moment,
-    ) -> Result<(Taken, Turned), AllocError>
-        ensures { IfOk result (λ given. (m : PlainManager) → IsManager self m
-            → (given.0 ≡ (back_closed (session m) unnamed closing now).1) × IsTurn given.1 (shuts m closing now)) }
+    ) -> Result<(Taken, Vec<Told>), AllocError>
+        ensures { IfOk result (λ given. (m : PlainManager) → IsManager self.old m
+            → (given.0 ≡ (back_closed (session m) unnamed closing now).1) × IsTurn given.1.items self.new (shuts m closing now)) }
     {
         let was_over = self.is_over();
         let taken = back_closed(&mut self.session, closing, now)?;
-        Ok((taken, self.turned(alloc, was_over, None)?))
+        let told = self.turned(alloc, was_over, None)?;
+        Ok((taken, told))
     }
 
     // Time passes; where nothing is due, nothing is told.
-    pub(crate) fn pass(mut self, alloc: Global, now: Moment) -> Result<Turned, AllocError>
-        ensures { IfOk result (λ turned. (m : PlainManager) → IsManager self m → IsTurn turned (passes m now)) }
+    pub(crate) fn pass(&mut self, alloc: Global, now: Moment) -> Result<Vec<Told>, AllocError>
+        ensures { IfOk result (λ told. (m : PlainManager) → IsManager self.old m → IsTurn told.items self.new (passes m now)) }
     {
         let was_over = self.is_over();
         match tick(&mut self.session, now)? {
-            Ticked::Quiet => Ok(Turned {
-                told: Vec::new(alloc),
-                manager: self,
-            }),
+            Ticked::Quiet => Ok(Vec::new(alloc)),
             Ticked::Changed => self.turned(alloc, was_over, None),
         }
     }
@@ -149,12 +142,12 @@ impl Manager {
 
     // After a call these are told: what was passed on, the answer of the arriving copy, what was collected, and the ending.
     fn turned(
-        mut self,
+        &mut self,
         alloc: Global,
         was_over: bool,
         answer: Option<Told>,
-    ) -> Result<Turned, AllocError>
-        ensures { IfOk result (λ done. (m : PlainManager) → IsManager self m → IsTurn done (turned was_over m (told_in answer))) }
+    ) -> Result<Vec<Told>, AllocError>
+        ensures { IfOk result (λ told. (m : PlainManager) → IsManager self.old m → IsTurn told.items self.new (turned was_over m (told_in answer))) }
     {
         let mut told = Vec::new(alloc);
         pass_all(&mut self.session, &mut told)?;
@@ -162,10 +155,7 @@ impl Manager {
         let left = collect_all(alloc, &mut self.session, self.parked.as_slice(), &mut told)?;
         self.parked = left;
         push_told(&mut told, ending_told(was_over, self.session.ending()))?;
-        Ok(Turned {
-            told,
-            manager: self,
-        })
+        Ok(told)
     }
 }
 

@@ -10,46 +10,34 @@ ghost use Rattle.world_laws.specs.World.{PlainWorld, new_world};
 
 use crate::laws::events_are_counted;
 use crate::sums::{given_by, put_by};
-use crate::world::{Stepped, World};
+use crate::world::World;
 use bosh_types::Row;
 use std::alloc::{AllocError, Global};
-use world_laws::{Report, WorldEvent, every_world_keeps_both_prefixes};
-
-/// What is seen of events, and the world after them.
-#[derive(Drop)]
-pub struct Ran {
-    pub report: Report,
-    pub world: World,
-}
+use world_laws::{Report, Seen, WorldEvent, every_world_keeps_both_prefixes};
 
 impl World {
     /// Events happen one after the other. Where the world was new, what was seen to be passed on to the server is a beginning
     /// of what the client made, and what was seen to be handed out a beginning of what the server gave. The only error is want
-    /// of memory.
-    pub fn run(self, alloc: Global, events: Vec<WorldEvent>) -> Result<Ran, AllocError>
+    /// of memory, after which nothing is said of the world.
+    pub fn run(&mut self, alloc: Global, events: Vec<WorldEvent>) -> Result<Report, AllocError>
         requires { All IsAllowed events.items }
-        ensures run { IfOk result (λ ran. (w : PlainWorld) → IsWorld self w → IsRun ran w events.items) }
-        ensures prefixes { IfOk result (λ ran. (host : List ℕ) (greeting : List (List ℕ)) (setup : ClientSetup) → IsWorldSetup host greeting setup
-            → IsWorld self (new_world host greeting setup) → ShowsBothPrefixes (after (new_world host greeting setup) events.items) (all_seen ran.report)) }
+        ensures run { IfOk result (λ report. (w : PlainWorld) → IsWorld self.old w → IsRun report self.new w events.items) }
+        ensures prefixes { IfOk result (λ report. (host : List ℕ) (greeting : List (List ℕ)) (setup : ClientSetup) → IsWorldSetup host greeting setup
+            → IsWorld self.old (new_world host greeting setup) → ShowsBothPrefixes (after (new_world host greeting setup) events.items) (all_seen report)) }
     {
         every_world_keeps_both_prefixes();
-        let mut world = self;
         let mut report = Vec::new(alloc);
         for event in events {
-            let stepped = world.step(alloc, event)?;
-            report.push(stepped.seen)?;
-            world = stepped.world;
+            let seen = self.step(alloc, event)?;
+            report.push(seen)?;
         }
-        Ok(Ran {
-            report: Row::from_vec(report),
-            world,
-        })
+        Ok(Row::from_vec(report))
     }
 
-    /// An event happens. The only error is want of memory.
-    pub fn step(self, alloc: Global, event: WorldEvent) -> Result<Stepped, AllocError>
+    /// An event happens. The only error is want of memory, after which nothing is said of the world.
+    pub fn step(&mut self, alloc: Global, event: WorldEvent) -> Result<Seen, AllocError>
         requires { IsAllowed event }
-        ensures { IfOk result (λ stepped. (w : PlainWorld) → IsWorld self w → IsStep stepped (step w event)) }
+        ensures { IfOk result (λ seen. (w : PlainWorld) → IsWorld self.old w → IsStep seen self.new (step w event)) }
     {
         events_are_counted();
         let sums = self.sums;
@@ -57,18 +45,17 @@ impl World {
         let given = given_by(&event);
         let was_open = self.manager.is_some();
         let greeting = self.site.greeting.len() as u64;
-        let stepped = self.happen(alloc, event)?;
-        let Stepped { seen, mut world } = stepped;
-        let is_open = world.manager.is_some();
+        let seen = self.happen(alloc, event)?;
+        let is_open = self.manager.is_some();
         let given = given_since(was_open, is_open, greeting, given);
-        world.sums = sums.after(put, given, seen.as_slice());
-        Ok(Stepped { seen, world })
+        self.sums = sums.after(put, given, seen.as_slice());
+        Ok(seen)
     }
 
     // It happens, and nothing is counted.
-    fn happen(self, alloc: Global, event: WorldEvent) -> Result<Stepped, AllocError>
+    fn happen(&mut self, alloc: Global, event: WorldEvent) -> Result<Seen, AllocError>
         requires { IsAllowed event }
-        ensures { IfOk result (λ stepped. (w : PlainWorld) → IsPlain self w → IsPlainStep stepped (step w event)) }
+        ensures { IfOk result (λ seen. (w : PlainWorld) → IsPlain self.old w → IsPlainStep seen self.new (step w event)) }
     {
         match event {
             WorldEvent::At(moment) => self.at(alloc, moment),

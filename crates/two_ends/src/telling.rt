@@ -5,23 +5,24 @@ ghost use Rattle.world_laws.specs.declared.told.Told.{Told};
 ghost use Rattle.world_laws.specs.Steps.{answers_in, numbered};
 
 use crate::world::Written;
+use bosh_types::Row;
 use std::alloc::AllocError;
-use world_laws::{SeenItem, Told};
+use world_laws::{Seen, SeenItem, Told};
 
 // All of this is seen, after what was seen already, and the answers are in the network from now on.
 pub(crate) fn see_all(
     written: &mut Vec<Written>,
     seen: Vec<SeenItem>,
     told: Vec<Told>,
-) -> Result<Vec<SeenItem>, AllocError>
-    ensures { IfOk result (λ all. (all.items ≡ seen.items ++ numbered (length written.old.items) told.items)
+) -> Result<Seen, AllocError>
+    ensures { IfOk result (λ all. (all ≡ seen.items ++ numbered (length written.old.items) told.items)
         × (map pair_of written.new.items ≡ map pair_of written.old.items ++ answers_in told.items)) }
 {
     let mut all = seen;
     for told in told {
         see(written, &mut all, told)?;
     }
-    Ok(all)
+    Ok(Row::from_vec(all))
 }
 
 // One thing more is seen, whatever follows it.

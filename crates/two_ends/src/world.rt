@@ -34,13 +34,6 @@ pub struct Written {
     pub(crate) body: SharedText,
 }
 
-/// What is seen of an event, and the world after it.
-#[derive(Drop)]
-pub struct Stepped {
-    pub seen: Seen,
-    pub world: World,
-}
-
 impl World {
     /// A world in which nothing has happened yet. The only error is want of memory.
     pub fn new(
@@ -65,23 +58,20 @@ impl World {
             sums: Sums::default(),
         })
     }
+}
 
-    // Nothing but this is seen.
-    pub(crate) fn only(self, alloc: Global, item: SeenItem) -> Result<Stepped, AllocError>
-        ensures { IfOk result (λ stepped. (stepped.seen ≡ item ∷ []) × (stepped.world ≡ self)) }
-    {
-        let mut seen = Vec::new(alloc);
-        seen.push(item)?;
-        Ok(self.saw(seen))
-    }
+// Nothing but this is seen.
+pub(crate) fn only(alloc: Global, item: SeenItem) -> Result<Seen, AllocError>
+    ensures { IfOk result (λ seen. seen ≡ item ∷ []) }
+{
+    let mut seen = Vec::new(alloc);
+    seen.push(item)?;
+    Ok(Row::from_vec(seen))
+}
 
-    // This is seen.
-    pub(crate) fn saw(self, seen: Vec<SeenItem>) -> Stepped
-        ensures { (result.seen ≡ seen.items) × (result.world ≡ self) }
-    {
-        Stepped {
-            seen: Row::from_vec(seen),
-            world: self,
-        }
-    }
+// Nothing is seen.
+pub(crate) fn nothing(alloc: Global) -> Seen
+    ensures { result ≡ [] }
+{
+    Row::from_vec(Vec::new(alloc))
 }

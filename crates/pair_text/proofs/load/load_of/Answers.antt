@@ -30,8 +30,8 @@ loop-preserved c =
     let place : ℕ → ChaCha = λ pos. record { key = key_of (seed_of number); stream = 0; word_pos = pos } in
     record {
       words = moved ∙ ap place (small (c.loop.counter + 1 + 1) (omega (arith, c.loop-test.true)));
-      load = subst (λ n. IsLoad c.in_ok-load-2.load (turns number n start)) (sym (add-one c.loop.counter))
-          (subst (λ w. IsLoad c.in_ok-load-2.load (turn w (turns number c.loop.counter start))) word_is (c.in_ok-load-2.ensures _ c.loop.invariant.load));
+      load = subst (λ n. IsLoad c.turn.new.self (turns number n start)) (sym (add-one c.loop.counter))
+          (subst (λ w. IsLoad c.turn.new.self (turn w (turns number c.loop.counter start))) word_is (c.in_ok-turn.ensures _ c.loop.invariant.load));
     }
 
 pub loop-2-init : goal.loop-2-init
@@ -44,7 +44,7 @@ pub loop-2-preserved : goal.loop-2-preserved
 unfolding rounds
 loop-2-preserved c =
     let load = turns c.args.number 2000 (begun (first_id (word c.args.number 0))) in
-    subst (λ n. IsLoad c.in_ok-load-3.load (rounds n load)) (sym (add-one c.loop-2.counter)) (c.in_ok-load-3.ensures _ c.loop-2.invariant)
+    subst (λ n. IsLoad c.round.new.self (rounds n load)) (sym (add-one c.loop-2.counter)) (c.in_ok-round.ensures _ c.loop-2.invariant)
 
 pub returns : goal.returns
 unfolding load_of

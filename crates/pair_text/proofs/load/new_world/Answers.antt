@@ -6,7 +6,6 @@ use Rattle.world_laws.specs.Setup.{IsWorldSetup}
 use Rattle.world_laws.specs.World.{new_world}
 use Rattle.pair_text.specs.Load.{greeting, host, setup_of}
 use Rattle.pair_text.proofs.LoadLemmas.{load_begins}
-use Rattle.pair_text.proofs.LoadSteps.{ok_map}
 use Rattle.pair_text.proofs.load.new_world.Goals as goal
 
 setup_with : ℕ → List ℕ → List ℕ → ClientSetup
@@ -35,8 +34,7 @@ unfolding setup_with
 returns c =
     let greeting_is : c.from_vec.result ≡ greeting =
     c.from_vec.ensures ∙ c.in_ok-push.ensures.items ∙ ap (λ (l : _). l ++ c.in_ok-text.field-0 ∷ []) c.new-greeting.ensures.items ∙ ap (λ (t : _). t ∷ []) c.in_ok-text.ensures in
-    ok_map c.new.result _ _
-    (λ world. told_by (λ name greets setup. IsWorld world (new_world name greets setup) → IsWorld world (new_world host greeting (setup_of c.args.first)))
+    subst (λ world. IsWorld world (new_world host greeting (setup_of c.args.first))) (sym c.in_ok-new.ensures.ok)
+    (told_by (λ name greets setup. IsWorld c.in_ok-world.world (new_world name greets setup) → IsWorld c.in_ok-world.world (new_world host greeting (setup_of c.args.first)))
     c.args.first c.in_ok-host.host c.in_ok-text-2.field-0 c.in_ok-text-3.field-0 c.from_vec.result
-    c.in_ok-host.ensures greeting_is c.in_ok-text-2.ensures c.in_ok-text-3.ensures (λ is. is))
-    c.new.ensures
+    c.in_ok-host.ensures greeting_is c.in_ok-text-2.ensures c.in_ok-text-3.ensures (λ is. is) c.in_ok-world.ensures)

@@ -9,13 +9,13 @@ use Rattle.pair_text.proofs.load.run_load.Goals as goal
 pub returns-clause-given : goal.returns-clause-given
 returns-clause-given g c = record {
   given = subst (Appends (g.K.Sink.given c.args.sink.now) (g.K.Sink.given c.give_all.new.sink))
-      (c.as_slice.ensures.value ∙ c.in_ok-text.ensures ∙ ap line_of (c.line_of.ensures _ c.in_ok-load.ensures)) c.in_ok-give_all.ensures.given;
+      (c.as_slice.ensures.value ∙ c.in_ok-text.ensures ∙ ap line_of c.in_ok-line.ensures) c.in_ok-give_all.ensures.given;
   prefixes = load_keeps c.texts_are_cut_by_the_grammar.ensures.stanza
       (record { prefixes = c.every_world_keeps_both_prefixes.ensures.prefixes; shown = c.every_world_keeps_both_prefixes.ensures.shown }) c.args.number;
 }
 
-pub returns-in_err-load-clause-part : goal.returns-in_err-load-clause-part
-returns-in_err-load-clause-part g c = OnErr-any c.from_residual.result _ (AppendsFront-none (g.K.Sink.given c.args.sink.now) (load_text c.args.number))
+pub returns-in_err-line-clause-part : goal.returns-in_err-line-clause-part
+returns-in_err-line-clause-part g c = OnErr-any c.from_residual.result _ (AppendsFront-none (g.K.Sink.given c.args.sink.now) (load_text c.args.number))
 
 pub returns-in_err-text-clause-part : goal.returns-in_err-text-clause-part
 returns-in_err-text-clause-part g c = OnErr-any c.from_residual-in_err-text.result _ (AppendsFront-none (g.K.Sink.given c.args.sink.now) (load_text c.args.number))
@@ -23,4 +23,4 @@ returns-in_err-text-clause-part g c = OnErr-any c.from_residual-in_err-text.resu
 pub returns-in_err-give_all-clause-part : goal.returns-in_err-give_all-clause-part
 returns-in_err-give_all-clause-part g c = OnErr-any c.from_residual-in_err-give_all.result _
     (subst (AppendsFront (g.K.Sink.given c.args.sink.now) (g.K.Sink.given c.give_all.new.sink))
-    (c.as_slice.ensures.value ∙ c.in_ok-text.ensures ∙ ap line_of (c.line_of.ensures _ c.in_ok-load.ensures)) c.in_err-give_all.ensures.given)
+    (c.as_slice.ensures.value ∙ c.in_ok-text.ensures ∙ ap line_of c.in_ok-line.ensures) c.in_err-give_all.ensures.given)

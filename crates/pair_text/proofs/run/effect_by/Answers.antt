@@ -1,4 +1,4 @@
-use Rattle.std.proofs.Common.{◌≡◌, ◌∙◌, ℕ, List, ap, subst, sym}
+use Rattle.std.proofs.Common.{◌≡◌, ◌∙◌, ℕ, Box, Global, List, ap, subst, sym}
 use Rattle.pair_text.specs.declared.line.PairLine.{PairLine}
 use Rattle.pair_text.specs.declared.run.Effect.{Effect}
 use Rattle.pair_text.specs.declared.run.Run.{Run}
@@ -26,7 +26,7 @@ hosts host n said effect does (Hosted name greeting) stands =
     subst (λ h. Does effect (second_step h greeting n said)) stands.0 (subst (λ g. Does effect (second_step host.name g n said)) stands.1 does)
 hosts host n said effect does (Meeting w) stands = absurd stands
 
-meets : (world : World) (n : ℕ) (said : PairLine) (effect : Effect) → ((w : PlainWorld) → IsWorld world w → Does effect (later_step w n said)) → DoesFor (runs.Meeting world) n said effect
+meets : (world : Box World Global) (n : ℕ) (said : PairLine) (effect : Effect) → ((w : PlainWorld) → IsWorld world.value w → Does effect (later_step w n said)) → DoesFor (runs.Meeting world) n said effect
 meets world n said effect does Beginning stands = absurd stands
 meets world n said effect does (Hosted host greeting) stands = absurd stands
 meets world n said effect does (Meeting w) stands = does w stands

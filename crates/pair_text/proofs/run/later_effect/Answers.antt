@@ -1,5 +1,6 @@
 use Rattle.std.proofs.Common.{◌≡◌, ℕ, refl, subst, sym}
 use Rattle.script_text.specs.declared.line.BadKind.TheVariants.{Grammar}
+use Rattle.two_ends.specs.Worlds.{IsWorld}
 use Rattle.world_laws.specs.World.{PlainWorld}
 use Rattle.pair_text.specs.declared.line.PairLine.{PairLine}
 use Rattle.pair_text.specs.declared.line.PairLine.TheVariants as lines
@@ -25,4 +26,4 @@ returns-in-Event c = ok_map c.happens.result _ _
 
 pub returns-in-End : goal.returns-in-End
 returns-in-End c = ok_map c.end.result _ _
-    (λ effect does w is. subst (λ said. Does effect (later_step w c.args.n said)) (sym c.in-End.is) (does w is)) c.end.ensures
+    (λ effect does w is. subst (λ said. Does effect (later_step w c.args.n said)) (sym c.in-End.is) (does w (subst (λ x. IsWorld x w) (sym c.deref.ensures) is))) c.end.ensures

@@ -11,6 +11,6 @@ returns c = λ m is.
     let call = c.in_ok-taken.ensures.reply m.journal is.journal in
     let after = with_journal m (after_call m.journal (BackClosed unnamed c.args.closing c.args.now)) in (
       call.0,
-      subst (λ over. IsTurn c.in_ok-turned.field-0 (turned over after [])) (c.is_over-was_over.ensures m is)
-          (c.in_ok-turned.ensures after (record { journal = call.1; parked = is.parked })),
+      subst (λ over. IsTurn c.in_ok-told.told.items c.turned.new.self (turned over after [])) (c.is_over-was_over.ensures m is)
+          (c.in_ok-told.ensures after (record { journal = call.1; parked = is.parked })),
     )

@@ -18,7 +18,7 @@ returns c = λ m is.
     let ending = (c.ending.ensures).holds ∙ ap (λ (k : Journal). (state_of k).ending) same in
     let last = c.ending_told.ensures ∙ ap (ending_told c.args.was_over) ending in
     record {
-      told = joined _ _ _ _ _ _ _ _ _ c.new-told.ensures.items passed.0 c.in_ok-push_told.ensures collected.0
+      told_is = joined _ _ _ _ _ _ _ _ _ c.new-told.ensures.items passed.0 c.in_ok-push_told.ensures collected.0
           (c.in_ok-push_told-2.ensures ∙ ap (λ l. c.collect_all.new.told.items ++ l) last);
-      manager = record { journal = collected.2; parked = collected.1 };
+      manager_is = record { journal = collected.2; parked = collected.1 };
     }

@@ -12,5 +12,5 @@ pub come_later-requires-clause-kind : goal.come_later-requires-clause-kind
 come_later-requires-clause-kind c = later_is c.args.request.kind (sym c.creation_in.ensures ∙ c.in-None.is)
 
 pub returns-in-Some : goal.returns-in-Some
-returns-in-Some c = IfOk-from c.come_first.result _ _ (λ stepped it w is.
-    subst (λ k. IsPlainStep stepped (comes w c.args.body c.args.request k w.manager)) (sym (creation_is c.args.request.kind c.in-Some.creation (sym c.creation_in.ensures ∙ c.in-Some.is))) (it w is)) c.come_first.ensures
+returns-in-Some c = IfOk-from c.come_first.result _ _ (λ news it w is.
+    subst (λ k. IsPlainStep news c.come_first.new.self (comes w c.args.body c.args.request k w.manager)) (sym (creation_is c.args.request.kind c.in-Some.creation (sym c.creation_in.ensures ∙ c.in-Some.is))) (it w is)) c.come_first.ensures

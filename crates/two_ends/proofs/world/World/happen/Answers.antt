@@ -12,31 +12,31 @@ pub give-requires : goal.give-requires
 give-requires c = subst IsAllowed c.in-Give.is c.requires
 
 pub returns-in-At : goal.returns-in-At
-returns-in-At c = IfOk-from c.at.result _ _ (λ stepped it w is. subst (λ e. IsPlainStep stepped (step w e)) (sym c.in-At.is) (it w is)) c.at.ensures
+returns-in-At c = IfOk-from c.at.result _ _ (λ news it w is. subst (λ e. IsPlainStep news c.at.new.self (step w e)) (sym c.in-At.is) (it w is)) c.at.ensures
 
 pub returns-in-Put : goal.returns-in-Put
-returns-in-Put c = IfOk-from c.put.result _ _ (λ stepped it w is. subst (λ e. IsPlainStep stepped (step w e)) (sym c.in-Put.is) (it w is)) c.put.ensures
+returns-in-Put c = IfOk-from c.put.result _ _ (λ news it w is. subst (λ e. IsPlainStep news c.put.new.self (step w e)) (sym c.in-Put.is) (it w is)) c.put.ensures
 
 pub returns-in-Restart : goal.returns-in-Restart
-returns-in-Restart c = IfOk-from c.restart.result _ _ (λ stepped it w is. subst (λ e. IsPlainStep stepped (step w e)) (sym c.in-Restart.is) (it w is)) c.restart.ensures
+returns-in-Restart c = IfOk-from c.restart.result _ _ (λ news it w is. subst (λ e. IsPlainStep news c.restart.new.self (step w e)) (sym c.in-Restart.is) (it w is)) c.restart.ensures
 
 pub returns-in-Pause : goal.returns-in-Pause
-returns-in-Pause c = IfOk-from c.pause.result _ _ (λ stepped it w is. subst (λ e. IsPlainStep stepped (step w e)) (sym c.in-Pause.is) (it w is)) c.pause.ensures
+returns-in-Pause c = IfOk-from c.pause.result _ _ (λ news it w is. subst (λ e. IsPlainStep news c.pause.new.self (step w e)) (sym c.in-Pause.is) (it w is)) c.pause.ensures
 
 pub returns-in-Stop : goal.returns-in-Stop
-returns-in-Stop c = IfOk-from c.stop.result _ _ (λ stepped it w is. subst (λ e. IsPlainStep stepped (step w e)) (sym c.in-Stop.is) (it w is)) c.stop.ensures
+returns-in-Stop c = IfOk-from c.stop.result _ _ (λ news it w is. subst (λ e. IsPlainStep news c.stop.new.self (step w e)) (sym c.in-Stop.is) (it w is)) c.stop.ensures
 
 pub returns-in-Send : goal.returns-in-Send
-returns-in-Send c = IfOk-from c.send.result _ _ (λ stepped it w is. subst (λ e. IsPlainStep stepped (step w e)) (sym c.in-Send.is) (it w is)) c.send.ensures
+returns-in-Send c = IfOk-from c.send.result _ _ (λ news it w is. subst (λ e. IsPlainStep news c.send.new.self (step w e)) (sym c.in-Send.is) (it w is)) c.send.ensures
 
 pub returns-in-Carry : goal.returns-in-Carry
-returns-in-Carry c = IfOk-from c.carry.result _ _ (λ stepped it w is. subst (λ e. IsPlainStep stepped (step w e)) (sym c.in-Carry.is) (it w is)) c.carry.ensures
+returns-in-Carry c = IfOk-from c.carry.result _ _ (λ news it w is. subst (λ e. IsPlainStep news c.carry.new.self (step w e)) (sym c.in-Carry.is) (it w is)) c.carry.ensures
 
 pub returns-in-Give : goal.returns-in-Give
-returns-in-Give c = IfOk-from c.give.result _ _ (λ stepped it w is. subst (λ e. IsPlainStep stepped (step w e)) (sym c.in-Give.is) (it w is)) c.give.ensures
+returns-in-Give c = IfOk-from c.give.result _ _ (λ news it w is. subst (λ e. IsPlainStep news c.give.new.self (step w e)) (sym c.in-Give.is) (it w is)) c.give.ensures
 
 pub returns-in-Shut : goal.returns-in-Shut
-returns-in-Shut c = IfOk-from c.shut.result _ _ (λ stepped it w is. subst (λ e. IsPlainStep stepped (step w e)) (sym c.in-Shut.is) (it w is)) c.shut.ensures
+returns-in-Shut c = IfOk-from c.shut.result _ _ (λ news it w is. subst (λ e. IsPlainStep news c.shut.new.self (step w e)) (sym c.in-Shut.is) (it w is)) c.shut.ensures
 
 pub returns-in-Return : goal.returns-in-Return
-returns-in-Return c = IfOk-from c.answer.result _ _ (λ stepped it w is. subst (λ e. IsPlainStep stepped (step w e)) (sym c.in-Return.is) (it w is)) c.answer.ensures
+returns-in-Return c = IfOk-from c.answer.result _ _ (λ news it w is. subst (λ e. IsPlainStep news c.answer.new.self (step w e)) (sym c.in-Return.is) (it w is)) c.answer.ensures

@@ -6,5 +6,5 @@ use Rattle.two_ends.proofs.TurnLemmas.{IfOk-from}
 use Rattle.two_ends.proofs.world.World.pause.Goals as goal
 
 pub returns : goal.returns
-returns c = IfOk-from c.queued.result _ _ (λ stepped it w is.
-    queued_step c.args.self w is _ words.Pause c.in_ok-queued.queued (pause w.client c.args.seconds) (c.in_ok-queued.ensures.step w.client is.rest.client) (pause_queues w.client c.args.seconds) stepped it) c.queued.ensures
+returns c = IfOk-from c.refused.result _ _ (λ news it w is.
+    queued_step c.args.self.now w is _ words.Pause c.in_ok-queued.queued (pause w.client c.args.seconds) (c.in_ok-queued.ensures.step w.client is.rest.client) (pause_queues w.client c.args.seconds) news it) c.refused.ensures

@@ -8,7 +8,7 @@ use Rattle.two_ends.proofs.TurnLemmas.{IfOk-from}
 use Rattle.two_ends.proofs.world.World.put.Goals as goal
 
 pub returns : goal.returns
-returns c = IfOk-from c.queued.result _ _ (λ stepped it w is.
-    queued_step c.args.self w is _ words.Put c.in_ok-queued.queued (put w.client c.args.stanza)
+returns c = IfOk-from c.refused.result _ _ (λ news it w is.
+    queued_step c.args.self.now w is _ words.Put c.in_ok-queued.queued (put w.client c.args.stanza)
     (subst (λ s. Does c.put.new.self c.in_ok-queued.queued (put w.client s)) c.as_slice.ensures (c.in_ok-queued.ensures.step w.client is.rest.client))
-    (put_queues w.client c.args.stanza) stepped it) c.queued.ensures
+    (put_queues w.client c.args.stanza) news it) c.refused.ensures

@@ -6,5 +6,5 @@ use Rattle.two_ends.proofs.TurnLemmas.{IfOk-from}
 use Rattle.two_ends.proofs.world.World.restart.Goals as goal
 
 pub returns : goal.returns
-returns c = IfOk-from c.queued.result _ _ (λ stepped it w is.
-    queued_step c.args.self w is _ words.Restart c.in_ok-queued.queued (restart w.client) (c.in_ok-queued.ensures.step w.client is.rest.client) (restart_queues w.client) stepped it) c.queued.ensures
+returns c = IfOk-from c.refused.result _ _ (λ news it w is.
+    queued_step c.args.self.now w is _ words.Restart c.in_ok-queued.queued (restart w.client) (c.in_ok-queued.ensures.step w.client is.rest.client) (restart_queues w.client) news it) c.refused.ensures

@@ -17,9 +17,9 @@ pub loop-event-preserved : goal.loop-event-preserved
 loop-event-preserved c =
     let rest = into_iter_items c.next.new.self in (
       λ w is.
-          subst (λ seen. RunsOn c.in_ok-stepped.stepped.world seen rest w c.args.events.items) (sym c.in_ok-push.ensures.items)
-          (runs_more c.loop-event.world c.loop-event.report.items c.in-Some.event rest w c.args.events.items c.in_ok-stepped.stepped c.in_ok-stepped.ensures
-          (subst (λ l. RunsOn c.loop-event.world c.loop-event.report.items l w c.args.events.items) (c.in-Some.ensures.steps).0 (c.loop-event.invariant.0 w is))),
+          subst (λ seen. RunsOn c.step.new.self seen rest w c.args.events.items) (sym c.in_ok-push.ensures.items)
+          (runs_more c.loop-event.self c.step.new.self c.loop-event.report.items c.in-Some.event rest w c.args.events.items c.in_ok-seen.seen c.in_ok-seen.ensures
+          (subst (λ l. RunsOn c.loop-event.self c.loop-event.report.items l w c.args.events.items) (c.in-Some.ensures.steps).0 (c.loop-event.invariant.0 w is))),
       All-tail IsAllowed c.in-Some.event rest (subst (λ l. All IsAllowed l) (c.in-Some.ensures.steps).0 c.loop-event.invariant.1),
     )
 
@@ -27,9 +27,9 @@ loop-event-preserved c =
 pub returns : goal.returns
 returns c =
     let none = no_event_left (into_iter_items c.loop-event.event-iterator) (grind (arith, common_steps, (c.in-None.ensures.steps).0)) in
-    let done : (w : PlainWorld) → IsWorld c.args.self w → (c.loop-event.report.items ≡ report w c.args.events.items) × IsWorld c.loop-event.world (after w c.args.events.items) = λ w is.
-    runs_end c.loop-event.world c.loop-event.report.items w c.args.events.items
-    (subst (λ l. RunsOn c.loop-event.world c.loop-event.report.items l w c.args.events.items) none (c.loop-event.invariant.0 w is)) in
+    let done : (w : PlainWorld) → IsWorld c.args.self.now w → (c.loop-event.report.items ≡ report w c.args.events.items) × IsWorld c.loop-event.self (after w c.args.events.items) = λ w is.
+    runs_end c.loop-event.self c.loop-event.report.items w c.args.events.items
+    (subst (λ l. RunsOn c.loop-event.self c.loop-event.report.items l w c.args.events.items) none (c.loop-event.invariant.0 w is)) in
     record {
       run = λ w is. record { report_is = c.from_vec.ensures ∙ (done w is).0; world_is = (done w is).1 };
       prefixes = λ host greeting setup begins is.

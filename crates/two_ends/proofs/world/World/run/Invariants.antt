@@ -9,4 +9,4 @@ use Rattle.two_ends.proofs.world.World.run.Given as goal
 -- what was seen, and what is left to see, is all
 abbrev pub invariant-loop-event : goal.invariant-loop-event
 invariant-loop-event l =
-    ((w : PlainWorld) → IsWorld l.fn.self w → RunsOn l.world l.report.items (into_iter_items l.event-iterator) w l.fn.events.items) × All IsAllowed (into_iter_items l.event-iterator)
+    ((w : PlainWorld) → IsWorld l.fn.self w → RunsOn l.self l.report.items (into_iter_items l.event-iterator) w l.fn.events.items) × All IsAllowed (into_iter_items l.event-iterator)
