@@ -155,6 +155,7 @@ module _ (options : ClientOptions) (setup : ClientSetup) (is : IsSetupOf options
   ended_by text P by handed more = record {
     tells = tells_by true text handed more;
     after = by.after;
+    emptied = by.emptied;
     dialled = by.dialled;
     talk = subst (λ k. Adds k t.known (IsTalk input)) s_is by.adds;
   }

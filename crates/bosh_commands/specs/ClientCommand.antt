@@ -18,7 +18,7 @@ use Rattle.client_run.specs.Adding.{Adds, IsTalk}
 use Rattle.client_run.specs.Handed.{Hands, as_lines}
 use Rattle.client_run.specs.History.{After, first_entry}
 use Rattle.client_run.specs.Input.{IsFirstBad}
-use Rattle.client_run.specs.Ran.{EndsWith}
+use Rattle.client_run.specs.Ran.{EndsWith, WasEmptied}
 use Rattle.line_reader.specs.Lines.{lines_of}
 use Rattle.parked_gate.specs.Passes.{Known}
 use Rattle.server_ports.specs.Counts.{Counts}
@@ -102,10 +102,11 @@ pub record HasBad (options : ClientOptions) (input : Option (List ℕ)) (s t : S
   pub tells : Tells options false s t (bad_line number)
 
 -- It ran to its end: by its history this holds of it. A link was dialled for it, and what was put to it is lines of the input, in order,
--- with a terminate only after all of them. All that was handed out is written, and then this text
+-- with a terminate only after all of them. Nothing was left to be handed out; all that was is written, and then this text
 pub record Ended (options : ClientOptions) (input : Option (List ℕ)) (old new : Counts) (s t : Sunk) (text : List ℕ) (P : PlainClient → Type 0) : Type 0 where
   pub tells : Tells options true s t text
   pub after : After tells.known.seen P
+  pub emptied : WasEmptied tells.known.seen
   pub dialled : HasRisen old.dialled new.dialled
   pub talk : Adds (begun tells.setup) tells.known (IsTalk input)
 

@@ -29,10 +29,10 @@ use Rattle.client_run.specs.Asking.{LooksBy}
 use Rattle.client_run.specs.Handing.{Drains, Out, Writes, WritesLast, line, nothing}
 use Rattle.client_run.specs.History.{After}
 use Rattle.client_run.specs.Input.{IsFirstBad}
-use Rattle.client_run.specs.Ran.{Closes, Concludes, ConversesBy, EndsWith, FinishesBy, Ran, RanBy, Scene, ran_by, scene_of}
+use Rattle.client_run.specs.Ran.{Closes, Concludes, ConversesBy, EndsWith, FinishesBy, Ran, RanBy, Scene, WasEmptied, ran_by, scene_of}
 use Rattle.client_run.specs.Running.{Gathers, GatheredTells, IsOver, WasOver, is_done}
 use Rattle.client_run.specs.Worked.{IsDone}
-use Rattle.client_run.proofs.RiseLemmas.{calls_begin, starts_later, starts_same}
+use Rattle.client_run.proofs.RiseLemmas.{calls_begin, starts_by, starts_later, starts_same}
 use Rattle.client_run.proofs.RunningLemmas.{still_over, was_later}
 use Rattle.client_run.proofs.TalkLemmas.{handed_spoken}
 
@@ -88,16 +88,16 @@ pub finish_risen : (t : Result Talked AllocError) (g : Gathered) (old new : Know
 unfolding FinishesBy
 finish_risen t g old new writes later risen = inr risen
 
-pub finish_over : (g : Gathered) (old last new : Known Entry) (writes later : ℕ) (r : ClientRan) → g ≡ gathered.Over → AddsOnly is_hand_out old last → (WasOver old.seen → WasOver last.seen) → new.mine ≡ last.mine → Concludes last new r
+pub finish_over : (g : Gathered) (old last new : Known Entry) (writes later : ℕ) (r : ClientRan) → g ≡ gathered.Over → AddsOnly is_hand_out old last → (WasOver old.seen → WasOver last.seen) → (WasOver old.seen → WasEmptied new.seen) → new.mine ≡ last.mine → Concludes last new r
     → FinishesBy (Ok talked.Done) g old new writes later (Ok r)
 unfolding FinishesBy Concludes
-finish_over g old last new writes later ran.SpawnFault is handed begins mine concludes = absurd concludes
-finish_over g old last new writes later ran.NetFault is handed begins mine concludes = absurd concludes
-finish_over g old last new writes later (ran.Bad n) is handed begins mine concludes = absurd concludes
-finish_over g old last new writes later ran.ReadFault is handed begins mine concludes = absurd concludes
-finish_over g old last new writes later ran.WriteFault is handed begins mine concludes = absurd concludes
-finish_over g old last new writes later (ran.Ended condition) is handed begins mine concludes = (refl, is, record { last = last; handed = handed; mine = mine; begins = begins; concludes = concludes })
-finish_over g old last new writes later ran.Done is handed begins mine concludes = (refl, is, record { last = last; handed = handed; mine = mine; begins = begins; concludes = concludes })
+finish_over g old last new writes later ran.SpawnFault is handed begins emptied mine concludes = absurd concludes
+finish_over g old last new writes later ran.NetFault is handed begins emptied mine concludes = absurd concludes
+finish_over g old last new writes later (ran.Bad n) is handed begins emptied mine concludes = absurd concludes
+finish_over g old last new writes later ran.ReadFault is handed begins emptied mine concludes = absurd concludes
+finish_over g old last new writes later ran.WriteFault is handed begins emptied mine concludes = absurd concludes
+finish_over g old last new writes later (ran.Ended condition) is handed begins emptied mine concludes = (refl, is, record { last = last; handed = handed; mine = mine; begins = begins; emptied = emptied; concludes = concludes })
+finish_over g old last new writes later ran.Done is handed begins emptied mine concludes = (refl, is, record { last = last; handed = handed; mine = mine; begins = begins; emptied = emptied; concludes = concludes })
 
 pub finish_as : (t t' : Result Talked AllocError) (g : Gathered) (old new : Known Entry) (writes later : ℕ) (result : Result ClientRan AllocError) → t ≡ t' → FinishesBy t' g old new writes later result → FinishesBy t g old new writes later result
 finish_as t t' g old new writes later result is f = subst (λ t. FinishesBy t g old new writes later result) (sym is) f
@@ -115,6 +115,17 @@ last_begins s t (Err error) last = calls_begin s.known t.known last.0
 
 pub drains_over : (s t : Out) (result : Result Written AllocError) → Drains s t result → WasOver s.known.seen → WasOver t.known.seen
 drains_over s t result d was = was_later s.known.seen t.known.seen was (starts_later s.known.seen d.last.known.seen t.known.seen (writes_begin s d.last d.writes) (last_begins d.last t result d.ends))
+
+-- writing that is done leaves nothing
+pub emptied_by : (s t : Out) (new : Known Entry) → Drains s t (Ok written.Done) → StartsWith new.seen t.known.seen → WasOver s.known.seen → WasEmptied new.seen
+emptied_by s t new d later was =
+    let asked = d.ends.0 in
+    record {
+      log = asked.before;
+      begins = starts_later asked.before t.known.seen new.seen (starts_by d.last.known.number asked.before t.known.seen asked.made asked.seen) later;
+      over = was_later s.known.seen asked.before was (starts_later s.known.seen d.last.known.seen asked.before (writes_begin s d.last d.writes) asked.begins);
+      empty = record { plain = asked.says.plain; is = asked.says.is; holds = sym asked.says.reply_is };
+    }
 
 pub no_true : {X : Type 0} (b : Bool) → b ≡ false → b ≡ true → X
 no_true b off is = absurd (true≢false (sym is ∙ off))
@@ -194,6 +205,7 @@ module _ (input : Option (List ℕ)) (s : Scene) (mid all new : Known Entry) (re
   ran_to : (r : ClientRan) (P : PlainClient → Type 0) → t ≡ Ok talked.Done → g ≡ gathered.Over → (closes : Closes all new r) → After new.seen P → Ran input s later P
   ran_to r P done over closes after = record {
     after = after;
+    emptied = closes.emptied (over_tells over).0;
     dialled = (over_tells over).1;
     adds = adds_last input s.known mid all closes.last new (done_tells done) gathers.mine closes.handed closes.mine;
   }

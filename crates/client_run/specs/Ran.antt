@@ -2,9 +2,11 @@
 use Rattle.std.specs.Prelude.{◌≡◌, ◌⊎◌, ℕ, List, Option, Some, None, IfSome, Result, Ok, Err}
 use Rattle.std.specs.declared.alloc.AllocError.{AllocError}
 use Rattle.bosh_client.specs.PlainClient.{PlainClient, end_of}
+use Rattle.bosh_client.specs.Runs.{HandOut, ToHandOut, step}
 use Rattle.bosh_ports.specs.Faults.{HasRisen}
 use Rattle.bosh_types.specs.declared.condition.Condition.{Condition}
 use Rattle.line_reader.specs.Lines.{lines_of}
+use Rattle.parked_gate.specs.Histories.{StartsWith}
 use Rattle.parked_gate.specs.Passes.{Known}
 use Rattle.server_ports.specs.Counts.{Counts}
 use Rattle.client_run.specs.declared.entry.Entry.{Entry}
@@ -32,10 +34,18 @@ pub record Scene : Type 0 where
 abbrev pub scene_of : Known Entry → Counts → ℕ → ℕ → ℕ → Scene
 scene_of known counts refusals reads writes = record { known = known; counts = counts; refusals = refusals; reads = reads; writes = writes }
 
--- it ran to the end of its client: this holds of the client as it was seen last; a link was dialled; and the pass's own entries are
--- those of talking over the input
+-- at some time since no more came of the client, it had nothing left to be handed out
+pub record WasEmptied (seen : List Entry) : Type 0 where
+  pub log : List Entry
+  pub begins : StartsWith seen log
+  pub over : WasOver log
+  pub empty : After log (λ c. (step c HandOut).1 ≡ ToHandOut None)
+
+-- it ran to the end of its client: this holds of the client as it was seen last, and nothing was left to be handed out; a link was
+-- dialled; and the pass's own entries are those of talking over the input
 pub record Ran (input : Option (List ℕ)) (s t : Scene) (P : PlainClient → Type 0) : Type 0 where
   pub after : After t.known.seen P
+  pub emptied : WasEmptied t.known.seen
   pub dialled : HasRisen s.counts.dialled t.counts.dialled
   pub adds : Adds s.known t.known (IsTalk input)
 
@@ -76,12 +86,13 @@ Concludes old new ran.WriteFault = ⊥
 Concludes old new (ran.Ended condition) = After new.seen (EndsWith condition)
 Concludes old new ran.Done = WasOver old.seen → After new.seen IsDone
 
--- what is written last was handed out, and then it is seen how the client ended
+-- what is written last was handed out until nothing was left, and then it is seen how the client ended
 pub record Closes (old new : Known Entry) (ran : ClientRan) : Type 0 where
   pub last : Known Entry
   pub handed : AddsOnly is_hand_out old last
   pub mine : new.mine ≡ last.mine
   pub begins : WasOver old.seen → WasOver last.seen
+  pub emptied : WasOver old.seen → WasEmptied new.seen
   pub concludes : Concludes last new ran
 
 -- how it ran, by what talking and the workers came to

@@ -84,7 +84,7 @@ where
     requires { IsPassOf (arc_value place.now.gate.now) pass.old }
     ensures pass { IsPassOf (arc_value place.now.gate.now) pass.new }
 
-    // Each answer has its cause.
+    // Each answer has its cause. Where it is the client's end, nothing was left to be handed out.
     ensures ran { RanBy (S.left source.old) (scene_of (known pass.old) (N.counts outside.old.net) (P.refusals outside.old.spawner) (S.faults source.old) (K.faults sink.old))
         (scene_of (known pass.new) (N.counts outside.new.net) (P.refusals outside.new.spawner) (S.faults source.new) (K.faults sink.new)) result }
 

@@ -1,8 +1,8 @@
 use Rattle.std.proofs.Common.{ap, subst, true}
 use Rattle.std.specs.Prelude.{Ok}
 use Rattle.parked_gate.specs.Passes.{known}
-use Rattle.client_run.specs.Handing.{out_of}
-use Rattle.client_run.proofs.RanLemmas.{drains_over, finish_net, finish_over, finish_risen, finish_wanting}
+use Rattle.client_run.specs.Handing.{Drains, out_of}
+use Rattle.client_run.proofs.RanLemmas.{drains_over, emptied_by, finish_net, finish_over, finish_risen, finish_wanting}
 use Rattle.client_run.specs.Handed.{Handed, is_whole, is_write_whole}
 use Rattle.client_run.proofs.HandedLemmas.{drained, falls_same, handed_at, handed_less, handed_then}
 use Rattle.client_run.proofs.running.end.Goals as goal
@@ -24,6 +24,8 @@ returns-in-Done-clause-finishes g c =
     finish_over c.args.gathered (known c.args.pass.now) (known c.drain.new.pass) (known c.conclude.new.pass) (g.K.Sink.faults c.args.sink.now) (g.K.Sink.faults c.drain.new.sink) c.conclude.result c.in-Over.is
     c.in-Ok.ensures.adds
     (drains_over (out_of (known c.args.pass.now) (g.K.Sink.given c.args.sink.now)) (out_of (known c.drain.new.pass) (g.K.Sink.given c.drain.new.sink)) c.drain.result c.drain.ensures.drains)
+    (emptied_by (out_of (known c.args.pass.now) (g.K.Sink.given c.args.sink.now)) (out_of (known c.drain.new.pass) (g.K.Sink.given c.drain.new.sink)) (known c.conclude.new.pass)
+    (subst (λ w. Drains (out_of (known c.args.pass.now) (g.K.Sink.given c.args.sink.now)) (out_of (known c.drain.new.pass) (g.K.Sink.given c.drain.new.sink)) (Ok w)) c.in-Done.is c.in-Ok.ensures.drains) c.conclude.ensures.goes_on.begins)
     c.conclude.ensures.mine c.conclude.ensures.concludes
 
 pub returns-in-Err-clause-written : goal.returns-in-Err-clause-written
