@@ -8,6 +8,7 @@ pub mod HistoryLemmas
 pub mod InputLemmas
 pub mod LineLemmas
 pub mod MoveLemmas
+pub mod OrderLemmas
 pub mod RanLemmas
 pub mod RiseLemmas
 pub mod RunningLemmas

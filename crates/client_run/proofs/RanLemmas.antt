@@ -1,6 +1,6 @@
 -- How a client ran, by what talking and its workers came to.
 use Rattle.std.proofs.Common.{◌≡◌, ◌≤◌, ◌⊎◌, ℕ, Bool, true, false, ◌&&◌, ◌||◌, List, [], ◌++◌, Some, None, inl, inr, refl, sym, true≢false, ◌∙◌, ap, subst, append_assoc, append-nil}
-use Rattle.std.specs.Prelude.{Option, Result, Ok, Err, IsErr, IfSome, is_some}
+use Rattle.std.specs.Prelude.{◌≢◌, Option, Result, Ok, Err, IsErr, IfSome, is_some}
 use Rattle.std.specs.List.{list_all, list_any}
 use Rattle.std.proofs.lemmas.Grind.{flat_map-append}
 use Rattle.std.proofs.lemmas.List.Folds.{list_all-append, list_any-append}
@@ -28,12 +28,13 @@ use Rattle.client_run.specs.Adding.{Adds, AddsOnly, IsTalk, by_call, is_entry, i
 use Rattle.client_run.specs.Asking.{LooksBy}
 use Rattle.client_run.specs.Handing.{Drains, Out, Writes, WritesLast, line, nothing}
 use Rattle.client_run.specs.History.{After}
-use Rattle.client_run.specs.Input.{IsFirstBad}
+use Rattle.client_run.specs.Input.{IsFirstBad, PutsAll, TakesNoMore}
+use Rattle.client_run.specs.Queueing.{AsksLast}
 use Rattle.client_run.specs.Ran.{Closes, Concludes, ConversesBy, EndsWith, FinishesBy, Ran, RanBy, Scene, WasEmptied, ran_by, scene_of}
-use Rattle.client_run.specs.Running.{Gathers, GatheredTells, IsOver, WasOver, is_done}
+use Rattle.client_run.specs.Running.{Gathers, GatheredTells, IsOver, TakesBoth, WasOver, is_done}
 use Rattle.client_run.specs.Worked.{IsDone}
 use Rattle.client_run.proofs.RiseLemmas.{calls_begin, starts_by, starts_later, starts_same}
-use Rattle.client_run.proofs.RunningLemmas.{still_over, was_later}
+use Rattle.client_run.proofs.RunningLemmas.{both_finished, finished_later, still_over, was_later}
 use Rattle.client_run.proofs.TalkLemmas.{handed_spoken}
 
 -- The client's end, as it is seen last.
@@ -72,32 +73,32 @@ pub finish_read : (t : Result Talked AllocError) (g : Gathered) (old new : Known
 unfolding FinishesBy
 finish_read t g old new writes later is = is
 
-pub finish_written : (t : Result Talked AllocError) (g : Gathered) (old new : Known Entry) (writes later : ℕ) → t ≡ Ok talked.WriteFault → FinishesBy t g old new writes later (Ok ran.WriteFault)
+pub finish_written : (t : Result Talked AllocError) (g : Gathered) (old new : Known Entry) (writes later : ℕ) → t ≡ Ok talked.WriteFault → new ≡ old → FinishesBy t g old new writes later (Ok ran.WriteFault)
 unfolding FinishesBy
-finish_written t g old new writes later is = inl is
+finish_written t g old new writes later is same = inl (is, same)
 
 pub finish_wanting : (t : Result Talked AllocError) (g : Gathered) (old new : Known Entry) (writes later : ℕ) (error : AllocError) → FinishesBy t g old new writes later (Err error)
 unfolding FinishesBy
 finish_wanting t g old new writes later error = tt
 
-pub finish_net : (t : Result Talked AllocError) (g : Gathered) (old new : Known Entry) (writes later : ℕ) → g ≡ gathered.NetFault → FinishesBy t g old new writes later (Ok ran.NetFault)
+pub finish_net : (g : Gathered) (old new : Known Entry) (writes later : ℕ) → g ≡ gathered.NetFault → FinishesBy (Ok talked.Done) g old new writes later (Ok ran.NetFault)
 unfolding FinishesBy
-finish_net t g old new writes later is = is
+finish_net g old new writes later is = (refl, is)
 
-pub finish_risen : (t : Result Talked AllocError) (g : Gathered) (old new : Known Entry) (writes later : ℕ) → HasRisen writes later → FinishesBy t g old new writes later (Ok ran.WriteFault)
+pub finish_risen : (g : Gathered) (old new : Known Entry) (writes later : ℕ) → g ≡ gathered.Over → HasRisen writes later → StartsWith new.seen old.seen → FinishesBy (Ok talked.Done) g old new writes later (Ok ran.WriteFault)
 unfolding FinishesBy
-finish_risen t g old new writes later risen = inr risen
+finish_risen g old new writes later is risen seen = inr (refl, is, risen, seen)
 
-pub finish_over : (g : Gathered) (old last new : Known Entry) (writes later : ℕ) (r : ClientRan) → g ≡ gathered.Over → AddsOnly is_hand_out old last → (WasOver old.seen → WasOver last.seen) → (WasOver old.seen → WasEmptied new.seen) → new.mine ≡ last.mine → Concludes last new r
+pub finish_over : (g : Gathered) (old last new : Known Entry) (writes later : ℕ) (r : ClientRan) → g ≡ gathered.Over → later ≡ writes → StartsWith new.seen old.seen → AddsOnly is_hand_out old last → (WasOver old.seen → WasOver last.seen) → (WasOver old.seen → WasEmptied new.seen) → new.mine ≡ last.mine → Concludes last new r
     → FinishesBy (Ok talked.Done) g old new writes later (Ok r)
 unfolding FinishesBy Concludes
-finish_over g old last new writes later ran.SpawnFault is handed begins emptied mine concludes = absurd concludes
-finish_over g old last new writes later ran.NetFault is handed begins emptied mine concludes = absurd concludes
-finish_over g old last new writes later (ran.Bad n) is handed begins emptied mine concludes = absurd concludes
-finish_over g old last new writes later ran.ReadFault is handed begins emptied mine concludes = absurd concludes
-finish_over g old last new writes later ran.WriteFault is handed begins emptied mine concludes = absurd concludes
-finish_over g old last new writes later (ran.Ended condition) is handed begins emptied mine concludes = (refl, is, record { last = last; handed = handed; mine = mine; begins = begins; emptied = emptied; concludes = concludes })
-finish_over g old last new writes later ran.Done is handed begins emptied mine concludes = (refl, is, record { last = last; handed = handed; mine = mine; begins = begins; emptied = emptied; concludes = concludes })
+finish_over g old last new writes later ran.SpawnFault is still seen handed begins emptied mine concludes = absurd concludes
+finish_over g old last new writes later ran.NetFault is still seen handed begins emptied mine concludes = absurd concludes
+finish_over g old last new writes later (ran.Bad n) is still seen handed begins emptied mine concludes = absurd concludes
+finish_over g old last new writes later ran.ReadFault is still seen handed begins emptied mine concludes = absurd concludes
+finish_over g old last new writes later ran.WriteFault is still seen handed begins emptied mine concludes = absurd concludes
+finish_over g old last new writes later (ran.Ended condition) is still seen handed begins emptied mine concludes = (refl, is, record { last = last; seen = seen; handed = handed; mine = mine; begins = begins; emptied = emptied; concludes = concludes }, still)
+finish_over g old last new writes later ran.Done is still seen handed begins emptied mine concludes = (refl, is, record { last = last; seen = seen; handed = handed; mine = mine; begins = begins; emptied = emptied; concludes = concludes }, still)
 
 pub finish_as : (t t' : Result Talked AllocError) (g : Gathered) (old new : Known Entry) (writes later : ℕ) (result : Result ClientRan AllocError) → t ≡ t' → FinishesBy t' g old new writes later result → FinishesBy t g old new writes later result
 finish_as t t' g old new writes later result is f = subst (λ t. FinishesBy t g old new writes later result) (sym is) f
@@ -113,6 +114,9 @@ last_begins s t (Ok written.Done) last = calls_begin s.known t.known last.0
 last_begins s t (Ok written.WriteFault) last = calls_begin s.known t.known last.1
 last_begins s t (Err error) last = calls_begin s.known t.known last.0
 
+pub drains_begin : (s t : Out) (new : Known Entry) (result : Result Written AllocError) → Drains s t result → StartsWith new.seen t.known.seen → StartsWith new.seen s.known.seen
+drains_begin s t new result d later = starts_later s.known.seen t.known.seen new.seen (starts_later s.known.seen d.last.known.seen t.known.seen (writes_begin s d.last d.writes) (last_begins d.last t result d.ends)) later
+
 pub drains_over : (s t : Out) (result : Result Written AllocError) → Drains s t result → WasOver s.known.seen → WasOver t.known.seen
 drains_over s t result d was = was_later s.known.seen t.known.seen was (starts_later s.known.seen d.last.known.seen t.known.seen (writes_begin s d.last d.writes) (last_begins d.last t result d.ends))
 
@@ -126,6 +130,9 @@ emptied_by s t new d later was =
       over = was_later s.known.seen asked.before was (starts_later s.known.seen d.last.known.seen asked.before (writes_begin s d.last d.writes) asked.begins);
       empty = record { plain = asked.says.plain; is = asked.says.is; holds = sym asked.says.reply_is };
     }
+
+pub not_failed : {w : Result Written AllocError} → w ≡ Ok written.Done → w ≡ Ok written.WriteFault → ⊥
+not_failed done failed = absurd (cc)
 
 pub no_true : {X : Type 0} (b : Bool) → b ≡ false → b ≡ true → X
 no_true b off is = absurd (true≢false (sym is ∙ off))
@@ -176,7 +183,7 @@ unfolding RanBy
 ran_spawn input s t risen = risen
 
 module _ (input : Option (List ℕ)) (s : Scene) (mid all new : Known Entry) (reads writes last_writes : ℕ) (refusals : ℕ) (counts : Counts) (t : Result Talked AllocError) (g : Gathered)
-    (converses : ConversesBy input s.known mid s.reads reads s.writes writes t) (gathers : Gathers mid all s.counts counts g) (falls : s.writes ≤ writes) (last_falls : writes ≤ last_writes) where
+    (converses : ConversesBy input s.known mid s.reads reads s.writes writes t) (gathers : Gathers mid all s.counts counts g) (takes : TakesBoth all.seen s.counts counts g) (falls : s.writes ≤ writes) (last_falls : writes ≤ last_writes) where
   abbrev pub later : Scene
   later = scene_of new counts refusals reads last_writes
 
@@ -188,19 +195,19 @@ module _ (input : Option (List ℕ)) (s : Scene) (mid all new : Known Entry) (re
 
   bad_tells : (n : ℕ) → t ≡ Ok (talked.Bad n) → IfSome input (λ bytes. IsFirstBad (lines_of bytes) n)
   unfolding ConversesBy
-  bad_tells n is = subst (ConversesBy input s.known mid s.reads reads s.writes writes) is converses
+  bad_tells n is = (subst (ConversesBy input s.known mid s.reads reads s.writes writes) is converses).0
 
   read_tells : t ≡ Ok talked.ReadFault → HasRisen s.reads reads
   unfolding ConversesBy
-  read_tells is = subst (ConversesBy input s.known mid s.reads reads s.writes writes) is converses
+  read_tells is = (subst (ConversesBy input s.known mid s.reads reads s.writes writes) is converses).0
 
   write_tells : t ≡ Ok talked.WriteFault → HasRisen s.writes writes
   unfolding ConversesBy
-  write_tells is = subst (ConversesBy input s.known mid s.reads reads s.writes writes) is converses
+  write_tells is = (subst (ConversesBy input s.known mid s.reads reads s.writes writes) is converses).0
 
   done_tells : t ≡ Ok talked.Done → Adds s.known mid (IsTalk input)
   unfolding ConversesBy
-  done_tells is = subst (ConversesBy input s.known mid s.reads reads s.writes writes) is converses
+  done_tells is = (subst (ConversesBy input s.known mid s.reads reads s.writes writes) is converses).0
 
   ran_to : (r : ClientRan) (P : PlainClient → Type 0) → t ≡ Ok talked.Done → g ≡ gathered.Over → (closes : Closes all new r) → After new.seen P → Ran input s later P
   ran_to r P done over closes after = record {
@@ -208,34 +215,41 @@ module _ (input : Option (List ℕ)) (s : Scene) (mid all new : Known Entry) (re
     emptied = closes.emptied (over_tells over).0;
     dialled = (over_tells over).1;
     adds = adds_last input s.known mid all closes.last new (done_tells done) gathers.mine closes.handed closes.mine;
+    workers = finished_later all.seen new.seen s.counts counts closes.seen (both_finished all.seen s.counts counts g over takes);
   }
 
-  written_tells : (t ≡ Ok talked.WriteFault) ⊎ HasRisen writes last_writes → HasRisen s.writes last_writes
-  written_tells (inl is) = HasRisen-after s.writes writes last_writes (write_tells is) last_falls
-  written_tells (inr risen) = HasRisen-before s.writes writes last_writes falls last_falls risen
+  written_after : t ≡ Ok talked.WriteFault → HasRisen s.writes last_writes
+  written_after is = HasRisen-after s.writes writes last_writes (write_tells is) last_falls
+
+  written_then : HasRisen writes last_writes → HasRisen s.writes last_writes
+  written_then risen = HasRisen-before s.writes writes last_writes falls last_falls risen
 
   pub ran_finished : (result : Result ClientRan AllocError) → FinishesBy t g all new writes last_writes result → RanBy input s later result
   unfolding RanBy FinishesBy Concludes
   ran_finished (Ok ran.SpawnFault) f = absurd f
-  ran_finished (Ok ran.NetFault) f = fault_tells f
+  ran_finished (Ok ran.NetFault) f = fault_tells f.1
   ran_finished (Ok (ran.Bad n)) f = bad_tells n f
   ran_finished (Ok ran.ReadFault) f = read_tells f
-  ran_finished (Ok ran.WriteFault) f = written_tells f
+  ran_finished (Ok ran.WriteFault) (inl f) = written_after f.0
+  ran_finished (Ok ran.WriteFault) (inr f) = written_then f.2
   ran_finished (Ok (ran.Ended condition)) f = ran_to (ran.Ended condition) (EndsWith condition) f.0 f.1 f.2 f.2.concludes
   ran_finished (Ok ran.Done) f = ran_to ran.Done IsDone f.0 f.1 f.2 (f.2.concludes (f.2.begins (over_tells f.1).0))
   ran_finished (Err error) f = tt
 
 -- talking, by its clauses
 pub conversed : (input : Option (List ℕ)) (old mid new : Known Entry) (reads later_reads writes later_writes : ℕ) (t : Talked)
-    → (is_done t ≡ true → new ≡ mid) → Adds old mid (IsTalk input) → ((n : ℕ) → t ≡ talked.Bad n → IfSome input (λ bytes. IsFirstBad (lines_of bytes) n))
+    → (is_done t ≡ true → new ≡ mid) → Adds old mid (IsTalk input) → (t ≡ talked.Done → PutsAll input old mid ⊎ TakesNoMore mid) → ((n : ℕ) → t ≡ talked.Bad n → IfSome input (λ bytes. IsFirstBad (lines_of bytes) n))
     → (t ≡ talked.ReadFault → HasRisen reads later_reads) → (t ≡ talked.WriteFault → HasRisen writes later_writes)
+    → (◌≢◌ {A = Result Talked AllocError} (Ok t) (Ok talked.ReadFault) → later_reads ≡ reads) → (◌≢◌ {A = Result Talked AllocError} (Ok t) (Ok talked.WriteFault) → later_writes ≡ writes)
+    → (is_done t ≡ false → AsksLast old new)
     → ConversesBy input old new reads later_reads writes later_writes (Ok t)
 unfolding ConversesBy
-conversed input old mid new reads later_reads writes later_writes talked.Done same adds bad read write = subst (λ known. Adds old known (IsTalk input)) (sym (same refl)) adds
-conversed input old mid new reads later_reads writes later_writes (talked.Bad n) same adds bad read write = bad n refl
-conversed input old mid new reads later_reads writes later_writes talked.ReadFault same adds bad read write = read refl
-conversed input old mid new reads later_reads writes later_writes talked.WriteFault same adds bad read write = write refl
+conversed input old mid new reads later_reads writes later_writes talked.Done same adds done bad read write no_read no_write asks =
+    (subst (λ known. Adds old known (IsTalk input)) (sym (same refl)) adds, subst (λ known. PutsAll input old known ⊎ TakesNoMore known) (sym (same refl)) (done refl), no_read (λ is. absurd (cc)), no_write (λ is. absurd (cc)))
+conversed input old mid new reads later_reads writes later_writes (talked.Bad n) same adds done bad read write no_read no_write asks = (bad n refl, asks refl, no_read (λ is. absurd (cc)))
+conversed input old mid new reads later_reads writes later_writes talked.ReadFault same adds done bad read write no_read no_write asks = (read refl, asks refl)
+conversed input old mid new reads later_reads writes later_writes talked.WriteFault same adds done bad read write no_read no_write asks = (write refl, asks refl, no_read (λ is. absurd (cc)))
 
-pub conversed_not : (input : Option (List ℕ)) (old new : Known Entry) (reads later_reads writes later_writes : ℕ) (error : AllocError) → ConversesBy input old new reads later_reads writes later_writes (Err error)
+pub conversed_not : (input : Option (List ℕ)) (old new : Known Entry) (reads later_reads writes later_writes : ℕ) (error : AllocError) → AsksLast old new → ConversesBy input old new reads later_reads writes later_writes (Err error)
 unfolding ConversesBy
-conversed_not input old new reads later_reads writes later_writes error = tt
+conversed_not input old new reads later_reads writes later_writes error asks = asks

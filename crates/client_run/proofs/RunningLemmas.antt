@@ -29,7 +29,7 @@ use Rattle.client_run.specs.declared.worked.Worked.TheVariants as worked
 use Rattle.client_run.specs.Adding.{AddsOnly, is_entry, is_of_worker}
 use Rattle.client_run.specs.Calls.{call_in}
 use Rattle.client_run.specs.History.{After, client_begun, client_by, client_from, client_in}
-use Rattle.client_run.specs.Running.{GatheredTells, Gathers, IsEndOf, IsOver, WasOver, finishes, gathered_of, is_end_of, is_failed, is_over, is_over_by, worse_of}
+use Rattle.client_run.specs.Running.{BothFinished, EndTold, Finished, GatheredTells, Gathers, IsEndOf, IsOver, TakesBoth, TakesOne, WasOver, finishes, gathered_of, is_end_of, is_failed, is_over, is_over_by, worse_of}
 use Rattle.client_run.specs.Worked.{IsDone, Works, is_end, is_fault}
 use Rattle.client_run.specs.Working.{Side, side_of}
 use Rattle.client_run.proofs.RiseLemmas.{moves_count, starts_later}
@@ -230,6 +230,9 @@ module _ (old new other : Known Entry) (counts later theirs : Counts) (begins : 
     tells = subst (GatheredTells new.seen counts later) (sym is) (tells_by worked end);
   }
 
+  pub taken_by : (worked : Result Worked AllocError) (result : Gathered) → result ≡ gathered_of worked → IsEndOf worked other theirs → TakesOne new.seen counts later result
+  taken_by worked result is end = record { end = record { worked = worked; known = other; share = theirs; begins = others; tells = end; is = is }; dialled = dialled_is }
+
 -- both tell
 both_tell : (seen last : List Entry) (a b c : Counts) (first second : Gathered) → StartsWith last seen → a.faults ≤ b.faults → b.faults ≤ c.faults → a.dialled ≤ b.dialled → b.dialled ≤ c.dialled
     → GatheredTells seen a b first → GatheredTells last b c second → GatheredTells last a c (worse_of first second)
@@ -249,6 +252,77 @@ gathered_both old mid new a b c first second result one two is = record {
   dialled = omega (arith, one.dialled, two.dialled);
   tells = subst (GatheredTells new.seen a c) (sym is) (both_tell mid.seen new.seen a b c first second two.begins one.faults two.faults one.dialled two.dialled one.tells two.tells);
 }
+
+told_later : (seen last : List Entry) (result : Gathered) → StartsWith last seen → EndTold seen result → EndTold last result
+told_later seen last result later told = record { worked = told.worked; known = told.known; share = told.share; begins = starts_later told.known.seen seen last told.begins later; tells = told.tells; is = told.is }
+
+pub taken_both : (seen last : List Entry) (a b c : Counts) (first second result : Gathered) → StartsWith last seen → TakesOne seen a b first → TakesOne last b c second → result ≡ worse_of first second → TakesBoth last a c result
+unfolding told_later
+taken_both seen last a b c first second result later one two is = record {
+  one = first;
+  other = second;
+  first = told_later seen last first later one.end;
+  second = two.end;
+  dialled = two.dialled ∙ ap (λ n. added n two.end.share.dialled) one.dialled;
+  is = is;
+}
+
+pub takes_later : (seen last : List Entry) (old new : Counts) (result : Gathered) → StartsWith last seen → TakesBoth seen old new result → TakesBoth last old new result
+unfolding told_later
+takes_later seen last old new result later both = record {
+  one = both.one;
+  other = both.other;
+  first = told_later seen last both.one later both.first;
+  second = told_later seen last both.other later both.second;
+  dialled = both.dialled;
+  is = both.is;
+}
+
+both_over : (one other : Gathered) → worse_of one other ≡ gathered.Over → (one ≡ gathered.Over) × (other ≡ gathered.Over)
+both_over gathered.Over other is = (refl, is)
+both_over gathered.NetFault other is = absurd (cc)
+both_over gathered.NoMemory gathered.Over is = absurd (cc)
+both_over gathered.NoMemory gathered.NetFault is = absurd (cc)
+both_over gathered.NoMemory gathered.NoMemory is = absurd (cc)
+
+-- a worker that was over ended with its client
+finished_as : (seen : List Entry) (known : Known Entry) (share : Counts) → StartsWith seen known.seen → finishes known share ≡ true → (f : Finished seen) × (f.share ≡ share)
+finished_as seen known share begins is =
+    let parts = from_and (is_over_by (client_in known.seen)) _ is in
+    let others = from_and (nat_lt 0 share.dialled) _ parts.1 in (
+      record { known = known; share = share; begins = begins; over = from_test known.seen (client_in known.seen) refl parts.0; dialled = ltb-true 0 share.dialled others.0; only = others.1 },
+      refl,
+    )
+
+finished_by : (seen : List Entry) (worked : Result Worked AllocError) (known : Known Entry) (share : Counts) → StartsWith seen known.seen → IsEndOf worked known share → gathered.Over ≡ gathered_of worked → (f : Finished seen) × (f.share ≡ share)
+unfolding is_end_of
+finished_by seen (Ok worked.Done) known share begins tells is = finished_as seen known share begins tells
+finished_by seen (Ok (worked.Ended condition)) known share begins tells is = finished_as seen known share begins tells
+finished_by seen (Ok worked.DialFault) known share begins tells is = absurd (cc)
+finished_by seen (Ok worked.ReadFault) known share begins tells is = absurd (cc)
+finished_by seen (Ok worked.WriteFault) known share begins tells is = absurd (cc)
+finished_by seen (Ok worked.Silent) known share begins tells is = absurd (cc)
+finished_by seen (Err error) known share begins tells is = absurd (cc)
+
+finished_told : (seen : List Entry) (result : Gathered) → result ≡ gathered.Over → (told : EndTold seen result) → (f : Finished seen) × (f.share ≡ told.share)
+finished_told seen result is told = finished_by seen told.worked told.known told.share told.begins told.tells (sym is ∙ told.is)
+
+pub both_finished : (seen : List Entry) (old new : Counts) (result : Gathered) → result ≡ gathered.Over → TakesBoth seen old new result → BothFinished seen old new
+both_finished seen old new result is both =
+    let overs = both_over both.one both.other (sym both.is ∙ is) in
+    let first = finished_told seen both.one overs.0 both.first in
+    let second = finished_told seen both.other overs.1 both.second in
+    record {
+      first = first.0;
+      second = second.0;
+      dialled = both.dialled ∙ ap (λ share. added (added old.dialled share.dialled) both.second.share.dialled) (sym first.1) ∙ ap (λ share. added (added old.dialled first.0.share.dialled) share.dialled) (sym second.1);
+    }
+
+pub finished_later : (seen last : List Entry) (old new : Counts) → StartsWith last seen → BothFinished seen old new → BothFinished last old new
+finished_later seen last old new later both = record { first = by both.first; second = by both.second; dialled = both.dialled }
+  where
+    by : Finished seen → Finished last
+    by f = record { known = f.known; share = f.share; begins = starts_later f.known.seen seen last f.begins later; over = f.over; dialled = f.dialled; only = f.only }
 
 -- what a joined pass has of its own
 pub longer_mine : (old new : Known Entry) (seen : List Entry) → new ≡ record old { seen = seen } → new.mine ≡ old.mine

@@ -3,17 +3,38 @@ use Rattle.std.specs.Prelude.{◌≡◌, ℕ, List, ◌⊎◌, true, false, Bool
 use Rattle.std.specs.declared.alloc.AllocError.{AllocError}
 use Rattle.bosh_client.specs.declared.replies.Queued.{Queued}
 use Rattle.bosh_client.specs.declared.replies.Queued.TheVariants as queueings
+use Rattle.parked_gate.specs.Histories.{StartsWith}
 use Rattle.parked_gate.specs.Passes.{Known}
 use Rattle.client_run.specs.declared.call.Call.{Call}
 use Rattle.client_run.specs.declared.call.Call.TheVariants as calls
 use Rattle.client_run.specs.declared.call.Reply.TheVariants as replies
 use Rattle.client_run.specs.declared.entry.Entry.{Entry}
+use Rattle.client_run.specs.Adding.{Adds}
 use Rattle.client_run.specs.Working.{Called}
 
 -- the call was replied so, as one that queues, or there was no memory
 abbrev pub QueuesBy : Call → Known Entry → Known Entry → Result Queued AllocError → Type 0
 QueuesBy call old new (Ok queued) = Called call (Ok (replies.Queued queued)) old new
 QueuesBy call old new (Err error) = Called call (Err error) old new
+
+-- the pass has seen more, and perhaps has more entries of its own
+pub record GoesFurther (old new : Known Entry) : Type 0 where
+  pub begins : StartsWith new.seen old.seen
+  pub adds : Adds old new (λ added. Unit {0})
+
+-- meanwhile the pass queued a terminate: it is one of its own entries then, unless the client took no more, or there was no memory for it
+pub record AsksToEnd (old new : Known Entry) : Type 0 where
+  pub before : Known Entry
+  pub after : Known Entry
+  pub result : Result Queued AllocError
+  pub earlier : GoesFurther old before
+  pub queues : QueuesBy calls.Terminate before after result
+  pub later : GoesFurther after new
+
+-- and it added nothing after that
+pub record AsksLast (old new : Known Entry) : Type 0 where
+  pub asks : AsksToEnd old new
+  pub last : new.mine ≡ asks.after.mine
 
 -- the stanza was offered, or there was no memory for a copy of it
 abbrev pub OffersBy : List ℕ → Known Entry → Known Entry → Result Queued AllocError → Type 0

@@ -3,12 +3,14 @@ use Rattle.std.specs.Prelude.{◌≡◌, ◌⊎◌, ℕ, List, Option, Some, Non
 use Rattle.std.specs.declared.alloc.AllocError.{AllocError}
 use Rattle.bosh_client.specs.PlainClient.{PlainClient, end_of}
 use Rattle.bosh_client.specs.Runs.{HandOut, ToHandOut, step}
+use Rattle.bosh_client.specs.declared.replies.Queued.{Queued}
 use Rattle.bosh_ports.specs.Faults.{HasRisen}
 use Rattle.bosh_types.specs.declared.condition.Condition.{Condition}
 use Rattle.line_reader.specs.Lines.{lines_of}
 use Rattle.parked_gate.specs.Histories.{StartsWith}
 use Rattle.parked_gate.specs.Passes.{Known}
 use Rattle.server_ports.specs.Counts.{Counts}
+use Rattle.client_run.specs.declared.call.Call.TheVariants as calls
 use Rattle.client_run.specs.declared.entry.Entry.{Entry}
 use Rattle.client_run.specs.declared.gathering.Gathered.{Gathered}
 use Rattle.client_run.specs.declared.gathering.Gathered.TheVariants as gathered
@@ -18,8 +20,9 @@ use Rattle.client_run.specs.declared.talking.Talked.{Talked}
 use Rattle.client_run.specs.declared.talking.Talked.TheVariants as talked
 use Rattle.client_run.specs.Adding.{Adds, AddsOnly, IsTalk, is_hand_out}
 use Rattle.client_run.specs.History.{After}
-use Rattle.client_run.specs.Input.{IsFirstBad}
-use Rattle.client_run.specs.Running.{WasOver}
+use Rattle.client_run.specs.Input.{IsFirstBad, PutsAll, TakesNoMore}
+use Rattle.client_run.specs.Queueing.{AsksLast, AsksToEnd, GoesFurther, QueuesBy}
+use Rattle.client_run.specs.Running.{BothFinished, TakesBoth, WasOver}
 use Rattle.client_run.specs.Worked.{IsDone}
 
 -- where a running client stands: what its pass knows, the counts of the network, and how often the spawner refused, the source failed,
@@ -42,12 +45,13 @@ pub record WasEmptied (seen : List Entry) : Type 0 where
   pub empty : After log (λ c. (step c HandOut).1 ≡ ToHandOut None)
 
 -- it ran to the end of its client: this holds of the client as it was seen last, and nothing was left to be handed out; a link was
--- dialled; and the pass's own entries are those of talking over the input
+-- dialled; the pass's own entries are those of talking over the input; and each of the two workers ended without a fault
 pub record Ran (input : Option (List ℕ)) (s t : Scene) (P : PlainClient → Type 0) : Type 0 where
   pub after : After t.known.seen P
   pub emptied : WasEmptied t.known.seen
   pub dialled : HasRisen s.counts.dialled t.counts.dialled
   pub adds : Adds s.known t.known (IsTalk input)
+  pub workers : BothFinished t.known.seen s.counts t.counts
 
 abbrev pub EndsWith : Condition → PlainClient → Type 0
 EndsWith condition c = end_of c ≡ Some (record { condition = Some condition })
@@ -63,13 +67,44 @@ RanBy input s t (Ok (ran.Ended condition)) = Ran input s t (EndsWith condition)
 RanBy input s t (Ok ran.Done) = Ran input s t IsDone
 RanBy input s t (Err error) = Unit {0}
 
--- what talking came to, by its causes
+-- talking ended well: what was put is the first lines of the input, and all of them, unless the client took no more
+pub record HasTalked (input : Option (List ℕ)) (old new : Known Entry) : Type 0 where
+  pub mid : Known Entry
+  pub adds : Adds old mid (IsTalk input)
+  pub done : PutsAll input old mid ⊎ TakesNoMore mid
+  pub later : GoesFurther mid new
+
+-- the network gave no share: neither the source nor the sink failed, and the pass queued a terminate and did nothing else
+pub record IsUnhired (s t : Scene) : Type 0 where
+  pub reads : t.reads ≡ s.reads
+  pub writes : t.writes ≡ s.writes
+  pub result : Result Queued AllocError
+  pub queues : QueuesBy calls.Terminate s.known t.known result
+
+-- The causes in their order: where one is answered, none of those before it came. First a worker is refused; then talking ends by a bad
+-- line or a fault; then a worker ended by a fault; then the sink fails at what was handed out last; then the client ended. Where a
+-- worker was refused, or talking did not end well, a terminate was queued
+unfoldable pub InOrder : Option (List ℕ) → Scene → Scene → Result ClientRan AllocError → Type 0
+InOrder input s t (Ok ran.SpawnFault) = (t.reads ≡ s.reads) × (t.writes ≡ s.writes) × AsksToEnd s.known t.known
+InOrder input s t (Ok ran.NetFault) =
+    (t.refusals ≡ s.refusals) × (IsUnhired s t ⊎ ((t.reads ≡ s.reads) × HasTalked input s.known t.known × TakesBoth t.known.seen s.counts t.counts gathered.NetFault))
+InOrder input s t (Ok (ran.Bad n)) = (t.refusals ≡ s.refusals) × (t.reads ≡ s.reads) × AsksToEnd s.known t.known
+InOrder input s t (Ok ran.ReadFault) = (t.refusals ≡ s.refusals) × AsksToEnd s.known t.known
+InOrder input s t (Ok ran.WriteFault) =
+    (t.refusals ≡ s.refusals) × (t.reads ≡ s.reads) × (AsksLast s.known t.known ⊎ (HasTalked input s.known t.known × BothFinished t.known.seen s.counts t.counts))
+InOrder input s t (Ok (ran.Ended condition)) = (t.refusals ≡ s.refusals) × (t.reads ≡ s.reads) × (t.writes ≡ s.writes) × HasTalked input s.known t.known
+InOrder input s t (Ok ran.Done) = (t.refusals ≡ s.refusals) × (t.reads ≡ s.reads) × (t.writes ≡ s.writes) × HasTalked input s.known t.known
+InOrder input s t (Err error) = Unit {0}
+
+-- what talking came to, by its causes; where it didn't end well a terminate was queued, and nothing done after that
 unfoldable pub ConversesBy : Option (List ℕ) → Known Entry → Known Entry → ℕ → ℕ → ℕ → ℕ → Result Talked AllocError → Type 0
-ConversesBy input old new reads later_reads writes later_writes (Ok talked.Done) = Adds old new (IsTalk input)
-ConversesBy input old new reads later_reads writes later_writes (Ok (talked.Bad n)) = IfSome input (λ bytes. IsFirstBad (lines_of bytes) n)
-ConversesBy input old new reads later_reads writes later_writes (Ok talked.ReadFault) = HasRisen reads later_reads
-ConversesBy input old new reads later_reads writes later_writes (Ok talked.WriteFault) = HasRisen writes later_writes
-ConversesBy input old new reads later_reads writes later_writes (Err error) = Unit {0}
+ConversesBy input old new reads later_reads writes later_writes (Ok talked.Done) =
+    Adds old new (IsTalk input) × (PutsAll input old new ⊎ TakesNoMore new) × (later_reads ≡ reads) × (later_writes ≡ writes)
+ConversesBy input old new reads later_reads writes later_writes (Ok (talked.Bad n)) =
+    IfSome input (λ bytes. IsFirstBad (lines_of bytes) n) × AsksLast old new × (later_reads ≡ reads)
+ConversesBy input old new reads later_reads writes later_writes (Ok talked.ReadFault) = HasRisen reads later_reads × AsksLast old new
+ConversesBy input old new reads later_reads writes later_writes (Ok talked.WriteFault) = HasRisen writes later_writes × AsksLast old new × (later_reads ≡ reads)
+ConversesBy input old new reads later_reads writes later_writes (Err error) = AsksLast old new
 
 -- how the end of the client is told
 abbrev pub ran_by : Option Condition → ClientRan
@@ -89,6 +124,7 @@ Concludes old new ran.Done = WasOver old.seen → After new.seen IsDone
 -- what is written last was handed out until nothing was left, and then it is seen how the client ended
 pub record Closes (old new : Known Entry) (ran : ClientRan) : Type 0 where
   pub last : Known Entry
+  pub seen : StartsWith new.seen old.seen
   pub handed : AddsOnly is_hand_out old last
   pub mine : new.mine ≡ last.mine
   pub begins : WasOver old.seen → WasOver last.seen
@@ -98,10 +134,10 @@ pub record Closes (old new : Known Entry) (ran : ClientRan) : Type 0 where
 -- how it ran, by what talking and the workers came to
 unfoldable pub FinishesBy : Result Talked AllocError → Gathered → Known Entry → Known Entry → ℕ → ℕ → Result ClientRan AllocError → Type 0
 FinishesBy t g old new writes later (Ok ran.SpawnFault) = ⊥
-FinishesBy t g old new writes later (Ok ran.NetFault) = g ≡ gathered.NetFault
+FinishesBy t g old new writes later (Ok ran.NetFault) = (t ≡ Ok talked.Done) × (g ≡ gathered.NetFault)
 FinishesBy t g old new writes later (Ok (ran.Bad n)) = t ≡ Ok (talked.Bad n)
 FinishesBy t g old new writes later (Ok ran.ReadFault) = t ≡ Ok talked.ReadFault
-FinishesBy t g old new writes later (Ok ran.WriteFault) = (t ≡ Ok talked.WriteFault) ⊎ HasRisen writes later
-FinishesBy t g old new writes later (Ok (ran.Ended condition)) = (t ≡ Ok talked.Done) × (g ≡ gathered.Over) × Closes old new (ran.Ended condition)
-FinishesBy t g old new writes later (Ok ran.Done) = (t ≡ Ok talked.Done) × (g ≡ gathered.Over) × Closes old new ran.Done
+FinishesBy t g old new writes later (Ok ran.WriteFault) = ((t ≡ Ok talked.WriteFault) × (new ≡ old)) ⊎ ((t ≡ Ok talked.Done) × (g ≡ gathered.Over) × HasRisen writes later × StartsWith new.seen old.seen)
+FinishesBy t g old new writes later (Ok (ran.Ended condition)) = (t ≡ Ok talked.Done) × (g ≡ gathered.Over) × Closes old new (ran.Ended condition) × (later ≡ writes)
+FinishesBy t g old new writes later (Ok ran.Done) = (t ≡ Ok talked.Done) × (g ≡ gathered.Over) × Closes old new ran.Done × (later ≡ writes)
 FinishesBy t g old new writes later (Err error) = Unit {0}

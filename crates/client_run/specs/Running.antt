@@ -7,7 +7,7 @@ use Rattle.bosh_ports.specs.Faults.{HasRisen}
 use Rattle.bosh_types.specs.Rid.{greatest_rid}
 use Rattle.parked_gate.specs.Histories.{StartsWith}
 use Rattle.parked_gate.specs.Passes.{Known}
-use Rattle.server_ports.specs.Counts.{Counts}
+use Rattle.server_ports.specs.Counts.{Counts, added}
 use Rattle.client_run.specs.declared.entry.Entry.{Entry}
 use Rattle.client_run.specs.declared.gathering.Gathered.{Gathered}
 use Rattle.client_run.specs.declared.gathering.Gathered.TheVariants as gathered
@@ -93,6 +93,45 @@ worse_of gathered.Over second = second
 worse_of gathered.NoMemory gathered.NetFault = gathered.NetFault
 worse_of gathered.NoMemory gathered.Over = gathered.NoMemory
 worse_of gathered.NoMemory gathered.NoMemory = gathered.NoMemory
+
+-- the end of a worker that was taken: what it came to tells this of its pass and its share, and what its pass saw is seen
+pub record EndTold (seen : List Entry) (result : Gathered) : Type 0 where
+  pub worked : Result Worked AllocError
+  pub known : Known Entry
+  pub share : Counts
+  pub begins : StartsWith seen known.seen
+  pub tells : IsEndOf worked known share
+  pub is : result ≡ gathered_of worked
+
+-- one end was taken, and what its share dialled is counted
+pub record TakesOne (seen : List Entry) (old new : Counts) (result : Gathered) : Type 0 where
+  pub end : EndTold seen result
+  pub dialled : new.dialled ≡ added old.dialled end.share.dialled
+
+-- two ends were taken, and each of them counts
+pub record TakesBoth (seen : List Entry) (old new : Counts) (result : Gathered) : Type 0 where
+  pub one : Gathered
+  pub other : Gathered
+  pub first : EndTold seen one
+  pub second : EndTold seen other
+  pub dialled : new.dialled ≡ added (added old.dialled first.share.dialled) second.share.dialled
+  pub is : result ≡ worse_of one other
+
+-- A worker that ended with its client, with what its pass knew then and what its share counted: the client was over, a link was
+-- dialled, and of its own entries are requests and answers alone
+pub record Finished (seen : List Entry) : Type 0 where
+  pub known : Known Entry
+  pub share : Counts
+  pub begins : StartsWith seen known.seen
+  pub over : After known.seen IsOver
+  pub dialled : 0 < share.dialled
+  pub only : list_all (is_entry is_of_worker) known.mine ≡ true
+
+-- both workers did, and what they dialled is counted
+pub record BothFinished (seen : List Entry) (old new : Counts) : Type 0 where
+  pub first : Finished seen
+  pub second : Finished seen
+  pub dialled : new.dialled ≡ added (added old.dialled first.share.dialled) second.share.dialled
 
 -- what the ends that were taken tell: the client was over and was dialled for, or the network failed
 abbrev pub GatheredTells : List Entry → Counts → Counts → Gathered → Type 0

@@ -1,7 +1,7 @@
 // The ends of workers are taken: each pass is joined and each share given back.
 ghost use Rattle.std.specs.Prelude.{◌≡◌};
 ghost use Rattle.parked_gate.specs.Passes.{IsPassOf, gate_of, known};
-ghost use Rattle.client_run.specs.Running.{Gathers, gathered_of, worse_of};
+ghost use Rattle.client_run.specs.Running.{Gathers, TakesBoth, TakesOne, gathered_of, worse_of};
 
 use crate::ends::{End, Ends, Naming};
 use crate::object::ClientObject;
@@ -34,6 +34,7 @@ pub(crate) fn gather_one<J: Naming, R: Wait, N: Network + Drop>(
     requires named { gate_of gate.now ≡ J.gate }
     ensures pass { IsPassOf gate.now pass.new }
     ensures gathers { Gathers (known pass.old) (known pass.new) (N.counts net.old) (N.counts net.new) result }
+    ensures takes { TakesOne (known pass.new).seen (N.counts net.old) (N.counts net.new) result }
 {
     let End {
         worked,
@@ -58,6 +59,7 @@ pub(crate) fn gather_two<J: Naming, R: Wait, N: Network + Drop>(
     requires named { gate_of gate.now ≡ J.gate }
     ensures pass { IsPassOf gate.now pass.new }
     ensures gathers { Gathers (known pass.old) (known pass.new) (N.counts net.old) (N.counts net.new) result }
+    ensures takes { TakesBoth (known pass.new).seen (N.counts net.old) (N.counts net.new) result }
 {
     let first = gather_one(rt, gate, pass, net, ends);
     let second = gather_one(rt, gate, pass, net, ends);

@@ -1,7 +1,8 @@
 // A worker of a client as a job.
-ghost use Rattle.std.specs.Prelude.{◌≡◌, []};
+ghost use Rattle.std.specs.Prelude.{◌≡◌, [], true};
 ghost use Rattle.std.specs.Arc.{arc_value};
 ghost use Rattle.parked_gate.specs.Passes.{IsPassOf, gate_of, known};
+ghost use Rattle.client_run.specs.Queueing.{AsksToEnd};
 ghost use Rattle.client_run.specs.Running.{IsEndOf, is_failed, is_silent};
 ghost use Rattle.server_ports.specs.Counts.{Counts};
 
@@ -178,6 +179,7 @@ where
     requires { IsPassOf gate.now pass.old }
     ensures pass { IsPassOf gate.now pass.new }
     ensures tells { (counts : Counts) → IsEndOf worked.now (known pass.old) counts → IsEndOf worked.now (known pass.new) counts }
+    ensures asks { is_failed worked.now ≡ true → AsksToEnd (known pass.old) (known pass.new) }
 {
     if is_failed(worked) {
         watch.ends.fail(rt);

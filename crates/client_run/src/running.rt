@@ -4,7 +4,8 @@ ghost use Rattle.std.specs.Arc.{arc_value};
 ghost use Rattle.parked_gate.specs.Passes.{IsPassOf, gate_of, known};
 ghost use Rattle.client_run.specs.Handed.{GoesOn, Handed, is_talk_whole, is_whole};
 ghost use Rattle.client_run.specs.Handing.{Out, out_of};
-ghost use Rattle.client_run.specs.Ran.{Concludes, ConversesBy, FinishesBy, RanBy, ran_by, scene_of};
+ghost use Rattle.client_run.specs.Queueing.{AsksToEnd};
+ghost use Rattle.client_run.specs.Ran.{Concludes, ConversesBy, FinishesBy, InOrder, RanBy, ran_by, scene_of};
 ghost use Rattle.client_run.specs.Running.{is_done};
 
 use crate::asking::look;
@@ -29,13 +30,13 @@ use std::thread::Threads;
 pub enum ClientRan {
     /// A worker could not be started.
     SpawnFault,
-    /// The network gave no share, or a worker ended by a fault.
+    /// The network gave no share at the start; or talking ended well, and then a worker by a fault.
     NetFault,
     /// This line of the input is the first that is no stanza, or it is the 1,000,001st.
     Bad { line: u64 },
     /// The source failed.
     ReadFault,
-    /// The sink failed.
+    /// The sink failed while talking, or at what was handed out last where no worker ended by a fault.
     WriteFault,
     /// The first terminal answer that the client took has this condition.
     Ended(Condition),
@@ -88,6 +89,11 @@ where
     ensures ran { RanBy (S.left source.old) (scene_of (known pass.old) (N.counts outside.old.net) (P.refusals outside.old.spawner) (S.faults source.old) (K.faults sink.old))
         (scene_of (known pass.new) (N.counts outside.new.net) (P.refusals outside.new.spawner) (S.faults source.new) (K.faults sink.new)) result }
 
+    // Where one cause is answered, none of those before it came; and a terminate was queued where a worker was refused, and where
+    // talking did not end well.
+    ensures ordered { InOrder (S.left source.old) (scene_of (known pass.old) (N.counts outside.old.net) (P.refusals outside.old.spawner) (S.faults source.old) (K.faults sink.old))
+        (scene_of (known pass.new) (N.counts outside.new.net) (P.refusals outside.new.spawner) (S.faults source.new) (K.faults sink.new)) result }
+
     // What was handed out to the pass was written, each stanza as a line, and nothing else: all of it, unless the sink failed.
     ensures written { Handed (is_whole result) (out_of (known pass.old) (K.given sink.old)) (out_of (known pass.new) (K.given sink.new)) (K.faults sink.old) (K.faults sink.new) }
     ensures sink_faults { K.faults sink.old ≤ K.faults sink.new }
@@ -118,6 +124,8 @@ where
     requires named { gate_of (arc_value place.now.gate.now) ≡ J.gate }
     ensures pass { IsPassOf (arc_value place.now.gate.now) pass.new }
     ensures ran { RanBy (S.left source.old) (scene_of (known pass.old) (N.counts outside.old.net) (P.refusals outside.old.spawner) (S.faults source.old) (K.faults sink.old))
+        (scene_of (known pass.new) (N.counts outside.new.net) (P.refusals outside.new.spawner) (S.faults source.new) (K.faults sink.new)) result }
+    ensures ordered { InOrder (S.left source.old) (scene_of (known pass.old) (N.counts outside.old.net) (P.refusals outside.old.spawner) (S.faults source.old) (K.faults sink.old))
         (scene_of (known pass.new) (N.counts outside.new.net) (P.refusals outside.new.spawner) (S.faults source.new) (K.faults sink.new)) result }
     ensures written { Handed (is_whole result) (out_of (known pass.old) (K.given sink.old)) (out_of (known pass.new) (K.given sink.new)) (K.faults sink.old) (K.faults sink.new) }
     ensures sink_faults { K.faults sink.old ≤ K.faults sink.new }
@@ -178,6 +186,7 @@ fn give_up<J: Naming, R: Wait, N: Network + Drop, B: Bell>(
     requires named { gate_of gate.now ≡ J.gate }
     ensures pass { IsPassOf gate.now pass.new }
     ensures goes_on { GoesOn (known pass.old) (known pass.new) }
+    ensures asks { AsksToEnd (known pass.old) (known pass.new) }
 {
     let _ = terminate(rt, gate, pass, bell);
     if started == 1 {

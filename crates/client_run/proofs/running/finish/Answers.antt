@@ -1,4 +1,4 @@
-use Rattle.std.proofs.Common.{◌∙◌, ap, subst}
+use Rattle.std.proofs.Common.{◌∙◌, ap, refl, subst}
 use Rattle.std.specs.Prelude.{Ok}
 use Rattle.parked_gate.specs.Passes.{known}
 use Rattle.client_run.specs.declared.talking.Talked.TheVariants as talked
@@ -22,7 +22,7 @@ pub returns-in-ReadFault-clause-finishes : goal.returns-in-ReadFault-clause-fini
 returns-in-ReadFault-clause-finishes g c = finish_read c.args.talked _ _ _ _ _ (c.in-Ok.is ∙ ap (λ t. Ok t) c.in-ReadFault.is)
 
 pub returns-in-WriteFault-clause-finishes : goal.returns-in-WriteFault-clause-finishes
-returns-in-WriteFault-clause-finishes g c = finish_written c.args.talked _ _ _ _ _ (c.in-Ok.is ∙ ap (λ t. Ok t) c.in-WriteFault.is)
+returns-in-WriteFault-clause-finishes g c = finish_written c.args.talked _ _ _ _ _ (c.in-Ok.is ∙ ap (λ t. Ok t) c.in-WriteFault.is) refl
 
 pub returns-in-Err-clause-written : goal.returns-in-Err-clause-written
 returns-in-Err-clause-written g c = λ start faults falls before. handed_less (is_talk_whole c.args.talked) _ _ _ _ before
