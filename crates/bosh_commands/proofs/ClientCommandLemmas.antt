@@ -2,7 +2,7 @@
 use Rattle.std.proofs.Common.{◌≡◌, ◌≤◌, ℕ, zero, suc, Bool, true, false, length, List, [], ◌∷◌, Option, Some, None, Ok, Contains, inl, inr, refl, sym, ◌∙◌, subst, append-nil, arith, lit<}
 use Rattle.std.specs.Prelude.{nat_le, ◌&&◌}
 use Rattle.std.proofs.lemmas.Bool.{le-leb}
-use Rattle.session_attrs.specs.ServeCommand.{is_allowed_text}
+use Rattle.session_attrs.specs.Serving.{is_allowed_text}
 use Rattle.session_laws.proofs.Tests.{both_true}
 use Rattle.std.specs.Io.KnownBytes.{Appends}
 use Rattle.bosh_client.specs.declared.setup.ClientSetup.{ClientSetup}

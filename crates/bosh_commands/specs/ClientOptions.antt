@@ -4,7 +4,7 @@ use Rattle.std.specs.Str.{bytes_eq}
 use Rattle.std.specs.Global.{Global}
 use Rattle.clap.specs.Words.{App, Kinds, Row, Rule, Text, fault_of, first_of, matches_of, new_app, new_rule, with_rule}
 use Rattle.bosh_types.specs.Rid.{rid_of}
-use Rattle.session_attrs.specs.ServeCommand.{is_allowed_text}
+use Rattle.session_attrs.specs.Serving.{is_allowed_text}
 use Rattle.bosh_commands.specs.Options.{number_in, port_rule, with_version}
 use Rattle.bosh_commands.specs.declared.client_options.Asked.{Asked}
 use Rattle.bosh_commands.specs.declared.client_options.Asked.TheVariants as asked
