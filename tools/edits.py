@@ -125,6 +125,13 @@ def verdicts(folder, edits, words):
     return told
 
 
+def tell(crate, told, counts):
+    """Prints what edits came to, and counts it."""
+    for edit, kind in told.items():
+        counts[kind] = counts.get(kind, 0) + 1
+        print(f"{crate}/{edit.name}: {kind}", flush=True)
+
+
 def main(names):
     only_list = "--list" in names
     names = [it for it in names if it != "--list"]
@@ -140,16 +147,14 @@ def main(names):
         if not os.path.isdir(aside) or (names and crate.name not in names):
             continue
         edits = [Edit(crate.folder, f"{aside}/{it}") for it in sorted(os.listdir(aside)) if it.endswith(".edit")]
-        told = {edit: "applies" if edit.applies() else "DOESN'T APPLY" for edit in edits}
-        if not only_list:
-            words = [rt.rtlib.RATTLE, "check", *crate.words(["--jobs", "1"], keeps=False)]
-            for group in groups([edit for edit in edits if edit.applies()]):
-                told.update(verdicts(crate.folder, group, words))
-        for edit in edits:
-            counts[told[edit]] = counts.get(told[edit], 0) + 1
-            if only_list and told[edit] == "applies":
-                continue
-            print(f"{crate.name}/{edit.name}: {told[edit]}", flush=True)
+        tell(crate.name, {edit: "DOESN'T APPLY" for edit in edits if not edit.applies()}, counts)
+        applied = [edit for edit in edits if edit.applies()]
+        if only_list:
+            counts["applies"] = counts.get("applies", 0) + len(applied)
+            continue
+        words = [rt.rtlib.RATTLE, "check", *crate.words(["--jobs", "1"], keeps=False)]
+        for group in groups(applied):
+            tell(crate.name, verdicts(crate.folder, group, words), counts)
     print(", ".join(f"{count} {kind}" for kind, count in sorted(counts.items())) or "no edits aside")
     return 0 if set(counts) <= {"applies", "refused"} else 1
 
