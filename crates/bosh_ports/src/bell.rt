@@ -2,6 +2,7 @@
 ghost use Rattle.std.specs.Prelude.{◌≡◌, ◌≤◌, ◌↔◌, ℕ, IfOk};
 ghost use Rattle.bosh_ports.specs.Faults.{HasRisen};
 
+use bosh_types::Moment;
 use std::alloc::{AllocError, Global};
 use std::marker::Model;
 
@@ -35,6 +36,16 @@ pub trait Bell {
         ensures silent { result ≡ Woken.Silent → HasRisen (silences self.old) (silences self.new) }
         ensures rung { result ≡ Woken.Rung → silences self.new ≡ silences self.old }
         ensures never_falls { silences self.old ≤ silences self.new };
+
+    /// `wait` for somebody who has something to do at the moment `due`, and otherwise only at a ring. `now` is the moment at
+    /// which the wait begins, by the clock that `due` is of. Where nothing says otherwise it is `wait` itself.
+    fn wait_until(&mut self, now: Moment, due: Option<Moment>) -> Woken
+        ensures silent { result ≡ Woken.Silent → HasRisen (silences self.old) (silences self.new) }
+        ensures rung { result ≡ Woken.Rung → silences self.new ≡ silences self.old }
+        ensures never_falls { silences self.old ≤ silences self.new }
+    {
+        self.wait()
+    }
 
     /// Wakes those that wait with this key. It may wake others too.
     fn ring(&mut self, key: BellKey)

@@ -2,6 +2,7 @@
 ghost use Rattle.std.specs.Prelude.{◌<◌};
 
 use crate::bell::{Bell, BellKey, Woken};
+use bosh_types::Moment;
 use std::alloc::{AllocError, Global};
 use std::array;
 use std::rt::Clock;
@@ -82,6 +83,29 @@ impl<R: Wait + Clock + Copy + Drop> Bell for RealBell<R> {
             |rings| *rings == heard,
         );
         self.heard = *rings;
+        Woken::Rung
+    }
+
+    // Without a moment it waits until it is rung.
+    fn wait_until(&mut self, now: Moment, due: Option<Moment>) -> Woken {
+        let heard = self.heard;
+        let stripe = &self.tower.stripes[self.stripe];
+        let rings = stripe.rings.lock(&self.rt);
+        self.heard = match due {
+            Some(due) => {
+                let millis = due.millis().saturating_sub(now.millis());
+                let (rings, _) = stripe.rung.wait_timeout_while(
+                    &self.rt,
+                    rings,
+                    Duration::from_millis(millis),
+                    |rings| *rings == heard,
+                );
+                *rings
+            }
+            None => *stripe
+                .rung
+                .wait_while(&self.rt, rings, |rings| *rings == heard),
+        };
         Woken::Rung
     }
 

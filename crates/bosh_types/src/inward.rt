@@ -10,6 +10,10 @@ pub enum Inward {
     Item(StreamNo, SharedText),
     /// The stream is to be restarted (XEP-0206).
     Restart(StreamNo),
+    /// This stream is to be opened to the host of this name (XEP-0124, section 16). No session makes it yet.
+    Open(StreamNo, SharedText),
+    /// The client closed this stream alone (XEP-0124, section 16). No session makes it yet.
+    Close(StreamNo),
 }
 
 impl CopyIn for Inward {
@@ -17,6 +21,8 @@ impl CopyIn for Inward {
         match self {
             Inward::Item(stream, bytes) => Ok(Inward::Item(*stream, bytes.copy_in(alloc)?)),
             Inward::Restart(stream) => Ok(Inward::Restart(*stream)),
+            Inward::Open(stream, to) => Ok(Inward::Open(*stream, to.copy_in(alloc)?)),
+            Inward::Close(stream) => Ok(Inward::Close(*stream)),
         }
     }
 }

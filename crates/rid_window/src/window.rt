@@ -1,8 +1,10 @@
-ghost use Rattle.std.specs.Prelude.{◌≡◌, ◌↔◌, ◌-◌, ◌<◌, ◌≤◌, IfOk, IsTrue, is_none, is_some, slice_index_or, slice_set, vec_len};
+ghost use Rattle.std.specs.Prelude.{◌≡◌, ◌↔◌, ◌-◌, ◌<◌, ◌≤◌, IfOk, IsTrue, is_none, is_some, length, slice_index_or, slice_set, Some, None};
 ghost use Rattle.std.specs.List.{list_all};
 ghost use Rattle.std.specs.Option.{option_copied};
+ghost use Rattle.circular_buffer.specs.Buffer.{buffer};
 
-use bosh_types::{CopyIn, Rid, copy_items};
+use bosh_types::{CopyIn, Rid};
+use circular_buffer::HeapCircularBuffer;
 use std::alloc::{AllocError, Global};
 
 /// What became of an item. One that wasn't placed is handed back, and nothing changed.
@@ -23,8 +25,9 @@ pub enum Placed<T> {
 pub struct Window<T> {
     next: Option<Rid>,
     // The places of `next` and of the ids after it: as many as the width, and one for an id that is extra.
-    places: Vec<Option<T>>,
-    ghost roomy: { 0 < vec_len places },
+    places: HeapCircularBuffer<Option<T>>,
+    ghost roomy: { 0 < length places.items },
+    ghost full: { length places.items ≡ places.capacity },
 }
 
 impl<T: Drop> Window<T> {
@@ -38,9 +41,9 @@ impl<T: Drop> Window<T> {
         ensures { IfOk result (λ window. StandsFor window (new_window first width)) }
     {
         let size = width as usize + 1;
-        let mut places = Vec::with_capacity(alloc, size)?;
+        let mut places = HeapCircularBuffer::with_capacity(alloc, size)?;
         'fill: for _ in 0..size {
-            places.push(None)?;
+            places.push_back(None);
         }
         Ok(Window {
             next: Some(first),
@@ -68,7 +71,7 @@ impl<T: Drop> Window<T> {
         if ahead >= self.reach(extra) {
             return Placed::Above(item);
         }
-        self.places[ahead] = Some(item);
+        put_at(&mut self.places, ahead, item);
         Placed::Done
     }
 
@@ -79,8 +82,8 @@ impl<T: Drop> Window<T> {
             → StandsFor self.new (after_ready plain) }
     {
         let next = self.next?;
-        let item = self.places[0].take()?;
-        self.places.rotate_left(1);
+        let item = take_at(&mut self.places, 0)?;
+        self.places.push_back(None);
         let later = next.next();
         self.next = later;
         Some((next, item))
@@ -126,7 +129,7 @@ impl<T: Drop> Window<T> {
 
     // How many ids have a place.
     fn reach(&self, extra: bool) -> usize
-        ensures { result ≡ reach (vec_len self.now.places - 1) extra }
+        ensures { result ≡ reach (length self.now.places.items - 1) extra }
     {
         let width = self.places.len() - 1;
         if extra { width + 1 } else { width }
@@ -151,14 +154,14 @@ impl<T: CopyIn> Window<T> {
     {
         Ok(Window {
             next: self.next,
-            places: copy_items(alloc, &self.places)?,
+            places: copy_places(alloc, &self.places)?,
         })
     }
 }
 
 // The item of a place, if it has one.
-fn item_at<T>(places: &[Option<T>], place: usize) -> Option<&T>
-    ensures { option_copied result ≡ slice_index_or places.now place None }
+fn item_at<T>(places: &HeapCircularBuffer<Option<T>>, place: usize) -> Option<&T>
+    ensures { option_copied result ≡ slice_index_or places.now.items place None }
 {
     match places.get(place) {
         Some(item) => item.as_ref(),
@@ -166,20 +169,51 @@ fn item_at<T>(places: &[Option<T>], place: usize) -> Option<&T>
     }
 }
 
+// Puts an item into a place.
+fn put_at<T: Drop>(places: &mut HeapCircularBuffer<Option<T>>, place: usize, item: T)
+    requires { place < length places.old.items }
+    ensures { places.new ≡ buffer (slice_set places.old.items place (Some item)) places.old.capacity }
+{
+    if let Some(at) = places.get_mut(place) {
+        *at = Some(item);
+    }
+}
+
 // Takes the item of a place, if it has one, and leaves the place empty.
-fn take_at<T>(places: &mut [Option<T>], place: usize) -> Option<T>
-    ensures item { result ≡ slice_index_or places.old place None }
-    ensures emptied { places.new ≡ slice_set places.old place None }
+fn take_at<T>(places: &mut HeapCircularBuffer<Option<T>>, place: usize) -> Option<T>
+    ensures item { result ≡ slice_index_or places.old.items place None }
+    ensures emptied { places.new ≡ buffer (slice_set places.old.items place None) places.old.capacity }
 {
     if place >= places.len() {
         return None;
     }
-    places[place].take()
+    match places.get_mut(place) {
+        Some(at) => at.take(),
+        None => unreachable!(),
+    }
 }
 
 // Whether no place has an item.
-fn are_empty<T>(places: &[Option<T>]) -> bool
-    ensures { result ≡ list_all is_none places.now }
+fn are_empty<T>(places: &HeapCircularBuffer<Option<T>>) -> bool
+    ensures { result ≡ list_all is_none places.now.items }
 {
     places.iter().all(|place| place.is_none())
+}
+
+// The places with copies of the items.
+fn copy_places<T: CopyIn>(
+    alloc: Global,
+    places: &HeapCircularBuffer<Option<T>>,
+) -> Result<HeapCircularBuffer<Option<T>>, AllocError>
+    requires { length places.now.items ≤ places.now.capacity }
+    ensures { IfOk result (λ copies. copies ≡ places.now) }
+{
+    let mut copies = HeapCircularBuffer::with_capacity(alloc, places.capacity())?;
+    'each: for index in 0..places.len() {
+        match places.get(index) {
+            Some(place) => copies.push_back(place.copy_in(alloc)?),
+            None => unreachable!(),
+        };
+    }
+    Ok(copies)
 }

@@ -1,4 +1,4 @@
-use Rattle.std.proofs.Common.{None, get_or, not, ◌∙◌, ap}
+use Rattle.std.proofs.Common.{not, ◌∙◌, ap}
 use Rattle.rid_window.specs.StandsFor.{StandsFor}
 use Rattle.rid_window.proofs.Places.{first_is, first_none, no_left}
 use Rattle.rid_window.proofs.window.Window.first.Goals as goal
@@ -10,5 +10,4 @@ returns-then-is_none g c = λ plain stands. first_none stands (no_left _ (c.is_n
 pub returns : goal.returns
 unfolding StandsFor
 returns g c = λ plain stands.
-    c.item_at.ensures ∙ ap (λ places. get_or places 0 None) c.deref.ensures.value
-    ∙ first_is (c.is_none.ensures ∙ ap not c.if-is_none.false) stands
+    c.item_at.ensures ∙ first_is (c.is_none.ensures ∙ ap not c.if-is_none.false) stands

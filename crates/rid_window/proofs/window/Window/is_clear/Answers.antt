@@ -11,4 +11,4 @@ returns-then-is_none g c = λ plain stands.
 pub returns-else-is_none : goal.returns-else-is_none
 unfolding StandsFor
 returns-else-is_none g c = λ plain stands.
-    rw (c.are_empty.ensures, c.deref.ensures.value) (clear_is (c.is_none.ensures ∙ ap not c.if-is_none.false) stands)
+    rw c.are_empty.ensures (clear_is (c.is_none.ensures ∙ ap not c.if-is_none.false) stands)

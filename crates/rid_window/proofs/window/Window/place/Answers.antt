@@ -45,5 +45,6 @@ unfolding StandsFor
 returns-clause-after g c = λ plain stands.
     let here : c.args.rid ≡ c.in-Some.next + (c.value-3.result - c.value-4.result) = omega arith in
     let width : c.reach.result ≡ reach plain.width c.args.extra = c.reach.ensures ∙ ap (λ n. reach n c.args.extra) (omega (arith, stands.room)) in
-    Holds-place c.in-Some.next _ c.args.rid c.args.item stands c.in-Some.is here (omega (arith, stands.room, width, reach-le plain.width c.args.extra))
-    (at_empty c.in-Some.next _ c.args.rid stands c.in-Some.is here (sym c.is_filled.ensures ∙ c.if-is_filled.false))
+    rw c.put_at.ensures
+    (Holds-place c.in-Some.next _ c.args.rid c.args.item stands c.in-Some.is here (omega (arith, stands.room, width, reach-le plain.width c.args.extra))
+    (at_empty c.in-Some.next _ c.args.rid stands c.in-Some.is here (sym c.is_filled.ensures ∙ c.if-is_filled.false)))

@@ -1,5 +1,4 @@
-use Rattle.std.proofs.Common.{◌≡◌, ◌+◌, None, get_or, set, ◌∙◌, ap, arith}
-use Rattle.std.proofs.lemmas.List.{with_items_is}
+use Rattle.std.proofs.Common.{◌≡◌, ◌+◌, ◌∙◌, arith}
 use Rattle.rid_window.specs.StandsFor.{StandsFor}
 use Rattle.rid_window.proofs.Struck.{Holds-none_open, Holds-strike, Holds-taken_open, none_open, struck_item, taken_open}
 use Rattle.rid_window.proofs.window.Window.strike.Goals as goal
@@ -25,14 +24,10 @@ pub returns-clause-answer : goal.returns-clause-answer
 unfolding StandsFor
 returns-clause-answer g c = λ plain stands.
     let here : c.args.rid ≡ c.in_ok-next.next + c.in_ok-ahead.ahead = omega arith in
-    c.take_at.ensures.item ∙ ap (λ places. get_or places c.in_ok-ahead.ahead None) c.deref_mut.ensures.value
-    ∙ struck_item c.in_ok-next.next c.in_ok-ahead.ahead c.args.rid stands c.in_ok-next.was here
+    c.take_at.ensures.item ∙ struck_item c.in_ok-next.next c.in_ok-ahead.ahead c.args.rid stands c.in_ok-next.was here
 
 pub returns-clause-after : goal.returns-clause-after
 unfolding StandsFor
 returns-clause-after g c = λ plain stands.
     let here : c.args.rid ≡ c.in_ok-next.next + c.in_ok-ahead.ahead = omega arith in
-    let left : c.take_at.new.places ≡ set c.args.self.now.places.items c.in_ok-ahead.ahead None =
-    c.take_at.ensures.emptied ∙ ap (λ places. set places c.in_ok-ahead.ahead None) c.deref_mut.ensures.value in
-    rw (with_items_is c.args.self.now.places c.take_at.new.places (c.take_at.auto.places ∙ c.deref_mut.ensures.len), left)
-    (Holds-strike c.in_ok-next.next c.in_ok-ahead.ahead c.args.rid stands c.in_ok-next.was here)
+    rw c.take_at.ensures.emptied (Holds-strike c.in_ok-next.next c.in_ok-ahead.ahead c.args.rid stands c.in_ok-next.was here)
