@@ -18,7 +18,8 @@ use Rattle.session_attrs.specs.declared.request.Request.{Request}
 use Rattle.session_attrs.specs.Admission.{admitted_of}
 use Rattle.session_core.specs.Endings.{terminal}
 use Rattle.session_core.specs.Journal.{Journal, none as nothing_made}
-use Rattle.session_core.specs.Machine.{Opening, created_parts}
+use Rattle.session_core.specs.Machine.{created_parts}
+use Rattle.session_core.specs.declared.opening.Opening.{Opening}
 use Rattle.session_laws.proofs.Tests.{split, both_true}
 use Rattle.script_text.specs.declared.event.Event.{Event}
 use Rattle.script_text.specs.declared.event.Event.TheVariants.{Arrives, Gives, Shuts}

@@ -19,7 +19,8 @@ use Rattle.session_core.specs.declared.replies.Ticked.{Ticked}
 use Rattle.session_core.specs.declared.replies.Ticked.TheVariants.{Changed, Quiet}
 use Rattle.session_core.specs.Copy.{unnamed}
 use Rattle.session_core.specs.Journal.{Call, Arrive, Back, BackClosed, Collect, Tick, TakeInward, Entered, Journal, ToArrive, IsJournal, IsAllowed, state_of, step, entered_by}
-use Rattle.session_core.specs.Machine.{Opening, opened, created_parts, bytes_for, arrive, back, back_closed, tick}
+use Rattle.session_core.specs.Machine.{opened, created_parts, bytes_for, arrive, back, back_closed, tick}
+use Rattle.session_core.specs.declared.opening.Opening.{Opening}
 use Rattle.session_core.specs.State.{PlainSession, Issued}
 use Rattle.session_core.specs.TicketsOut.{issued_at}
 use Rattle.session_laws.specs.Replies.{IsToldTo}

@@ -73,7 +73,7 @@ made_bodies (Some entered) = entered_bodies entered
 
 with_bodies : (journal : Journal) (o : Option Entered) → bodies_of (with_entered journal o) ≡ bodies_of journal ++ made_bodies o
 with_bodies journal None = sym (append-nil (bodies_of journal))
-with_bodies journal (Some entered) = ap (λ l. journal.opening.body ∷ l) (bodies_push journal.opening.now journal.entries (record { caller = 0; entered = entered }))
+with_bodies journal (Some entered) = ap (λ l. journal.opening.body ∷ l) (bodies_push journal.opening.at journal.entries (record { caller = 0; entered = entered }))
 
 pub with_opening : (journal : Journal) (o : Option Entered) → (with_entered journal o).opening ≡ journal.opening
 with_opening journal None = refl

@@ -13,7 +13,8 @@ use Rattle.session_attrs.specs.declared.request.Kind.{Kind}
 use Rattle.session_attrs.specs.declared.request.Kind.TheVariants as kinds
 use Rattle.session_attrs.specs.declared.request.Request.{Request}
 use Rattle.session_attrs.specs.Admission.{admitted_of}
-use Rattle.session_core.specs.Machine.{Opening, created_parts}
+use Rattle.session_core.specs.Machine.{created_parts}
+use Rattle.session_core.specs.declared.opening.Opening.{Opening}
 use Rattle.session_laws.proofs.Tests.{split}
 use Rattle.script_text.specs.declared.event.Event.{Event}
 use Rattle.script_text.specs.declared.event.Event.TheVariants.{Arrives, Gives, Shuts}

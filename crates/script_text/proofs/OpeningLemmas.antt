@@ -19,7 +19,7 @@ use Rattle.session_core.specs.Opened.{opening_of}
 use Rattle.session_core.proofs.GreetingLemmas.{greeting_fits}
 use Rattle.session_attrs.specs.Serving.{can_serve, is_host_name, may_greet}
 use Rattle.session_attrs.proofs.ServingLemmas.{host_text}
-use Rattle.script_text.specs.Manager.{opening_by, sid_of}
+use Rattle.script_text.specs.Manager.{sid_of}
 
 -- the name of a session may stand in an answer
 sid_text : (number : ℕ) → number < 10 ^ 19 → number < 2 ^ 64 → IsText (sid_of number) × (1 ≤ length (sid_of number)) × (length (sid_of number) ≤ 64)
@@ -44,17 +44,6 @@ opens host number now body sid name request creation terms good few small sid_is
       host = subst (λ n. IsText n × (1 ≤ length n) × (length n ≤ 1023)) (sym name_is) (host_text host.name known.0);
       greeting = greeting_fits host.greeting known.1;
     }
-
--- and this is its opening
-pub opening_is : (at host : HostName) (number now : ℕ) (body body' sid name : List ℕ) (request : Request) (creation : Creation) (terms : Terms)
-    → at ≡ host → body ≡ body' → terms ≡ terms_of creation → sid ≡ sid_of number → name ≡ at.name
-    → opening_of request body terms sid name at.greeting now ≡ opening_by host number body' request creation now
-opening_is at host number now body body' sid name request creation terms at_is body_is terms_is sid_is name_is =
-    ap (λ b. opening_of request b terms sid name at.greeting now) body_is
-    ∙ ap (λ t. opening_of request body' t sid name at.greeting now) terms_is
-    ∙ ap (λ n. opening_of request body' (terms_of creation) n name at.greeting now) sid_is
-    ∙ ap (λ n. opening_of request body' (terms_of creation) (sid_of number) n at.greeting now) name_is
-    ∙ ap (λ (h : HostName). opening_by h number body' request creation now) at_is
 
 pub one_host : (hosts : List HostName) (place : ℕ) (at host : HostName) → slice_get hosts place ≡ Some at → slice_get hosts place ≡ Some host → at ≡ host
 one_host hosts place at host one other = cc

@@ -7,7 +7,7 @@ use Rattle.std.proofs.lemmas.List.{append-nil}
 use Rattle.std.proofs.lemmas.List.Elements.{filter-append, All-nil, All-cons, All-head, All-tail, All-append, All-map, All-weaker}
 use Rattle.std.proofs.lemmas.List.Quantifiers.{position-Some}
 use Rattle.std.proofs.lemmas.List.Sums.{fails_before_first}
-use Rattle.session_core.specs.Machine.{Opening}
+use Rattle.session_core.specs.declared.opening.Opening.{Opening}
 use Rattle.session_core.specs.State.{is_over}
 use Rattle.session_laws.specs.Growing.{Begins}
 use Rattle.session_laws.proofs.Lists.{get_some}

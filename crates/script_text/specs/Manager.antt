@@ -2,7 +2,7 @@
 use Rattle.std.specs.Prelude.{ℕ, ◌+◌, ◌==◌, ◌&&◌, Bool, false, not, nat_lt, List, [], ◌∷◌, ◌++◌, map, length, position, slice_get, take, drop, Option, Some, None, Result, Ok, Err, codes, if◌then◌else◌}
 use Rattle.std.specs.Fmt.{decimal}
 use Rattle.std.specs.List.{list_any}
-use Rattle.bosh_types.specs.Limits.{most_sessions, most_openings}
+use Rattle.bosh_types.specs.Limits.{journal_bytes, most_openings, most_sessions}
 use Rattle.bosh_types.specs.Rid.{rid_of}
 use Rattle.bosh_types.specs.declared.condition.Condition.{Condition}
 use Rattle.bosh_types.specs.declared.condition.Condition.TheVariants.{BadRequest, HostUnknown, ImproperAddressing, UndefinedCondition}
@@ -21,7 +21,8 @@ use Rattle.session_attrs.specs.Reading.{request_of}
 use Rattle.session_attrs.specs.Terms.{terms_of}
 use Rattle.session_attrs.specs.Values.{values_of}
 use Rattle.session_core.specs.Endings.{terminal}
-use Rattle.session_core.specs.Machine.{Opening, created_parts}
+use Rattle.session_core.specs.Machine.{created_parts}
+use Rattle.session_core.specs.declared.opening.Opening.{Opening}
 use Rattle.script_text.specs.declared.event.Event.{Event}
 use Rattle.script_text.specs.declared.event.Event.TheVariants.{Arrives, Passes}
 use Rattle.script_text.specs.declared.live.Parked.{Parked}
@@ -140,7 +141,8 @@ opening_by host number body request creation now = record {
   sid = sid_of number;
   host = host.name;
   greeting = host.greeting;
-  now = now;
+  at = now;
+  limit = journal_bytes;
 }
 
 abbrev pub opened_live : ℕ → Opening → PlainLive

@@ -7,7 +7,7 @@ use Rattle.bosh_types.specs.declared.ending.Closing.{Closing}
 use Rattle.bosh_types.specs.declared.ending.Closing.TheVariants.{Plain, RemoteConnectionFailed as ByConnection, RemoteStreamError as ByStream, SystemShutdown as ByShutdown}
 use Rattle.bosh_types.specs.declared.ending.Ending.{Ending}
 use Rattle.bosh_types.specs.declared.inward.Inward.{Inward}
-use Rattle.bosh_types.specs.declared.inward.Inward.TheVariants.{Item, Restart}
+use Rattle.bosh_types.specs.declared.inward.Inward.TheVariants.{Item, Restart, Open, Close}
 use Rattle.bosh_types.specs.declared.ending.Ending.TheVariants.{Terminated, Stale, Above, WrongKey, UnknownStream, PauseTooLong, Overactive, Silent, Closed, JournalFull}
 use Rattle.script_text.specs.declared.line.BadKind.{BadKind}
 use Rattle.script_text.specs.declared.line.BadKind.TheVariants.{Count, End, Length, Grammar, Time, Connection, Session, Copy}
@@ -56,6 +56,8 @@ kind_text Copy = codes "copy"
 abbrev pub inward_text : Inward → List ℕ
 inward_text (Item stream stanza) = decimal stream ++ codes " " ++ stanza
 inward_text (Restart stream) = decimal stream ++ codes " restart"
+inward_text (Open stream to) = decimal stream ++ codes " open " ++ to
+inward_text (Close stream) = decimal stream ++ codes " close"
 
 -- a line of the server that was refused for this session
 abbrev pub refused_text : Refusal → ℕ → List ℕ

@@ -20,11 +20,12 @@ use crate::live::{Live, Turned};
 use crate::report::ReportLine;
 use crate::stanza::parts_of;
 use crate::words::{sid_of, terminal_body};
-use bosh_types::limits::{MOST_OPENINGS, MOST_SESSIONS};
-use bosh_types::{Condition, Moment, Rid, SharedText, Stanzas, Text};
+use bosh_types::limits::{JOURNAL_BYTES, MOST_OPENINGS, MOST_SESSIONS};
+use bosh_types::{Condition, CopyIn, HostName, Moment, Rid, SharedText, Stanzas, Text, copy_items};
 use session_attrs::{
     Admitted, Creation, Kind, Request, RequestError, admit, negotiate, read_request,
 };
+use session_core::{Opening, copied_request};
 use session_journal::Journalled;
 use std::alloc::{AllocError, Global};
 
@@ -341,18 +342,8 @@ impl Manager {
             → IsTurn turned (opened_turn number post.now.conn (opening_by host number post.now.body post.now.request creation.now self.now.moment))) }
     {
         let host = self.hosts.at(place);
-        let sid = sid_of(alloc, number)?;
-        let (session, body) = Journalled::open(
-            alloc,
-            &post.request,
-            post.body.as_slice(),
-            negotiate(creation),
-            sid.as_slice(),
-            host.name.as_slice(),
-            &host.greeting,
-            self.moment,
-            0,
-        )?;
+        let opening = opening_by(alloc, host, number, post, creation, self.moment)?;
+        let (session, body) = Journalled::open(alloc, opening, 0)?;
         let live = Live {
             number,
             session,
@@ -361,6 +352,34 @@ impl Manager {
         let conn = post.conn;
         live.told(alloc, Vec::new(alloc), Some(ReportLine::Out { conn, body }))
     }
+}
+
+// What opens the session with this number.
+fn opening_by(
+    alloc: Global,
+    host: &HostName,
+    number: u32,
+    post: &Post,
+    creation: &Creation,
+    at: Moment,
+) -> Result<Opening, AllocError>
+    requires few { number ≤ most_openings }
+    ensures { IfOk result (λ opening. opening ≡ opening_by host.now number post.now.body post.now.request creation.now at) }
+{
+    let request = copied_request(alloc, &post.request)?;
+    let sid = sid_of(alloc, number)?;
+    let name = SharedText::new(alloc, host.name.copy_in(alloc)?)?;
+    let greeting = copy_items(alloc, host.greeting.as_slice())?;
+    Ok(Opening {
+        request,
+        body: post.body.again()?,
+        terms: negotiate(creation),
+        sid,
+        host: name,
+        greeting: Stanzas::from_vec(greeting),
+        at,
+        limit: JOURNAL_BYTES,
+    })
 }
 
 // Whether a request waits on this connection, which is open.

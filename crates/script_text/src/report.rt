@@ -85,6 +85,15 @@ pub fn push_inward(alloc: Global, text: &mut Vec<u8>, item: &Inward) -> Result<(
             push_number(alloc, text, u64::from(stream.number()))?;
             text.extend_from_slice(b" restart")
         }
+        Inward::Open(stream, to) => {
+            push_number(alloc, text, u64::from(stream.number()))?;
+            text.extend_from_slice(b" open ")?;
+            text.extend_from_slice(to.as_slice())
+        }
+        Inward::Close(stream) => {
+            push_number(alloc, text, u64::from(stream.number()))?;
+            text.extend_from_slice(b" close")
+        }
     }
 }
 

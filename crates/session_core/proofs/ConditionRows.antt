@@ -15,7 +15,7 @@ use Rattle.session_attrs.specs.Terms.{terms_of}
 use Rattle.session_attrs.specs.Values.{Values, values_of}
 use Rattle.session_attrs.proofs.MeaningLemmas.{reads_means}
 use Rattle.session_core.specs.Journal.{Arrive, Back, IsAllowed, IsOpening}
-use Rattle.session_core.specs.Machine.{Opening}
+use Rattle.session_core.specs.declared.opening.Opening.{Opening}
 use Rattle.session_core.proofs.RowTools.{usual, creating, empty}
 
 -- what a row unfolds that reads a body
@@ -32,7 +32,8 @@ creation = record {
   sid = codes "s1";
   host = codes "example.org";
   greeting = codes "<stream:features/>" ∷ [];
-  now = 0;
+  at = 0;
+  limit = 16777216;
 }
 
 pub opens : IsOpening creation

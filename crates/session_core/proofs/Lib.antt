@@ -29,3 +29,4 @@ pub mod CountedLemmas
 pub mod OpenedLemmas
 pub mod GreetingLemmas
 pub mod ConditionRows
+pub mod DueLemmas

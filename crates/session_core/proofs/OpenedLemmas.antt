@@ -28,7 +28,8 @@ use Rattle.session_core.specs.Arriving.{IsModest}
 use Rattle.session_core.specs.Copy.{id_of, is_empty, items_of, unnamed, with_id}
 use Rattle.session_core.specs.Journal.{IsOpening}
 use Rattle.session_core.specs.Kept.{kept_answer}
-use Rattle.session_core.specs.Machine.{Opening, bytes_for, creation_of, first_answer, greeting_of, opened}
+use Rattle.session_core.specs.Machine.{bytes_for, creation_of, first_answer, greeting_of, opened}
+use Rattle.session_core.specs.declared.opening.Opening.{Opening}
 use Rattle.session_core.specs.Outward.{is_close, stanzas_in}
 use Rattle.session_core.specs.Queue.{Queue}
 use Rattle.session_core.specs.StandsFor.{Holds, IsLater, alike_of, alike_in}
@@ -111,8 +112,8 @@ module _ (rid width : ℕ) (copy : RequestCopy) where
 
 pub opened_holds : (o : Opening) (s : Session) → alike_of s ≡ alike_in (opened o)
     → s.last ≡ o.request.rid → s.answered ≡ o.request.rid → s.held ≡ []
-    → s.latest ≡ record { arrived = o.now; empty = is_empty (creation_of o); creation = true; bare = false }
-    → s.last_given ≡ o.now → s.last_bare ≡ (length (stanzas_in (greeting_of o)) == 0)
+    → s.latest ≡ record { arrived = o.at; empty = is_empty (creation_of o); creation = true; bare = false }
+    → s.last_given ≡ o.at → s.last_bare ≡ (length (stanzas_in (greeting_of o)) == 0)
     → keeps.StandsFor s.keep (record { put = kept_answer (first_answer o) ∷ []; acknowledged = 0; size = o.terms.requests + 1 })
     → windows.StandsFor s.window (record { placed = with_id (creation_of o) ∷ []; next = id_after o.request.rid; width = o.terms.requests })
     → s.inward ≡ items_of (creation_of o) → s.outbox ≡ record { items = []; closed = false } → s.tickets ≡ record { handed_out = 0; out = [] }

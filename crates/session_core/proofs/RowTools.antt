@@ -14,7 +14,8 @@ use Rattle.session_attrs.specs.declared.request.Kind.TheVariants as kinds
 use Rattle.session_attrs.specs.declared.request.Request.{Request}
 use Rattle.session_attrs.specs.Terms.{terms_of}
 use Rattle.session_core.specs.Journal.{Call, Arrive, Reply, Entered, Entry, Journal, step, entered_by}
-use Rattle.session_core.specs.Machine.{Opening, opened}
+use Rattle.session_core.specs.Machine.{opened}
+use Rattle.session_core.specs.declared.opening.Opening.{Opening}
 use Rattle.session_core.specs.declared.outward.Outward.{Outward}
 use Rattle.session_core.specs.State.{PlainSession, last_of, answered_of, inward, waiting}
 
@@ -45,7 +46,8 @@ opening_with creation newkey rid = record {
   sid = codes "s1";
   host = codes "example.org";
   greeting = codes "<stream:features/>" ∷ [];
-  now = 0;
+  at = 0;
+  limit = 16777216;
 }
 
 abbrev pub opening : Opening

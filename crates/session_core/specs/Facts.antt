@@ -2,7 +2,6 @@
 -- which the call of the ending entry was tested, `after` the state that it leaves.
 use Rattle.std.specs.Prelude.{◌≡◌, ℕ, ◌+◌, ◌*◌, ◌<◌, ◌≤◌, false, List, [], ◌∷◌, ◌++◌, Some, None, IsTrue}
 use Rattle.std.specs.List.{list_any}
-use Rattle.bosh_types.specs.Limits.{journal_bytes}
 use Rattle.bosh_types.specs.declared.ending.Closing.{Closing}
 use Rattle.bosh_types.specs.declared.ending.Ending.{Ending}
 use Rattle.bosh_types.specs.declared.ending.Ending.TheVariants.{Terminated, Stale, Above, WrongKey, UnknownStream, PauseTooLong, Overactive, Silent, Closed, JournalFull}
@@ -86,4 +85,4 @@ Fact tested entered after (Silent since now) =
 Fact tested entered after (Closed closing rid) = TookClosing (last_answer after) rid closing
 -- the journal had no room
 Fact tested entered after (JournalFull counted cost) =
-    MeetsLimit entered cost × (counted ≡ tested.counted) × (journal_bytes < counted + cost)
+    MeetsLimit entered cost × (counted ≡ tested.counted) × (tested.limit < counted + cost)

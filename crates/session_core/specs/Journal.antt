@@ -18,7 +18,8 @@ use Rattle.session_core.specs.declared.replies.Collected.{Collected}
 use Rattle.session_core.specs.declared.replies.Collected.TheVariants as collections
 use Rattle.session_core.specs.declared.replies.Taken.{Taken}
 use Rattle.session_core.specs.declared.replies.Ticked.{Ticked}
-use Rattle.session_core.specs.Machine.{Opening, opened, greeting_of, arrive, collect, back, back_closed, tick, take_inward, body_cost, stanza_cost, plain_cost, is_full, full_with}
+use Rattle.session_core.specs.Machine.{opened, greeting_of, arrive, collect, back, back_closed, tick, take_inward, body_cost, stanza_cost, plain_cost, is_full, full_with}
+use Rattle.session_core.specs.declared.opening.Opening.{Opening}
 use Rattle.session_core.specs.Outward.{size_of_all}
 use Rattle.session_core.specs.State.{PlainSession, is_over}
 use Rattle.session_core.specs.Time.{is_due}
@@ -75,7 +76,7 @@ entry_cost (Limit kind cost now) = 0
 
 -- the counted bytes of a journal
 abbrev pub counted : Journal → ℕ
-counted journal = cost_of (Arrive journal.opening.request journal.opening.body journal.opening.now) + sum_by (λ entry. entry_cost entry.entered) journal.entries
+counted journal = cost_of (Arrive journal.opening.request journal.opening.body journal.opening.at) + sum_by (λ entry. entry_cost entry.entered) journal.entries
 
 -- the state after a call, and the reply to it
 

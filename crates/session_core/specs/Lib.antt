@@ -22,3 +22,4 @@ pub mod TicketsOut
 pub mod Time
 pub mod Window
 pub mod Words
+pub mod Due

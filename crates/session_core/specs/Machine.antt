@@ -2,7 +2,7 @@
 use Rattle.std.specs.Prelude.{ℕ, zero, suc, ◌+◌, ◌-◌, ◌*◌, ◌==◌, ◌&&◌, Bool, false, not, nat_lt, nat_le, List, [], ◌∷◌, ◌++◌, map, length, slice_get, slice_set, Option, Some, None, unwrap_or, if◌then◌else◌}
 use Rattle.std.specs.List.{list_any}
 use Rattle.std.specs.Option.{option_map, option_or}
-use Rattle.bosh_types.specs.Limits.{journal_bytes, most_waiting, waiting_bytes}
+use Rattle.bosh_types.specs.Limits.{most_waiting, waiting_bytes}
 use Rattle.bosh_types.specs.Rid.{greatest_rid}
 use Rattle.bosh_types.specs.declared.condition.Condition.{Condition}
 use Rattle.bosh_types.specs.declared.condition.Condition.TheVariants.{ItemNotFound, UndefinedCondition}
@@ -11,7 +11,6 @@ use Rattle.bosh_types.specs.declared.ending.Ending.{Ending}
 use Rattle.bosh_types.specs.declared.ending.Ending.TheVariants.{Terminated, Stale, Above, JournalFull}
 use Rattle.bosh_types.specs.declared.inward.Inward.{Inward}
 use Rattle.bosh_types.specs.declared.kept.KeptAnswer.{KeptAnswer}
-use Rattle.bosh_types.specs.declared.terms.Terms.{Terms}
 use Rattle.body_writer.specs.declared.answer.AnswerKind.TheVariants.{Usual}
 use Rattle.body_writer.specs.declared.answer.AnswerParts.{AnswerParts}
 use Rattle.body_writer.specs.Answer.{answer_text}
@@ -21,6 +20,7 @@ use Rattle.session_attrs.specs.declared.request.Request.{Request}
 use Rattle.ack_report.specs.Report.{after_request, keep_after}
 use Rattle.key_sequence.specs.Current.{current_after}
 use Rattle.session_core.specs.declared.copy.RequestCopy.{RequestCopy}
+use Rattle.session_core.specs.declared.opening.Opening.{Opening}
 use Rattle.session_core.specs.declared.outward.Outward.{Outward}
 use Rattle.session_core.specs.declared.outward.Outward.TheVariants.{Stanza, Close}
 use Rattle.session_core.specs.declared.place.Place.{Place}
@@ -57,7 +57,7 @@ plain_cost = 64
 
 -- the journal has no room for an entry of this cost
 abbrev pub is_full : PlainSession → ℕ → Bool
-is_full s cost = nat_lt journal_bytes (s.counted + cost)
+is_full s cost = nat_lt s.limit (s.counted + cost)
 
 -- nothing else is applied then, and the moment stays
 abbrev pub full_with : ℕ → PlainSession → PlainSession
@@ -72,16 +72,6 @@ abbrev pub asks_ack : Kind → Bool
 asks_ack (kinds.Creation creation) = creation.asks_ack
 asks_ack (kinds.Later sid) = false
 
--- what a creation, and the server's side of it, begin with
-pub record Opening : Type 0 where
-  pub request : Request
-  pub body : List ℕ
-  pub terms : Terms
-  pub sid : List ℕ
-  pub host : List ℕ
-  pub greeting : List (List ℕ)
-  pub now : ℕ
-
 -- the creation's answer takes the whole greeting, and always carries `ack`
 abbrev pub created_parts : Opening → AnswerParts
 created_parts o = record {
@@ -94,14 +84,14 @@ created_parts o = record {
 }
 
 abbrev pub creation_of : Opening → RequestCopy
-creation_of o = record { request = o.request; body = o.body; arrived = o.now }
+creation_of o = record { request = o.request; body = o.body; arrived = o.at }
 
 abbrev pub greeting_of : Opening → List Outward
 greeting_of o = map (Stanza unnamed) o.greeting
 
 abbrev pub first_answer : Opening → Answered
 first_answer o =
-    record { rid = o.request.rid; bytes = answer_text (created_parts o); moment = o.now; front = OfStanzas (greeting_of o) }
+    record { rid = o.request.rid; bytes = answer_text (created_parts o); moment = o.at; front = OfStanzas (greeting_of o) }
 
 abbrev pub opened : Opening → PlainSession
 opened o = record {
@@ -117,10 +107,11 @@ opened o = record {
   reporting = record { on = asks_ack o.request.kind; due = None };
   given = greeting_of o;
   tickets = [];
-  now = o.now;
-  last_arrival = o.now;
+  now = o.at;
+  last_arrival = o.at;
   passed = 0;
   counted = body_cost o.request o.body;
+  limit = o.limit;
   ending = None;
 }
 

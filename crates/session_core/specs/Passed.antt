@@ -2,7 +2,7 @@
 use Rattle.std.specs.Prelude.{ℕ, ◌==◌, Bool, List, [], ◌∷◌, ◌++◌, map, take, sum_by, filter, Option, Some, None}
 use Rattle.std.specs.List.{filter_map}
 use Rattle.bosh_types.specs.declared.inward.Inward.{Inward}
-use Rattle.bosh_types.specs.declared.inward.Inward.TheVariants.{Item, Restart}
+use Rattle.bosh_types.specs.declared.inward.Inward.TheVariants as inwards
 use Rattle.session_core.specs.declared.replies.Taken.{Taken}
 use Rattle.session_core.specs.declared.replies.Taken.TheVariants as takings
 use Rattle.session_core.specs.Copy.{unnamed}
@@ -16,8 +16,10 @@ use Rattle.session_core.specs.Run.{run_of}
 use Rattle.session_core.specs.State.{PlainSession, Answered, items_of_all}
 
 abbrev pub stream_of : Inward → ℕ
-stream_of (Item stream stanza) = stream
-stream_of (Restart stream) = stream
+stream_of (inwards.Item stream stanza) = stream
+stream_of (inwards.Restart stream) = stream
+stream_of (inwards.Open stream to) = stream
+stream_of (inwards.Close stream) = stream
 
 -- what goes inward on a stream: the items of the run's copies, those of the creation first
 abbrev pub inward_of : Journal → ℕ → List Inward

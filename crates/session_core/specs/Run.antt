@@ -5,7 +5,8 @@ use Rattle.key_sequence.specs.Current.{current_after}
 use Rattle.session_core.specs.declared.copy.RequestCopy.{RequestCopy}
 use Rattle.session_core.specs.Copy.{id_of}
 use Rattle.session_core.specs.Journal.{Arrive, Collect, Back, BackClosed, Tick, TakeInward, Entered, Made, Limit, Entry, Journal, after_entries, state_of}
-use Rattle.session_core.specs.Machine.{Opening, opened, creation_of}
+use Rattle.session_core.specs.Machine.{opened, creation_of}
+use Rattle.session_core.specs.declared.opening.Opening.{Opening}
 use Rattle.session_core.specs.Points.{tested_at}
 use Rattle.session_core.specs.State.{PlainSession, run, is_over}
 
@@ -40,7 +41,7 @@ run_of journal = run (state_of journal)
 
 -- everything that arrived, in that order: the creation, and each copy after it
 abbrev pub arrivals_with : Opening → List Entry → List RequestCopy
-arrivals_with o entries = creation_of o ∷ arrivals_from o.now entries
+arrivals_with o entries = creation_of o ∷ arrivals_from o.at entries
 
 abbrev pub arrivals_of : Journal → List RequestCopy
 arrivals_of journal = arrivals_with journal.opening journal.entries

@@ -33,6 +33,7 @@ pub record Alike : Type 0 where
   pub now : ℕ
   pub last_arrival : ℕ
   pub counted : ℕ
+  pub limit : ℕ
   pub ending : Option Ending
 
 abbrev pub alike_of : Session → Alike
@@ -43,6 +44,7 @@ alike_of s = record {
   now = s.moment;
   last_arrival = s.last_arrival;
   counted = s.counted;
+  limit = s.limit;
   ending = s.ending;
 }
 
@@ -54,6 +56,7 @@ alike_in s = record {
   now = s.now;
   last_arrival = s.last_arrival;
   counted = s.counted;
+  limit = s.limit;
   ending = s.ending;
 }
 

@@ -53,6 +53,8 @@ pub record PlainSession : Type 0 where
   -- how many inward items were passed on, and the counted bytes of the journal
   pub passed : ℕ
   pub counted : ℕ
+  -- how many counted bytes the journal may have
+  pub limit : ℕ
   pub ending : Option Ending
 
 -- the last of x and these

@@ -18,7 +18,7 @@ use crate::copy::{RequestCopy, SharedCopy, copied_request};
 use crate::replies::Arrived;
 use crate::session::Session;
 use crate::words::LastWord;
-use bosh_types::{Condition, Ending, Moment, Rid, Text, Ticket};
+use bosh_types::{Condition, Ending, Moment, Rid, SharedText, Ticket};
 use rid_window::Placed;
 use session_attrs::Request;
 use std::alloc::{AllocError, Global};
@@ -33,7 +33,7 @@ impl Session {
         &mut self,
         alloc: Global,
         request: &Request,
-        body: &[u8],
+        body: &SharedText,
         now: Moment,
     ) -> Result<Arrived, AllocError>
         requires { IsAllowed (Arrive request.now body.now now) }
@@ -56,7 +56,7 @@ impl Session {
         &mut self,
         alloc: Global,
         request: &Request,
-        body: &[u8],
+        body: &SharedText,
         now: Moment,
     ) -> Result<Arrived, AllocError>
         requires { IsModest request.now body.now }
@@ -84,7 +84,7 @@ impl Session {
         &mut self,
         alloc: Global,
         request: &Request,
-        body: &[u8],
+        body: &SharedText,
     ) -> Result<Arrived, AllocError>
         requires { IsModest request.now body.now }
         ensures { (plain : PlainSession) → StandsFor self.old plain
@@ -151,7 +151,7 @@ impl Session {
         &mut self,
         alloc: Global,
         request: &Request,
-        body: &[u8],
+        body: &SharedText,
     ) -> Result<Arrived, AllocError>
         requires { IsModest request.now body.now }
         ensures { (plain : PlainSession) → StandsFor self.old plain → is_over plain ≡ false → last_of plain < request.now.rid
@@ -162,7 +162,7 @@ impl Session {
         let _value = rid.value();
         let copy = RequestCopy {
             request: copied_request(alloc, request)?,
-            body: Text::from_vec(Vec::from_slice(alloc, body)?),
+            body: body.again()?,
             arrived: self.moment,
         };
         let extra = copy.is_extra();
@@ -237,7 +237,7 @@ impl Session {
 }
 
 // What an arriving body adds to the counted bytes of the journal.
-pub(crate) fn cost_of_body(request: &Request, body: &[u8]) -> u64
+pub(crate) fn cost_of_body(request: &Request, body: &SharedText) -> u64
     requires { IsModest request.now body.now }
     ensures { result ≡ body_cost request.now body.now }
 {

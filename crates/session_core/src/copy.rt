@@ -3,7 +3,7 @@ ghost use Rattle.session_core.specs.Copy.{is_empty, is_extra, is_pause};
 ghost use Rattle.session_core.specs.Rules.{mark_of};
 
 use body_cutter::Spans;
-use bosh_types::{CopyIn, Moment, Text};
+use bosh_types::{CopyIn, Moment, SharedText};
 use pause_rules::Mark;
 use session_attrs::{Kind, Request};
 use std::alloc::{AllocError, Global};
@@ -15,8 +15,8 @@ use std::sync::Arc;
 pub struct RequestCopy {
     /// What its body says.
     pub request: Request,
-    /// The body's bytes.
-    pub body: Text,
+    /// The body's bytes, which may be held in several places.
+    pub body: SharedText,
     /// When it arrived.
     pub arrived: Moment,
 }
@@ -99,8 +99,8 @@ impl CopyIn for SharedCopy {
     }
 }
 
-/// A request that says the same.
-pub(crate) fn copied_request(alloc: Global, request: &Request) -> Result<Request, AllocError>
+/// A second request, equal to the first. The only error is want of memory.
+pub fn copied_request(alloc: Global, request: &Request) -> Result<Request, AllocError>
     ensures { IfOk result (λ copy. copy ≡ request.now) }
 {
     Ok(Request {

@@ -37,6 +37,7 @@ impl Session {
             moment: self.moment,
             last_arrival: self.last_arrival,
             counted: self.counted,
+            limit: self.limit,
             ending: self.ending,
         })
     }

@@ -1,13 +1,11 @@
 // The limit of a session's journal: each entry of it adds its cost to the counted bytes.
 ghost use Rattle.std.specs.Prelude.{◌≡◌, ◌+◌, OnOk, false, nat_lt};
-ghost use Rattle.bosh_types.specs.Limits.{journal_bytes};
 ghost use Rattle.session_core.specs.Machine.{full_with, is_full, with_cost};
 ghost use Rattle.session_core.specs.StandsFor.{StandsFor};
 ghost use Rattle.session_core.specs.State.{PlainSession, is_over};
 ghost use Rattle.session_core.specs.Time.{time_applied};
 
 use crate::session::Session;
-use bosh_types::limits::JOURNAL_BYTES;
 use bosh_types::{Ending, Moment};
 use std::alloc::{AllocError, Global};
 
@@ -20,7 +18,7 @@ impl Session {
     pub(crate) fn is_full(&self, cost: u64) -> bool
         ensures { (plain : PlainSession) → StandsFor self.now plain → result ≡ is_full plain cost }
     {
-        passes_limit(self.counted, cost)
+        passes_limit(self.limit, self.counted, cost)
     }
 
     /// The session ends, since its journal has no room for an entry of this cost. Nothing else is applied.
@@ -48,20 +46,23 @@ impl Session {
         ensures { (plain : PlainSession) → StandsFor self.old plain → is_full plain cost ≡ false
             → StandsFor self.new (with_cost cost plain) }
     {
-        self.counted = sum_of(self.counted, cost);
+        self.counted = sum_within(self.limit, self.counted, cost);
     }
 }
 
-// The sum of both, where that isn't beyond the limit.
-fn sum_of(counted: u64, cost: u64) -> u64
-    ensures { nat_lt journal_bytes (counted + cost) ≡ false → result ≡ counted + cost }
+// The sum of both, which is at most the limit.
+fn sum_within(limit: u64, counted: u64, cost: u64) -> u64
+    ensures { nat_lt limit (counted + cost) ≡ false → result ≡ counted + cost }
 {
-    counted.saturating_add(cost)
+    counted.saturating_add(cost).min(limit)
 }
 
 // Whether this cost leads beyond the limit.
-fn passes_limit(counted: u64, cost: u64) -> bool
-    ensures { result ≡ nat_lt journal_bytes (counted + cost) }
+fn passes_limit(limit: u64, counted: u64, cost: u64) -> bool
+    ensures { result ≡ nat_lt limit (counted + cost) }
 {
-    counted.saturating_add(cost) > JOURNAL_BYTES
+    match counted.checked_add(cost) {
+        Some(sum) => sum > limit,
+        None => true,
+    }
 }

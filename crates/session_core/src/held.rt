@@ -1,6 +1,7 @@
 ghost use Rattle.std.specs.Prelude.{◌≡◌, IfOk, OnOk, OnErr, [], ◌∷◌, ◌++◌, drop, length, slice_get};
 ghost use Rattle.std.specs.List.{list_any};
-ghost use Rattle.pause_rules.specs.Due.{is_wait_due};
+ghost use Rattle.pause_rules.specs.Due.{IsFirstMoment, is_wait_due};
+ghost use Rattle.session_core.specs.Due.{earlier};
 
 use bosh_types::{CopyIn, Moment, Rid, copy_queue};
 use pause_rules::Deadlines;
@@ -74,6 +75,18 @@ impl HeldRequests {
             .any(|request| deadlines.wait_due(request.arrived, now))
     }
 
+    /// The first moment at which one of them has waited its time: `None` exactly where no moment of 64 bits is so late.
+    pub fn first_wait_due(&self, deadlines: &Deadlines) -> Option<Moment>
+        ensures { IsFirstMoment (λ now. list_any (λ held. is_wait_due deadlines.now.terms held.arrived now) self.now) result }
+    {
+        let mut first = None;
+        for index in 0..self.requests.len() {
+            let due = deadlines.wait_due_at(self.requests[index].arrived);
+            first = earlier_of(first, due);
+        }
+        first
+    }
+
     /// Whether one of them is a pause.
     pub fn any_pause(&self) -> bool
         ensures { result ≡ list_any (λ held. held.pause) self.now }
@@ -106,4 +119,14 @@ impl HeldRequests {
             requests: copy_queue(alloc, &self.requests)?,
         })
     }
+}
+
+// The earlier of two moments, where there are any.
+fn earlier_of(one: Option<Moment>, other: Option<Moment>) -> Option<Moment>
+    ensures { result ≡ earlier one other }
+{
+    let (Some(first), Some(second)) = (one, other) else {
+        return one.or(other);
+    };
+    Some(first.min(second))
 }

@@ -27,10 +27,11 @@ mod timing;
 mod words;
 mod written;
 
-pub use copy::RequestCopy;
+pub use copy::{RequestCopy, copied_request};
 pub use held::{HeldRequest, HeldRequests};
 pub use inbox::Inbox;
 pub use laws::written_requests_read_back;
+pub use opening::Opening;
 pub use outbox::Outbox;
 pub use outward::{Front, Outward};
 pub use place::Place;

@@ -1,7 +1,6 @@
 // A session begins with the request that creates it (XEP-0124, section 7).
 ghost use Rattle.std.specs.Prelude.{◌≡◌, ℕ, ◌∷◌, ◌≤◌, [], IfOk, List, None, Some};
 ghost use Rattle.body_writer.specs.Answer.{answer_text};
-ghost use Rattle.body_writer.specs.declared.answer.AnswerKind.TheVariants.{Usual};
 ghost use Rattle.reply_keep.specs.StandsFor as keeps;
 ghost use Rattle.rid_window.specs.PlainWindow.{id_after};
 ghost use Rattle.rid_window.specs.StandsFor as windows;
@@ -9,7 +8,6 @@ ghost use Rattle.session_core.specs.Arriving.{IsModest};
 ghost use Rattle.session_core.specs.Journal.{IsOpening};
 ghost use Rattle.session_core.specs.Kept.{kept_answer};
 ghost use Rattle.session_core.specs.Machine.{asks_ack, created_parts, first_answer, opened};
-ghost use Rattle.session_core.specs.Opened.{opening_of};
 ghost use Rattle.session_core.specs.StandsFor.{StandsFor};
 
 use crate::arriving::cost_of_body;
@@ -30,65 +28,61 @@ use rid_window::Window;
 use session_attrs::{Kind, Request};
 use std::alloc::{AllocError, Global};
 
+/// What opens a session: the request that creates it and what the manager has for it (XEP-0124, section 7).
+#[derive(Debug, Drop)]
+pub struct Opening {
+    /// The request, which is the one that the body gives.
+    pub request: Request,
+    pub body: SharedText,
+    /// The terms, which are those that the request's creation leads to.
+    pub terms: Terms,
+    /// The name of the session: 1 to 64 bytes.
+    pub sid: Text,
+    /// The host that it is for: 1 to 1,023 bytes.
+    pub host: SharedText,
+    /// The stanzas that greet the client: 1,024 at most, of 1,000,000 bytes together.
+    pub greeting: Stanzas,
+    /// When the request came.
+    pub at: Moment,
+    /// How many counted bytes the journal of the session may have. The call whose entry would pass it ends the session.
+    pub limit: u64,
+}
+
 impl Session {
-    /// Opens a session for the request that creates it, under the name `sid` and with the host's greeting, and gives the
-    /// body that answers it (XEP-0124, section 7; XEP-0206): with the terms, the whole greeting, and an `ack`.
-    /// The only error is want of memory.
-    pub fn open(
-        alloc: Global,
-        request: &Request,
-        body: &[u8],
-        terms: Terms,
-        sid: &[u8],
-        host: &[u8],
-        greeting: &Stanzas,
-        now: Moment,
-    ) -> Result<(Session, SharedText), AllocError>
-        requires { IsOpening (opening_of request.now body.now terms sid.now host.now greeting.now now) }
-        ensures session { IfOk result (λ made. StandsFor made.0 (opened (opening_of request.now body.now terms sid.now host.now greeting.now now))) }
-        ensures text { IfOk result (λ made. made.1 ≡ answer_text (created_parts (opening_of request.now body.now terms sid.now host.now greeting.now now))) }
+    /// Opens a session and gives the body that answers its creation (XEP-0124, section 7; XEP-0206): with the terms, the
+    /// whole greeting, and an `ack`. The only error is want of memory.
+    pub fn open(alloc: Global, opening: &Opening) -> Result<(Session, SharedText), AllocError>
+        requires { IsOpening opening.now }
+        ensures session { IfOk result (λ made. StandsFor made.0 (opened opening.now)) }
+        ensures text { IfOk result (λ made. made.1 ≡ answer_text (created_parts opening.now)) }
     {
-        let text = first_text(alloc, request.rid, terms, sid, host, greeting)?;
+        let text = first_text(alloc, opening)?;
         let answer = KeptAnswer {
             bytes: text.again()?,
-            given: now,
-            payloads: greeting.len() as u32,
+            given: opening.at,
+            payloads: opening.greeting.len() as u32,
         };
-        let session = first_session(alloc, request, body, terms, answer, now)?;
+        let session = first_session(alloc, opening, answer)?;
         Ok((session, text))
     }
 }
 
 // The answer to a creation.
-fn first_text(
-    alloc: Global,
-    rid: Rid,
-    terms: Terms,
-    sid: &[u8],
-    host: &[u8],
-    greeting: &Stanzas,
-) -> Result<SharedText, AllocError>
-    ensures { IfOk result (λ text. text ≡ answer_text (record {
-      created = Some (record { sid = sid.now; terms = terms; from = host.now });
-      kind = Usual;
-      condition = None;
-      ack = Some rid;
-      report = None;
-      payloads = greeting.now;
-    })) }
+fn first_text(alloc: Global, opening: &Opening) -> Result<SharedText, AllocError>
+    ensures { IfOk result (λ text. text ≡ answer_text (created_parts opening.now)) }
 {
     let created = Created {
-        sid: Text::from_vec(Vec::from_slice(alloc, sid)?),
-        terms,
-        from: Text::from_vec(Vec::from_slice(alloc, host)?),
+        sid: opening.sid.copy_in(alloc)?,
+        terms: opening.terms,
+        from: Text::from_vec(Vec::from_slice(alloc, opening.host.as_slice())?),
     };
     let parts = AnswerParts {
         created: Some(created),
         kind: AnswerKind::Usual,
         condition: None,
-        ack: Some(rid),
+        ack: Some(opening.request.rid),
         report: None,
-        payloads: Stanzas::from_vec(copy_items(alloc, greeting.as_slice())?),
+        payloads: Stanzas::from_vec(copy_items(alloc, opening.greeting.as_slice())?),
     };
     SharedText::new(alloc, write_answer(alloc, &parts)?)
 }
@@ -97,26 +91,25 @@ fn first_text(
 #[tactic(auto, unfolding(crate::specs::StandsFor::StandsFor))]
 fn first_session(
     alloc: Global,
-    request: &Request,
-    body: &[u8],
-    terms: Terms,
+    opening: &Opening,
     answer: KeptAnswer,
-    now: Moment,
 ) -> Result<Session, AllocError>
-    requires modest { IsModest request.now body.now }
-    requires some { 1 ≤ terms.requests }
-    requires few { terms.requests ≤ 5 }
-    ensures { (sid host : List ℕ) (greeting : List (List ℕ))
-        → answer ≡ (kept_answer (first_answer (opening_of request.now body.now terms sid host greeting now))).1
-        → IfOk result (λ session. StandsFor session (opened (opening_of request.now body.now terms sid host greeting now))) }
+    requires modest { IsModest opening.now.request opening.now.body }
+    requires some { 1 ≤ opening.now.terms.requests }
+    requires few { opening.now.terms.requests ≤ 5 }
+    ensures { answer ≡ (kept_answer (first_answer opening.now)).1
+        → IfOk result (λ session. StandsFor session (opened opening.now)) }
 {
+    let request = &opening.request;
+    let terms = opening.terms;
+    let now = opening.at;
     let rid = request.rid;
     let newkey = request.newkey.copy_in(alloc)?;
     let acks = Acks::new(asks_ack(&request.kind));
     let last_bare = answer.payloads == 0;
     let copy = RequestCopy {
         request: copied_request(alloc, request)?,
-        body: Text::from_vec(Vec::from_slice(alloc, body)?),
+        body: opening.body.again()?,
         arrived: now,
     };
     let latest = Mark {
@@ -146,7 +139,8 @@ fn first_session(
         tickets: Tickets::new(alloc),
         moment: now,
         last_arrival: now,
-        counted: cost_of_body(request, body),
+        counted: cost_of_body(request, &opening.body),
+        limit: opening.limit,
         ending: None,
     })
 }

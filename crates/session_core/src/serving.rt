@@ -9,7 +9,7 @@ ghost use Rattle.session_core.specs.Steps.{Does};
 use crate::counting::PLAIN_COST;
 use crate::replies::Taken;
 use crate::session::Session;
-use bosh_types::{Closing, Moment, SharedText, StreamNo, Text};
+use bosh_types::{Closing, Moment, SharedText, StreamNo};
 use std::alloc::{AllocError, Global};
 
 impl Session {
@@ -22,7 +22,7 @@ impl Session {
         &mut self,
         alloc: Global,
         stream: StreamNo,
-        stanza: &[u8],
+        stanza: &SharedText,
         now: Moment,
     ) -> Result<Taken, AllocError>
         requires { IsTrue (is_stanza stanza.now) }
@@ -67,7 +67,7 @@ impl Session {
         &mut self,
         alloc: Global,
         stream: StreamNo,
-        stanza: &[u8],
+        stanza: &SharedText,
         now: Moment,
     ) -> Result<Taken, AllocError>
         ensures { (plain : PlainSession) → StandsFor self.old plain → is_over plain ≡ false
@@ -106,7 +106,7 @@ impl Session {
         &mut self,
         alloc: Global,
         stream: StreamNo,
-        stanza: &[u8],
+        stanza: &SharedText,
     ) -> Result<Taken, AllocError>
         ensures { (plain : PlainSession) → StandsFor self.old plain
             → IfOk result (λ reply. Does self.new reply (back_in_time plain stream stanza.now)) }
@@ -117,8 +117,7 @@ impl Session {
         if !self.outbox.has_room(stanza.len()) {
             return Ok(Taken::Full);
         }
-        let text = SharedText::new(alloc, Text::from_vec(Vec::from_slice(alloc, stanza)?))?;
-        self.outbox.push_stanza(stream, text)?;
+        self.outbox.push_stanza(stream, stanza.again()?)?;
         self.settle(alloc)?;
         Ok(Taken::Done)
     }
@@ -152,8 +151,9 @@ impl Session {
 }
 
 // What a stanza adds to the counted bytes of the journal.
-fn cost_of(stanza: &[u8]) -> u64
+fn cost_of(stanza: &SharedText) -> u64
     ensures { result ≡ stanza_cost stanza.now }
 {
-    PLAIN_COST + stanza.len() as u64
+    let bytes = stanza.as_slice();
+    PLAIN_COST + bytes.len() as u64
 }

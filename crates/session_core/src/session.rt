@@ -38,7 +38,8 @@ pub struct Session {
     // The greatest moment so far, and that of the last arrival.
     pub(crate) moment: Moment,
     pub(crate) last_arrival: Moment,
-    // The counted bytes of its journal.
+    // The counted bytes of its journal, and how many it may have.
     pub(crate) counted: u64,
+    pub(crate) limit: u64,
     pub(crate) ending: Option<Ending>,
 }

@@ -1,5 +1,6 @@
 // Time passes (XEP-0124, sections 7.1 and 10).
 ghost use Rattle.std.specs.Prelude.{◌≡◌, IfOk, OnErr, OnOk, false, if◌then◌else◌};
+ghost use Rattle.pause_rules.specs.Due.{IsFirstMoment};
 ghost use Rattle.session_core.specs.Machine.{full_with, is_full, plain_cost, tick, with_cost};
 ghost use Rattle.session_core.specs.StandsFor.{StandsFor};
 ghost use Rattle.session_core.specs.State.{PlainSession, is_over};
@@ -30,6 +31,26 @@ impl Session {
         draft.pass_time(alloc, now)?;
         *self = draft;
         Ok(Ticked::Changed)
+    }
+
+    /// The first moment at which time has something to do: a tick at an earlier one is `Quiet`. `None` exactly where that is so
+    /// of every moment of 64 bits, as after the ending. A session for which something is due at its own moment answers 0; none is
+    /// so that calls made, since each call does what is due.
+    #[tactic(auto, unfolding(crate::specs::StandsFor::StandsFor))]
+    pub fn due(&self) -> Option<Moment>
+        ensures { (plain : PlainSession) → StandsFor self.now plain → IsFirstMoment (is_due plain) result }
+    {
+        let start = Moment::from_millis(0);
+        if self.is_due(start) {
+            return Some(start);
+        }
+        if self.ending.is_some() {
+            return None;
+        }
+        match self.held.oldest() {
+            Some(_) => self.held.first_wait_due(&self.deadlines),
+            None => self.deadlines.silent_due_at(self.quiet()),
+        }
     }
 
     // At this moment time has something to do.

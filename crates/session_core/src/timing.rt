@@ -59,9 +59,9 @@ impl Session {
         self.held.len() == 0 && self.deadlines.silent_due(self.quiet(), moment)
     }
 
-    // Since when it has been quiet: since the last answer, and while copies stand beyond a gap, since the last arrival.
+    /// Since when it has been quiet: since the last answer, and while copies stand beyond a gap, since the last arrival.
     #[tactic(auto, unfolding(crate::specs::StandsFor::StandsFor))]
-    fn quiet(&self) -> Moment
+    pub(crate) fn quiet(&self) -> Moment
         ensures { (plain : PlainSession) → StandsFor self.now plain → result ≡ quiet_of plain }
     {
         if self.window.is_clear() {

@@ -7,7 +7,8 @@ use Rattle.reply_keep.specs.PlainKeep.{PlainKeep, last_id, last_after}
 use Rattle.session_core.specs.declared.copy.RequestCopy.{RequestCopy}
 use Rattle.session_core.specs.Journal.{Entry, Journal}
 use Rattle.session_core.specs.Kept.{kept_answer}
-use Rattle.session_core.specs.Machine.{Opening, creation_of}
+use Rattle.session_core.specs.Machine.{creation_of}
+use Rattle.session_core.specs.declared.opening.Opening.{Opening}
 use Rattle.session_core.specs.Run.{moment_after, arrival_in, arrivals_from, arrivals_with, HasNot, Completes, state_testing}
 use Rattle.session_laws.proofs.Tests.{true_false}
 use Rattle.session_laws.specs.RunEnded.{BreaksNoRule}
@@ -49,8 +50,8 @@ arrivals-append moment (entry ∷ past) later =
 -- what had not arrived with an entry had not before
 pub not_earlier : (o : Opening) (b : List Entry) (e : Entry) (m b' : List Entry) (rid : ℕ) → b' ≡ b ++ e ∷ m → HasNot (arrivals_with o b') rid → HasNot (arrivals_with o (b ++ e ∷ [])) rid
 not_earlier o b e m b' rid is none =
-    let all : arrivals_with o b' ≡ arrivals_with o (b ++ e ∷ []) ++ arrivals_from (moment_of o.now (b ++ e ∷ [])) m =
-    ap (arrivals_with o) (is ∙ sym (append_assoc b (e ∷ []) m)) ∙ ap (λ l. creation_of o ∷ l) (arrivals-append o.now (b ++ e ∷ []) m) in
+    let all : arrivals_with o b' ≡ arrivals_with o (b ++ e ∷ []) ++ arrivals_from (moment_of o.at (b ++ e ∷ [])) m =
+    ap (arrivals_with o) (is ∙ sym (append_assoc b (e ∷ []) m)) ∙ ap (λ l. creation_of o ∷ l) (arrivals-append o.at (b ++ e ∷ []) m) in
     has_not_before (arrivals_with o (b ++ e ∷ [])) _ rid (subst (λ l. HasNot l rid) all none)
 
 pub complete_one : (o : Opening) (entries : List Entry) (lower : List RequestCopy) (b : List Entry) (e : Entry) (a : List Entry) (b' : List Entry) (e' : Entry) (a' : List Entry) → entries ≡ b ++ e ∷ a → entries ≡ b' ++ e' ∷ a'

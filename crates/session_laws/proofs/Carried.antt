@@ -41,7 +41,7 @@ reads_from moment (more {s = u} call {entry} {entries} allowed is rest) =
 -- whatever arrived is read from its body
 pub all_read : (journal : Journal) → IsJournal journal → All (λ (copy : RequestCopy). IsReadFrom copy.body copy.request) (arrivals_of journal)
 unfolding IsRead
-all_read journal made = All-cons IsRead (creation_of journal.opening) (arrivals_from journal.opening.now journal.entries) (made.0).read (reads_from journal.opening.now made.1)
+all_read journal made = All-cons IsRead (creation_of journal.opening) (arrivals_from journal.opening.at journal.entries) (made.0).read (reads_from journal.opening.at made.1)
 
 pub all_first : (P : RequestCopy → Type 0) (arrivals : List RequestCopy) (rid : ℕ) (copy : RequestCopy) → All P arrivals → IsFirstCopy arrivals rid copy → P copy
 all_first P arrivals rid copy all first =

@@ -18,7 +18,8 @@ use Rattle.session_core.specs.Facts.{TookClosing}
 use Rattle.session_core.specs.Journal.{Call, Entered, Journal, IsJournal, IsAllowed, entered_by, after_entry, state_of}
 use Rattle.body_writer.specs.Answer.{answer_text}
 use Rattle.session_core.specs.declared.outward.Outward.{Outward}
-use Rattle.session_core.specs.Machine.{Opening, opened, greeting_of, with_copy, advanced, placed}
+use Rattle.session_core.specs.Machine.{opened, greeting_of, with_copy, advanced, placed}
+use Rattle.session_core.specs.declared.opening.Opening.{Opening}
 use Rattle.session_core.specs.Rules.{broken_rule, asked_of}
 use Rattle.session_core.specs.State.{PlainSession, Answered, Issued, last_from, last_of, last_answer, held, beyond, standing_at, is_over}
 use Rattle.session_core.specs.Time.{time_applied, at_moment, quiet_of, is_silent}

@@ -3,7 +3,6 @@ use Rattle.std.proofs.Common.{◌≡◌, ℕ, ◌+◌, ◌*◌, ◌<◌, ◌≤�
 use Rattle.std.specs.List.{list_any}
 use Rattle.std.proofs.lemmas.Bool.{ltb-true, leb-true, leb-false, eqb-true}
 use Rattle.std.proofs.lemmas.List.{nil_from_length}
-use Rattle.bosh_types.specs.Limits.{journal_bytes}
 use Rattle.bosh_types.specs.Rid.{greatest_rid}
 use Rattle.bosh_types.specs.declared.ending.Ending.{Ending}
 use Rattle.bosh_types.specs.declared.ending.Ending.TheVariants.{Terminated, Stale, Above, WrongKey, UnknownStream, PauseTooLong, Overactive, Silent, Closed, JournalFull}
@@ -173,7 +172,7 @@ ending_fact s call allowed entered is goes ends = entry-by s (λ e u. HasFact (t
       has_aside tested (Made (Tick now)) tested tested.given tested.tickets tested.passed (tested.counted + plain_cost) (time_fact tested (Made (Tick now)) s now on);
   collects = λ index ticket is ending ends_so. absurd (no_ending s ending goes ends_so);
   takes = λ item is ending ends_so. absurd (no_ending s ending goes ends_so);
-  limits = λ kind cost now on full. one_fact s (Limit kind cost now) (full_with cost s) (JournalFull s.counted cost) refl (refl, refl, ltb-true journal_bytes (s.counted + cost) full);
+  limits = λ kind cost now on full. one_fact s (Limit kind cost now) (full_with cost s) (JournalFull s.counted cost) refl (refl, refl, ltb-true s.limit (s.counted + cost) full);
 }) call allowed entered is
 
 -- Back: a fact has its ending.

@@ -16,7 +16,8 @@ use Rattle.session_core.specs.Answers.{settled}
 use Rattle.session_core.specs.Copy.{id_of, with_id, unnamed}
 use Rattle.session_core.specs.Outward.{is_close}
 use Rattle.session_core.specs.Journal.{Call, Back, BackClosed, Made, Entered, Entry, Journal, IsJournal, IsAllowed, entered_by, after_entry, state_of}
-use Rattle.session_core.specs.Machine.{Opening, opened, creation_of, advanced, placed, bytes_for, wait_at, copy_now, arrived_in_time, with_cost, body_cost, stanza_cost, plain_cost, takes_items, has_room, with_item}
+use Rattle.session_core.specs.Machine.{opened, creation_of, advanced, placed, bytes_for, wait_at, copy_now, arrived_in_time, with_cost, body_cost, stanza_cost, plain_cost, takes_items, has_room, with_item}
+use Rattle.session_core.specs.declared.opening.Opening.{Opening}
 use Rattle.session_core.specs.Run.{moment_after, arrival_in, arrivals_from, arrivals_with, arrivals_of, run_of, IsFirstCopy, IsRun, HasNot, IsLongestRun}
 use Rattle.session_core.specs.State.{PlainSession, run, first_of, last_of, answered_of, standing_at, is_over}
 use Rattle.session_core.specs.Time.{time_applied, at_moment, is_silent}
@@ -226,7 +227,7 @@ arrivals-push moment (first ∷ past) entry =
 pub record Tells (o : Opening) (past : List Entry) (s : PlainSession) : Type 0 where
   pub sound : IsSound s
   pub follows : IsFollowed (arrivals_with o past) s
-  pub now : s.now ≡ moment_of o.now past
+  pub now : s.now ≡ moment_of o.at past
 
 pub tells_more : (o : Opening) (past : List Entry) (s : PlainSession) (call : Call) (entry : Entry) → IsAllowed call → entered_by s call ≡ Some entry.entered → Tells o past s → Tells o (past ++ entry ∷ []) (after_entry s entry.entered)
 tells_more o past s call entry allowed is t =
@@ -234,8 +235,8 @@ tells_more o past s call entry allowed is t =
     record {
       sound = steady-entry IsSound sound_steady s call allowed entry.entered is t.sound;
       follows = subst (λ arrivals. IsFollowed arrivals (after_entry s entry.entered))
-          (ap (λ m. creation_of o ∷ (arrivals_from o.now past ++ arrival_in m entry.entered)) t.now ∙ ap (λ arrivals. creation_of o ∷ arrivals) (sym (arrivals-push o.now past entry))) a.follows;
-      now = a.now ∙ ap (λ m. moment_after m entry.entered) t.now ∙ sym (moment-push o.now past entry);
+          (ap (λ m. creation_of o ∷ (arrivals_from o.at past ++ arrival_in m entry.entered)) t.now ∙ ap (λ arrivals. creation_of o ∷ arrivals) (sym (arrivals-push o.at past entry))) a.follows;
+      now = a.now ∙ ap (λ m. moment_after m entry.entered) t.now ∙ sym (moment-push o.at past entry);
     }
 
 pub opened_tells : (o : Opening) → Tells o [] (opened o)
@@ -257,7 +258,7 @@ run_each : (journal : Journal) (s : PlainSession) → s.creation ≡ creation_of
 run_each journal s same t zero copy is =
     let here : creation_of journal.opening ≡ copy = sym same ∙ some_is s.creation copy is in
     let rid : journal.opening.request.rid ≡ journal.opening.request.rid + 0 = omega arith in
-    (ap id_of (sym here) ∙ rid, [], arrivals_from journal.opening.now journal.entries, ap (λ c. c ∷ arrivals_from journal.opening.now journal.entries) here, All-nil (λ (c : RequestCopy). id_of c ≢ journal.opening.request.rid + 0))
+    (ap id_of (sym here) ∙ rid, [], arrivals_from journal.opening.at journal.entries, ap (λ c. c ∷ arrivals_from journal.opening.at journal.entries) here, All-nil (λ (c : RequestCopy). id_of c ≢ journal.opening.request.rid + 0))
 run_each journal s same t (suc k) copy is =
     let place : first_of s + 1 + k ≡ journal.opening.request.rid + suc k = omega (arith, ap id_of same) in
     subst (λ rid. IsFirstCopy (arrivals_of journal) rid copy) place (t.follows.each (first_of s + 1 + k) copy (t.sound.stand k copy is))

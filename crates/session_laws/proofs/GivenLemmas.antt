@@ -10,7 +10,8 @@ use Rattle.session_core.specs.declared.outward.Outward.{Outward}
 use Rattle.session_core.specs.declared.outward.Outward.TheVariants.{Stanza, Close}
 use Rattle.session_core.specs.Answers.{front_for, front_of, longest_front, fit_one_answer}
 use Rattle.session_core.specs.Copy.{is_pause}
-use Rattle.session_core.specs.Machine.{Opening, opened, greeting_of}
+use Rattle.session_core.specs.Machine.{opened, greeting_of}
+use Rattle.session_core.specs.declared.opening.Opening.{Opening}
 use Rattle.session_core.specs.Outward.{items_in}
 use Rattle.session_core.specs.State.{PlainSession, Answered, answers, taken_by_answers, waiting}
 use Rattle.session_core.specs.Passed.{items_taken}

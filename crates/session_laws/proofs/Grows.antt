@@ -30,6 +30,17 @@ module _ (s : PlainSession) where
     gives = λ t item p. p;
   }
 
+  -- how many counted bytes its journal may have
+  pub limit_stays : Steady (λ t. t.limit ≡ s.limit)
+  limit_stays = record {
+    ends = λ t ending on p. p;
+    aside = λ t tickets now last_arrival passed counted p. p;
+    answers = λ t oldest later front is on reason taken p. p;
+    processes = λ t copy on stands broken p. p;
+    stands = λ t copy above none small p. p;
+    gives = λ t item p. p;
+  }
+
   pub standing_grows : Steady (λ t. Begins s.standing t.standing)
   standing_grows = record {
     ends = λ t ending on p. p;

@@ -4,7 +4,7 @@ use Rattle.std.proofs.lemmas.List.{get_or_append_left}
 use Rattle.session_core.specs.declared.copy.RequestCopy.{RequestCopy}
 use Rattle.session_core.specs.Copy.{id_of}
 use Rattle.session_core.specs.Journal.{Entry, Journal}
-use Rattle.session_core.specs.Machine.{Opening}
+use Rattle.session_core.specs.declared.opening.Opening.{Opening}
 use Rattle.session_core.specs.Run.{HasNot}
 
 abbrev pub journal_with : Opening → List Entry → Journal

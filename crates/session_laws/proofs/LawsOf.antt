@@ -22,7 +22,7 @@ use Rattle.session_laws.proofs.Read.{read-rid}
 use Rattle.session_laws.proofs.ReplyLemmas.{Told, arrive_told, arrive_over, back_full, back_done, tick_quiet, closed_done, answer_ids}
 use Rattle.session_laws.specs.Tickets.{Tells}
 use Rattle.session_laws.proofs.Bytes.{IsFirstAnswer, first_answer_steady, bytes_stay}
-use Rattle.session_laws.proofs.Grows.{told_stays, steady-all, after_append, made_later}
+use Rattle.session_laws.proofs.Grows.{told_stays, steady-all, after_append, made_later, limit_stays}
 use Rattle.session_laws.proofs.Clear.{every_clear}
 use Rattle.session_laws.proofs.SoundLemmas.{IsSound, sound_steady}
 use Rattle.session_laws.proofs.Steadily.{steady-time}
@@ -121,6 +121,9 @@ every_quiet s now = (λ is. (tick_quiet s now).0 (to_tick (tick s now).1 Quiet i
 
 pub every_created : (journal : Journal) → IsJournal journal → (state_of journal).created ≡ first_answer journal.opening
 every_created journal made = (steady-all _ (told_stays (opened journal.opening)) (opened journal.opening) journal.entries made.1 (refl, refl, refl, refl)).2
+
+pub every_limit : (journal : Journal) → IsJournal journal → (state_of journal).limit ≡ journal.opening.limit
+every_limit journal made = steady-all _ (limit_stays (opened journal.opening)) (opened journal.opening) journal.entries made.1 refl
 
 pub every_answer_id : (journal : Journal) → IsJournal journal → (k : ℕ) (answer : Answered) → slice_get (answers (state_of journal)) k ≡ Some answer → answer.rid ≡ journal.opening.request.rid + k
 every_answer_id journal made k answer is =

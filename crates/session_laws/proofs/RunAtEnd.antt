@@ -21,7 +21,8 @@ use Rattle.session_core.specs.Copy.{id_of, is_extra}
 use Rattle.session_core.specs.Endings.{ended as ended_by}
 use Rattle.session_core.specs.Kept.{lowest_kept}
 use Rattle.session_core.specs.Journal.{Call, Arrive, Made, Entered, Entry, Journal, IsJournal, IsAllowed, IsOpening, entered_by, after_entry, after_entries, state_of}
-use Rattle.session_core.specs.Machine.{Opening, opened, creation_of, advanced, placed, bytes_for, wait_at, copy_now, arrived_in_time, with_cost, body_cost, stanza_cost, plain_cost, takes_items, has_room, with_item, full_with}
+use Rattle.session_core.specs.Machine.{opened, creation_of, advanced, placed, bytes_for, wait_at, copy_now, arrived_in_time, with_cost, body_cost, stanza_cost, plain_cost, takes_items, has_room, with_item, full_with}
+use Rattle.session_core.specs.declared.opening.Opening.{Opening}
 use Rattle.session_core.specs.Run.{arrival_in, arrivals_with, arrivals_of, IsRun, HasNot}
 use Rattle.session_laws.specs.RunEnded.{BreaksNoRule, GoesNoFurther, IsRunOfEnded}
 use Rattle.session_core.specs.State.{PlainSession, first_of, last_of, answered_of, standing_at, is_over}
@@ -83,12 +84,12 @@ module _ (o : Opening) (past : List Entry) (entry : Entry) (s : PlainSession) (s
       (next_not o (arrivals_with o past) s r.creation (r.tells).follows ((r.ends).1) on)
 
   -- nothing was processed, and nothing arrived
-  unprocessed : (e : Entered) (u : PlainSession) → entry.entered ≡ e → arrival_in (moment_of o.now past) e ≡ [] → AsFar u → is_over s ≡ false → Ended u → Result u
+  unprocessed : (e : Entered) (u : PlainSession) → entry.entered ≡ e → arrival_in (moment_of o.at past) e ≡ [] → AsFar u → is_over s ≡ false → Ended u → Result u
   unprocessed e u is nothing far on ended =
       let processed : u.processed ≡ s.processed = far.0 in
       let none = not_past u processed on in
       let arrived : arrivals_with o (past ++ entry ∷ []) ≡ arrivals_with o past =
-      arrivals_more o past entry ∙ ap (λ x. arrivals_with o past ++ arrival_in (moment_of o.now past) x) is ∙ ap (λ l. arrivals_with o past ++ l) nothing ∙ append-nil (arrivals_with o past) in
+      arrivals_more o past entry ∙ ap (λ x. arrivals_with o past ++ arrival_in (moment_of o.at past) x) is ∙ ap (λ l. arrivals_with o past ++ l) nothing ∙ append-nil (arrivals_with o past) in
       (keeps_same u processed, (λ over. at_end o past entry s same e is on (ended over) u.processed none (λ goes. subst (λ l. HasNot l (o.request.rid + 1 + length u.processed)) (sym arrived) none)), acks_same u far)
 
   module _ (request : Request) (body : List ℕ) (now : ℕ) (is : entry.entered ≡ Made (Arrive request body now)) (on : is_over s ≡ false) (small : request.rid ≤ greatest_rid) where
@@ -121,7 +122,7 @@ module _ (o : Opening) (past : List Entry) (entry : Entry) (s : PlainSession) (s
 
     arrived : arrivals_with o (past ++ entry ∷ []) ≡ arrivals_with o past ++ copy ∷ []
     arrived =
-        arrivals_more o past entry ∙ ap (λ x. arrivals_with o past ++ arrival_in (moment_of o.now past) x) is
+        arrivals_more o past entry ∙ ap (λ x. arrivals_with o past ++ arrival_in (moment_of o.at past) x) is
         ∙ ap (λ m. arrivals_with o past ++ record { request = request; body = body; arrived = m } ∷ []) (ap (λ m. max m now) (sym (r.tells).now) ∙ sym (time_now s now))
 
     -- it ended with this arrival, whose id isn't the next one

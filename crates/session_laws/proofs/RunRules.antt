@@ -11,7 +11,8 @@ use Rattle.session_attrs.specs.declared.request.Request.{Request}
 use Rattle.session_core.specs.declared.copy.RequestCopy.{RequestCopy}
 use Rattle.session_core.specs.Copy.{id_of, with_id}
 use Rattle.session_core.specs.Journal.{Arrive, Made, Entered, Entry, Journal, after_entries}
-use Rattle.session_core.specs.Machine.{Opening, opened, creation_of, with_copy}
+use Rattle.session_core.specs.Machine.{opened, creation_of, with_copy}
+use Rattle.session_core.specs.declared.opening.Opening.{Opening}
 use Rattle.session_core.specs.Points.{tested_at}
 use Rattle.session_core.specs.Rules.{Asks, asked_with, asked_of, broken_rule, prior_mark}
 use Rattle.session_core.specs.Run.{arrival_in, arrivals_with, IsFirstCopy, HasNot, key_after, state_testing}
@@ -61,8 +62,8 @@ keeps_more o past entry later keeps = record {
   terminate = keeps.terminate;
 }
 
-pub arrivals_more : (o : Opening) (past : List Entry) (entry : Entry) → arrivals_with o (past ++ entry ∷ []) ≡ arrivals_with o past ++ arrival_in (moment_of o.now past) entry.entered
-arrivals_more o past entry = ap (λ arrivals. creation_of o ∷ arrivals) (arrivals-push o.now past entry)
+pub arrivals_more : (o : Opening) (past : List Entry) (entry : Entry) → arrivals_with o (past ++ entry ∷ []) ≡ arrivals_with o past ++ arrival_in (moment_of o.at past) entry.entered
+arrivals_more o past entry = ap (λ arrivals. creation_of o ∷ arrivals) (arrivals-push o.at past entry)
 
 pub stops_more : (o : Opening) (past : List Entry) (entry : Entry) (later : List RequestCopy) → GoesNoFurther (journal_with o past) later → GoesNoFurther (journal_with o (past ++ entry ∷ [])) later
 stops_more o past entry later (AtTerminate before copy same last) = AtTerminate before copy same last

@@ -6,7 +6,8 @@ use Rattle.bosh_types.specs.ById.{at_id}
 use Rattle.bosh_types.specs.Rid.{greatest_rid}
 use Rattle.session_core.specs.declared.copy.RequestCopy.{RequestCopy}
 use Rattle.session_core.specs.Copy.{id_of, with_id}
-use Rattle.session_core.specs.Machine.{Opening, opened}
+use Rattle.session_core.specs.Machine.{opened}
+use Rattle.session_core.specs.declared.opening.Opening.{Opening}
 use Rattle.session_core.specs.State.{PlainSession, Answered, first_of, last_of, standing_at, held}
 use Rattle.session_laws.proofs.Tests.{which}
 use Rattle.session_laws.proofs.Moves.{Steady}

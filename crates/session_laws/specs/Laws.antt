@@ -65,8 +65,9 @@ pub record KeptLaws (journal : Journal) : Type 0 where
         tickets = (after_entry (state_of journal) entered).tickets;
         passed = (after_entry (state_of journal) entered).passed;
       }
-  -- the counted bytes are those of the entries
+  -- the counted bytes are those of the entries, and how many there may be is what the opening says
   pub counts : (state_of journal).counted ≡ counted journal
+  pub limit : (state_of journal).limit ≡ journal.opening.limit
   -- what was passed on are the first items of what may go inward, as many as were taken, and what is taken is the next
   pub passed : take (state_of journal).passed (inward (state_of journal)) ≡ passed_of journal
   pub takes : reply_of journal TakeInward ≡ ToTakeInward (slice_get (inward (state_of journal)) (state_of journal).passed)

@@ -14,7 +14,8 @@ use Rattle.session_attrs.specs.Serving.{is_host_name, may_greet}
 use Rattle.session_attrs.specs.Terms.{terms_of}
 use Rattle.session_attrs.proofs.ServingLemmas.{host_text}
 use Rattle.session_core.specs.Journal.{IsOpening, IsReadFrom}
-use Rattle.session_core.specs.Machine.{Opening, created_parts}
+use Rattle.session_core.specs.Machine.{created_parts}
+use Rattle.session_core.specs.declared.opening.Opening.{Opening}
 use Rattle.session_core.specs.Opened.{opening_of}
 use Rattle.session_core.proofs.GreetingLemmas.{greeting_fits}
 use Rattle.session_journal.specs.declared.entry.Entry.{Entry}

@@ -12,7 +12,8 @@ use Rattle.session_core.specs.declared.replies.Ticked.{Ticked}
 use Rattle.session_core.specs.declared.replies.Ticked.TheVariants as ticks
 use Rattle.session_core.specs.Copy.{unnamed}
 use Rattle.session_core.specs.Journal.{Arrive, Back, BackClosed, Call, IsAllowed, IsJournal, IsOpening, Journal, Tick, ToBack, none as nothing_entered, state_of}
-use Rattle.session_core.specs.Machine.{Opening, arrive, back, created_parts, tick}
+use Rattle.session_core.specs.Machine.{arrive, back, created_parts, tick}
+use Rattle.session_core.specs.declared.opening.Opening.{Opening}
 use Rattle.session_core.specs.State.{PlainSession, inward, is_over}
 use Rattle.world_laws.specs.declared.told.Told.{Told}
 use Rattle.world_laws.specs.declared.told.Told.TheVariants as tells

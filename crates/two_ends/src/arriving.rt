@@ -1,19 +1,24 @@
 // A copy of a request comes.
 ghost use Rattle.std.specs.Prelude.{◌≡◌, ◌+◌, ◌<◌, ◌≤◌, ℕ, [], IfOk, IfSome, List, None, Some, length, slice_get};
 ghost use Rattle.session_attrs.specs.declared.request.Kind.TheVariants as kinds;
+ghost use Rattle.session_attrs.specs.Terms.{terms_of};
+ghost use Rattle.session_core.specs.Opened.{opening_of};
 ghost use Rattle.session_journal.specs.Entries.{request_in};
 ghost use Rattle.two_ends.specs.Copies.{creation_in};
 ghost use Rattle.two_ends.specs.Worlds.{IsPlain, IsPlainStep};
 ghost use Rattle.world_laws.specs.Manager.{opens};
-ghost use Rattle.world_laws.specs.Steps.{carried, carries, comes, opening, turns};
+ghost use Rattle.world_laws.specs.Steps.{carried, carries, comes, name, opening, turns};
 ghost use Rattle.world_laws.specs.World.{PlainWorld};
 
 use crate::manager::Manager;
 use crate::reading::request_in;
+use crate::site::Site;
 use crate::telling::see_all;
 use crate::world::{World, nothing, only};
-use bosh_types::{Rid, SharedText};
+use bosh_types::limits::JOURNAL_BYTES;
+use bosh_types::{CopyIn, Moment, Rid, SharedText, Stanzas, Text, copy_items};
 use session_attrs::{Creation, Kind, Request, negotiate};
+use session_core::{Opening, copied_request};
 use session_journal::Journalled;
 use std::alloc::{AllocError, Global};
 use world_laws::{Seen, SeenItem};
@@ -89,18 +94,8 @@ impl World {
         requires kind { request.now.kind ≡ kinds.Creation creation }
         ensures { IfOk result (λ seen. (w : PlainWorld) → IsPlain self.old w → IsPlainStep seen self.new (turns w [] (opens (opening w request.now body.now creation)))) }
     {
-        let site = &self.site;
-        let (session, answer) = Journalled::open(
-            alloc,
-            request,
-            body.as_slice(),
-            negotiate(&creation),
-            b"s1",
-            site.host.as_slice(),
-            &site.greeting,
-            self.moment,
-            0,
-        )?;
+        let opening = opening_of(alloc, &self.site, body, request, &creation, self.moment)?;
+        let (session, answer) = Journalled::open(alloc, opening, 0)?;
         let (manager, told) = Manager::open(alloc, session, request.rid, answer)?;
         self.manager = Some(manager);
         see_all(&mut self.written, Vec::new(alloc), told)
@@ -157,4 +152,31 @@ fn body_at(sent: &[SharedText], place: usize) -> &SharedText
     ensures { slice_get sent.now place ≡ Some result.now }
 {
     &sent[place]
+}
+
+// What opens the one session of a world.
+fn opening_of(
+    alloc: Global,
+    site: &Site,
+    body: &SharedText,
+    request: &Request,
+    creation: &Creation,
+    at: Moment,
+) -> Result<Opening, AllocError>
+    ensures { IfOk result (λ opening. opening ≡ opening_of request.now body.now (terms_of creation.now) name site.now.host site.now.greeting at) }
+{
+    let request = copied_request(alloc, request)?;
+    let sid = Vec::from_slice(alloc, b"s1")?;
+    let host = SharedText::new(alloc, site.host.copy_in(alloc)?)?;
+    let greeting = copy_items(alloc, site.greeting.as_slice())?;
+    Ok(Opening {
+        request,
+        body: body.again()?,
+        terms: negotiate(creation),
+        sid: Text::from_vec(sid),
+        host,
+        greeting: Stanzas::from_vec(greeting),
+        at,
+        limit: JOURNAL_BYTES,
+    })
 }

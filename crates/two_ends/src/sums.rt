@@ -128,7 +128,7 @@ fn is_inward_stanza(item: &Inward) -> bool
 {
     match item {
         Inward::Item(..) => true,
-        Inward::Restart(_) => false,
+        Inward::Restart(_) | Inward::Open(_, _) | Inward::Close(_) => false,
     }
 }
 

@@ -100,9 +100,9 @@ module _ (sent : List (ℕ × List ℕ)) (latest : ℕ) where
       by : (e : Option Entered) → entered_by (state_of j) call ≡ e → All (IsSent sent) (arrivals_of (with_entered j e))
       by None is = all
       by (Some entered) is =
-          let m = moment_of j.opening.now j.entries in
+          let m = moment_of j.opening.at j.entries in
           let came : All (IsSent sent) (arrival_in m entered) = entered_is (state_of j) (λ e. All (IsSent sent) (arrival_in m e)) (λ kind cost now. All-nil (IsSent sent)) call (brought m call brings) entered is in
-          subst (λ (copies : List RequestCopy). All (IsSent sent) copies) (sym (ap (λ (copies : List RequestCopy). creation_of j.opening ∷ copies) (arrivals-push j.opening.now j.entries (told_by entered))))
+          subst (λ (copies : List RequestCopy). All (IsSent sent) copies) (sym (ap (λ (copies : List RequestCopy). creation_of j.opening ∷ copies) (arrivals-push j.opening.at j.entries (told_by entered))))
           (All-append (IsSent sent) (arrivals_of j) (arrival_in m entered) all came)
 
   timely : (moment : ℕ) → moment ≤ latest → (call : Call) → Brings sent latest call → moment_after moment (Made call) ≤ latest
@@ -114,13 +114,13 @@ module _ (sent : List (ℕ × List ℕ)) (latest : ℕ) where
   timely moment early TakeInward is = early
 
   -- the greatest moment so far
-  pub moment_later : (j : Journal) (call : Call) → Brings sent latest call → moment_of j.opening.now j.entries ≤ latest
-      → moment_of (after_call j call).opening.now (after_call j call).entries ≤ latest
+  pub moment_later : (j : Journal) (call : Call) → Brings sent latest call → moment_of j.opening.at j.entries ≤ latest
+      → moment_of (after_call j call).opening.at (after_call j call).entries ≤ latest
   moment_later j call brings early = by (entered_by (state_of j) call) refl
     where
-      by : (e : Option Entered) → entered_by (state_of j) call ≡ e → moment_of (with_entered j e).opening.now (with_entered j e).entries ≤ latest
+      by : (e : Option Entered) → entered_by (state_of j) call ≡ e → moment_of (with_entered j e).opening.at (with_entered j e).entries ≤ latest
       by None is = early
       by (Some entered) is =
-          let m = moment_of j.opening.now j.entries in
+          let m = moment_of j.opening.at j.entries in
           let later : moment_after m entered ≤ latest = entered_is (state_of j) (λ e. moment_after m e ≤ latest) (λ kind cost now. early) call (timely m early call brings) entered is in
-          subst (λ (n : ℕ). n ≤ latest) (sym (moment-push j.opening.now j.entries (told_by entered))) later
+          subst (λ (n : ℕ). n ≤ latest) (sym (moment-push j.opening.at j.entries (told_by entered))) later

@@ -18,7 +18,8 @@ use Rattle.session_attrs.specs.declared.request.Request.{Request}
 use Rattle.session_core.specs.Copy.{unnamed}
 use Rattle.session_core.specs.Copy as copies
 use Rattle.session_core.specs.Journal.{IsOpening, IsReadFrom, Journal, none as nothing_entered}
-use Rattle.session_core.specs.Machine.{Opening, back, back_closed, created_parts, creation_of, opened}
+use Rattle.session_core.specs.Machine.{back, back_closed, created_parts, creation_of, opened}
+use Rattle.session_core.specs.declared.opening.Opening.{Opening}
 use Rattle.session_core.specs.ReadBack.{asked_by}
 use Rattle.session_core.specs.Run.{arrivals_of}
 use Rattle.session_journal.specs.Entries.{request_in}
@@ -186,7 +187,7 @@ module _ (below : Below) (setup : ClientSetup) where
 
   -- The creation opens the session.
 
-  opens_sound : (sent : List (ℕ × List ℕ)) (moment : ℕ) (o : Opening) → o.now ≤ moment → IsOpening o → IsOpenedBy setup o → at_id sent o.request.rid ≡ Some o.body → IsSoundTurn setup sent [] [] moment (opens o)
+  opens_sound : (sent : List (ℕ × List ℕ)) (moment : ℕ) (o : Opening) → o.at ≤ moment → IsOpening o → IsOpenedBy setup o → at_id sent o.request.rid ≡ Some o.body → IsSoundTurn setup sent [] [] moment (opens o)
   opens_sound sent moment o by is by_client body =
       let journal : Journal = record { opening = o; entries = [] } in
       let m : PlainManager = record { journal = journal; parked = [] } in

@@ -75,7 +75,7 @@ module _ (below : Below) where
           (ticket_stays (state_of j) call number rid is);
       arrivals = arrivals_after sent moment j call brings;
       early = λ is.
-          let before : moment_of j.opening.now j.entries ≤ moment = subst (λ (n : ℕ). n ≤ moment) (every_tells j made).now is in
+          let before : moment_of j.opening.at j.entries ≤ moment = subst (λ (n : ℕ). n ≤ moment) (every_tells j made).now is in
           let later = call_made j call allowed made in
           subst (λ (n : ℕ). n ≤ moment) (sym (every_tells (after_call j call) later).now) (moment_later sent moment j call brings before);
     }

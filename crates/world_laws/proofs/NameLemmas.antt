@@ -30,7 +30,8 @@ use Rattle.session_core.specs.Copy.{unnamed}
 use Rattle.session_core.specs.Endings.{last_word, terminal}
 use Rattle.session_core.specs.Journal.{IsOpening}
 use Rattle.session_core.specs.Kept.{kept_answer}
-use Rattle.session_core.specs.Machine.{Opening, bytes_for, created_parts, first_answer}
+use Rattle.session_core.specs.Machine.{bytes_for, created_parts, first_answer}
+use Rattle.session_core.specs.declared.opening.Opening.{Opening}
 use Rattle.session_core.specs.Outward.{size_of, size_of_all}
 use Rattle.session_core.specs.ReadBack.{asked_by}
 use Rattle.session_core.specs.State.{Answered, PlainSession, answered_of}

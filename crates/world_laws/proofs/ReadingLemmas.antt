@@ -25,7 +25,8 @@ use Rattle.session_core.specs.declared.outward.Outward.TheVariants.{Close, Stanz
 use Rattle.session_core.specs.Answers.{fit_one_answer}
 use Rattle.session_core.specs.Copy.{unnamed}
 use Rattle.session_core.specs.Endings.{closing_condition, last_word, nothing, other_request, terminal, word_at_closing, word_for, word_if_breaker}
-use Rattle.session_core.specs.Machine.{Opening, created_parts, first_answer}
+use Rattle.session_core.specs.Machine.{created_parts, first_answer}
+use Rattle.session_core.specs.declared.opening.Opening.{Opening}
 use Rattle.session_core.specs.Journal.{IsOpening}
 use Rattle.session_core.specs.Outward.{is_close, items_in, size_of, size_of_all, stanzas_in}
 use Rattle.session_core.specs.State.{Answered}

@@ -15,7 +15,8 @@ use Rattle.session_core.specs.declared.replies.Taken.{Taken}
 use Rattle.session_core.specs.declared.replies.Taken.TheVariants as takings
 use Rattle.session_core.specs.Copy.{unnamed}
 use Rattle.session_core.specs.Journal.{IsOpening, IsReadFrom, Journal, none as nothing_entered}
-use Rattle.session_core.specs.Machine.{Opening, back, back_closed, created_parts}
+use Rattle.session_core.specs.Machine.{back, back_closed, created_parts}
+use Rattle.session_core.specs.declared.opening.Opening.{Opening}
 use Rattle.session_journal.specs.Entries.{request_in}
 use Rattle.bosh_client.specs.declared.replies.ClientEnd.{ClientEnd}
 use Rattle.bosh_client.specs.declared.replies.Queued.{Queued}

@@ -14,7 +14,8 @@ use Rattle.session_core.specs.declared.replies.Ticked.TheVariants as ticks
 use Rattle.session_core.specs.Copy.{unnamed}
 use Rattle.session_core.specs.Endings.{terminal}
 use Rattle.session_core.specs.Journal.{Arrive, Collect, Back, BackClosed, Tick, Journal, state_of}
-use Rattle.session_core.specs.Machine.{Opening, arrive, collect, created_parts, tick}
+use Rattle.session_core.specs.Machine.{arrive, collect, created_parts, tick}
+use Rattle.session_core.specs.declared.opening.Opening.{Opening}
 use Rattle.session_core.specs.State.{PlainSession, is_over}
 use Rattle.session_calls.specs.After.{after_call, all_taken, untaken}
 use Rattle.world_laws.specs.declared.told.Parked.{Parked}

@@ -8,7 +8,8 @@ use Rattle.session_core.specs.declared.copy.RequestCopy.{RequestCopy}
 use Rattle.session_core.specs.Copy as copies
 use Rattle.session_core.specs.Endings.{terminal}
 use Rattle.session_core.specs.Journal.{IsJournal}
-use Rattle.session_core.specs.Machine.{Opening, bytes_for}
+use Rattle.session_core.specs.Machine.{bytes_for}
+use Rattle.session_core.specs.declared.opening.Opening.{Opening}
 use Rattle.session_core.specs.ReadBack.{asked_by}
 use Rattle.session_core.specs.Run.{arrivals_of}
 use Rattle.session_core.specs.State.{Issued, PlainSession}

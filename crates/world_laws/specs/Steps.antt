@@ -10,7 +10,8 @@ use Rattle.session_attrs.specs.Terms.{terms_of}
 use Rattle.session_core.specs.declared.replies.Taken.{Taken}
 use Rattle.session_core.specs.declared.replies.Taken.TheVariants as takings
 use Rattle.session_core.specs.Copy.{unnamed}
-use Rattle.session_core.specs.Machine.{Opening, back, back_closed}
+use Rattle.session_core.specs.Machine.{back, back_closed}
+use Rattle.session_core.specs.declared.opening.Opening.{Opening}
 use Rattle.session_core.specs.Opened.{opening_of}
 use Rattle.session_journal.specs.Entries.{request_in}
 use Rattle.bosh_client.specs.declared.replies.Answered.{Answered}

@@ -14,6 +14,8 @@ use Rattle.world_laws.specs.World.{PlainWorld}
 abbrev pub is_inward_stanza : Inward → Bool
 is_inward_stanza (inwards.Item stream stanza) = true
 is_inward_stanza (inwards.Restart stream) = false
+is_inward_stanza (inwards.Open stream to) = false
+is_inward_stanza (inwards.Close stream) = false
 
 abbrev pub is_given_stanza : Outward → Bool
 is_given_stanza (outwards.Stanza stream stanza) = true

@@ -13,7 +13,7 @@ use Rattle.session_laws.proofs.Followed.{every_run, every_longest}
 use Rattle.session_laws.proofs.GivenIn.{every_given}
 use Rattle.session_laws.proofs.GivenLemmas.{IsGiven, given_steady, given_is, opened_given}
 use Rattle.session_laws.proofs.Grows.{steady-all, every_grows, ending_stays}
-use Rattle.session_laws.proofs.LawsOf.{every_created, every_answer_id, every_parked, every_answer_told, every_over, every_full, every_done, every_closed, every_quiet, collects_both, every_first_answer, every_same_bytes, living_before}
+use Rattle.session_laws.proofs.LawsOf.{every_created, every_answer_id, every_parked, every_answer_told, every_over, every_limit, every_full, every_done, every_closed, every_quiet, collects_both, every_first_answer, every_same_bytes, living_before}
 use Rattle.session_laws.proofs.Reasons.{every_settled}
 use Rattle.session_laws.proofs.SoundLemmas.{IsSound, sound_steady}
 use Rattle.session_laws.proofs.Steadily.{steady-time}
@@ -45,6 +45,7 @@ returns c = record {
     );
     ended = λ call entered allowed is over. ended_stays (state_of journal) call allowed entered is over;
     counts = (every_counts journal made).0;
+    limit = every_limit journal made;
     passed = ap (λ n. take n (inward (state_of journal))) (every_counts journal made).1;
     takes = ap ToTakeInward (takes_next (state_of journal) (slice_get (inward (state_of journal)) (state_of journal).passed));
     given = given_is (state_of journal) (steady-all IsGiven given_steady (opened journal.opening) journal.entries made.1 (opened_given journal.opening)) ∙ every_given journal made;

@@ -1,5 +1,4 @@
 use Rattle.std.proofs.Common.{◌∙◌}
-use Rattle.session_core.specs.Opened.{opening_of}
 use Rattle.session_core.proofs.OpenedLemmas.{creation_modest, open_requests, payloads_are}
 use Rattle.session_core.proofs.session.Session.open.Goals as goal
 
@@ -15,12 +14,8 @@ first_session-requires-clause-few c = (open_requests _ c.requires).1
 pub returns : goal.returns
 returns c =
     let bytes = c.in_ok-again.ensures ∙ c.in_ok-text.ensures in
-    let payloads =
-    c.len.ensures
-    ∙ payloads_are (opening_of c.args.request.now c.args.body.now c.args.terms c.args.sid.now c.args.host.now c.args.greeting.now c.args.now) in
+    let payloads = c.len.ensures ∙ payloads_are c.args.opening.now in
     record {
-      session =
-          c.in_ok-session.ensures c.args.sid.now c.args.host.now c.args.greeting.now
-          (λ i. record { bytes = bytes i; given = c.args.now; payloads = payloads i });
+      session = c.in_ok-session.ensures (λ i. record { bytes = bytes i; given = c.args.opening.now.at; payloads = payloads i });
       text = c.in_ok-text.ensures;
     }

@@ -22,7 +22,7 @@ returns-in-Done c = λ plain stands live later.
     let rid : ℕ = c.args.request.now.rid in
     let is : c.in_ok-new.field-0 ≡ copy_now plain c.args.request.now c.args.body.now =
     c.in_ok-new.ensures
-    ∙ (λ i. record { request = c.in_ok-copied_request.ensures i; body = (c.from_vec.ensures ∙ c.in_ok-from_slice.ensures.items) i; arrived = moment_is stands i }) in
+    ∙ (λ i. record { request = c.in_ok-copied_request.ensures i; body = c.in_ok-again.ensures i; arrived = moment_is stands i }) in
     let extra : c.is_extra-extra.result ≡ is_extra (copy_now plain c.args.request.now c.args.body.now) = c.is_extra-extra.ensures ∙ ap is_extra (sym c.in_ok-new.ensures ∙ is) in
     let told = c.in-Done.ensures.answer _ stands.window.stands in
     let reached = within_reach plain.creation plain.standing c.args.self.now.last plain.terms.requests rid c.is_extra-extra.result (omega (arith, stands.run.last_is)) (omega (arith, stands.run.last_is, later)) told in
