@@ -131,7 +131,7 @@ answers_by site before e (stored.Limit kind cost at) request body text now at_no
       let costs : cost ≡ body_cost request body = cc in
       (limited_arrival kind of, costs, (now, at_now, replies), refl)
 ]
-answers_by site before e (stored.Open sid host greeting stored_body at) request body text now at_now entered replies = absurd (let no : None ≡ Some entered.told = entered.tells in cc)
+answers_by site before e (stored.Open sid host greeting stored_body at limit) request body text now at_now entered replies = absurd (let no : None ≡ Some entered.told = entered.tells in cc)
 answers_by site before e (stored.Collect ticket) request body text now at_now entered replies =
     absurd (other entered.told (plain.Made (plain.Collect ticket)) request body now entered.is entered.tells (λ no. cc) (λ no. cc))
 answers_by site before e (stored.Back stream stanza at) request body text now at_now entered replies =
@@ -169,7 +169,7 @@ collected_by site before e (stored.Collect taken) request body text ticket is wa
 collected_by site before e (stored.Arrive stored_body at) request body text ticket is waited replies = absurd (read_no_collect (request_in stored_body) stored_body at ticket is)
 collected_by site before e (stored.Limit kind cost at) request body text ticket is waited replies =
     absurd (let no : Some (plain.Limit (limited_in kind) cost at) ≡ Some (plain.Made (plain.Collect ticket)) = is in cc)
-collected_by site before e (stored.Open sid host greeting stored_body at) request body text ticket is waited replies =
+collected_by site before e (stored.Open sid host greeting stored_body at limit) request body text ticket is waited replies =
     absurd (let no : None ≡ Some (plain.Made (plain.Collect ticket)) = is in cc)
 collected_by site before e (stored.Back stream stanza at) request body text ticket is waited replies =
     absurd (let no : Some (plain.Made (plain.Back stream stanza at)) ≡ Some (plain.Made (plain.Collect ticket)) = is in cc)

@@ -33,13 +33,15 @@ use Rattle.serve_loop.specs.declared.trail.TrailLine.TheVariants as lines
 use Rattle.serve_loop.specs.Asked.{asked_of, request_in}
 use Rattle.serve_loop.specs.Effects.{AsksDirectory, CallsOne, OpensOne}
 
--- what a site tells: its hosts, and the moment of its clock where the clock tells that
+-- what a site tells: its hosts, how many counted bytes the journal of a session may have, and the moment of its clock where the
+-- clock tells that
 pub record Setting : Type 0 where
   pub hosts : List HostName
+  pub limit : ℕ
   pub moment : Option ℕ
 
-abbrev pub setting : List HostName → Option ℕ → Setting
-setting hosts moment = record { hosts = hosts; moment = moment }
+abbrev pub setting : List HostName → ℕ → Option ℕ → Setting
+setting hosts limit moment = record { hosts = hosts; limit = limit; moment = moment }
 
 -- it is the clock's moment
 abbrev pub IsNow : Setting → ℕ → Type 0
@@ -77,7 +79,7 @@ AnswersBy site before e (stored.Limit kind cost now) request body text added =
 AnswersBy site before e (stored.Collect ticket) request body text added =
     (came : WaitedFor site before e.caller request body ticket)
     × Replies before (plain.Collect ticket) (plain.ToCollect (collections.Answer text)) (Some e) × (added ≡ came.entry ∷ e ∷ [])
-AnswersBy site before e (stored.Open sid host greeting body' now) request body text added = ⊥
+AnswersBy site before e (stored.Open sid host greeting body' now limit) request body text added = ⊥
 AnswersBy site before e (stored.Back stream stanza now) request body text added = ⊥
 AnswersBy site before e (stored.BackClosed stream closing now) request body text added = ⊥
 AnswersBy site before e (stored.Tick now) request body text added = ⊥
@@ -107,6 +109,7 @@ pub record IsOpeningAt (site : Setting) (host : HostName) (request : Request) (b
   pub host_is : opening.host ≡ host.name
   pub greeting_is : opening.greeting ≡ host.greeting
   pub at_now : IsNow site opening.at
+  pub limit_is : opening.limit ≡ site.limit
 
 -- the body asks for a session at a host of the site, which is opened with this
 pub record IsOpeningFor (site : Setting) (body : List ℕ) (opening : Opening) : Type 0 where

@@ -59,10 +59,10 @@ impl<B: Bell, M: Names> Worker<B, M> {
     ) -> Result<Answering, AllocError>
         requires { IsPassOf site.now.directory.now self.old.purse.directory }
         ensures pass { IsPassOf site.now.directory.now self.new.purse.directory }
-        ensures answers { IfOk result (Answers (setting site.now.hosts.now (C.moment site.now.clock.now)) body self.old.trail.lines.items self.new.trail.lines.items
+        ensures answers { IfOk result (Answers (setting site.now.hosts.now site.now.limit (C.moment site.now.clock.now)) body self.old.trail.lines.items self.new.trail.lines.items
             self.old.purse self.new.purse) }
         ensures err { OnErr result (self.new.trail.lines.items ≡ self.old.trail.lines.items) }
-        ensures lost { OnErr result (IsLost (setting site.now.hosts.now (C.moment site.now.clock.now)) body self.old.purse self.new.purse) }
+        ensures lost { OnErr result (IsLost (setting site.now.hosts.now site.now.limit (C.moment site.now.clock.now)) body self.old.purse self.new.purse) }
         ensures silences { B.silences self.new.bell ≡ B.silences self.old.bell }
     {
         self.trail.reserve()?;

@@ -40,7 +40,7 @@ impl<B: Bell, M: Names> Worker<B, M> {
         requires pass { IsPassOf site.now.directory.now self.old.purse.directory }
         requires asks { asked_of site.now.hosts.now body ≡ Asked.Later request }
         ensures pass { IsPassOf site.now.directory.now self.new.purse.directory }
-        ensures answers { IfOk result (Answers (setting site.now.hosts.now (C.moment site.now.clock.now)) body self.old.trail.lines.items self.new.trail.lines.items
+        ensures answers { IfOk result (Answers (setting site.now.hosts.now site.now.limit (C.moment site.now.clock.now)) body self.old.trail.lines.items self.new.trail.lines.items
             self.old.purse self.new.purse) }
         ensures err { OnErr result (self.new.trail.lines.items ≡ self.old.trail.lines.items) }
         ensures lost { OnErr result (AddsNothing self.old.purse self.new.purse) }
@@ -72,7 +72,7 @@ impl<B: Bell, M: Names> Worker<B, M> {
         requires held { Holds self.old.purse.sessions session.number session.sid }
         requires names { NamesSession body session.sid request }
         ensures answers { (before : Purse) → FindsAtMost before self.old.purse session.number session.sid
-            → IfOk result (Answers (setting site.now.hosts.now (C.moment site.now.clock.now)) body self.old.trail.lines.items self.new.trail.lines.items before self.new.purse) }
+            → IfOk result (Answers (setting site.now.hosts.now site.now.limit (C.moment site.now.clock.now)) body self.old.trail.lines.items self.new.trail.lines.items before self.new.purse) }
         ensures directory { self.new.purse.directory ≡ self.old.purse.directory }
         ensures silences { B.silences self.new.bell ≡ B.silences self.old.bell }
         ensures err { OnErr result (self.new.trail.lines.items ≡ self.old.trail.lines.items) }

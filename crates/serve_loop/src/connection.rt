@@ -118,7 +118,7 @@ impl Connection {
         requires held { IsServedBy worker.old.purse.sessions self.old.stage }
         ensures pass { IsPassOf site.now.directory.now worker.new.purse.directory }
         ensures held { IsServedBy worker.new.purse.sessions self.new.stage }
-        ensures moves { Moves (setting site.now.hosts.now (C.moment site.now.clock.now))
+        ensures moves { Moves (setting site.now.hosts.now site.now.limit (C.moment site.now.clock.now))
             (outside self.old.reader (L.left link.old) (L.given link.old) worker.old.trail.lines.items worker.old.purse (L.faults link.old))
             (outside self.new.reader (L.left link.new) (L.given link.new) worker.new.trail.lines.items worker.new.purse (L.faults link.new))
             self.old.stage self.new.stage }
@@ -143,7 +143,7 @@ impl Connection {
         requires held { IsServedBy worker.old.purse.sessions stage }
         ensures pass { IsPassOf site.now.directory.now worker.new.purse.directory }
         ensures held { IsServedBy worker.new.purse.sessions result }
-        ensures moves { Moves (setting site.now.hosts.now (C.moment site.now.clock.now))
+        ensures moves { Moves (setting site.now.hosts.now site.now.limit (C.moment site.now.clock.now))
             (outside self.old.reader (L.left link.old) (L.given link.old) worker.old.trail.lines.items worker.old.purse (L.faults link.old))
             (outside self.new.reader (L.left link.new) (L.given link.new) worker.new.trail.lines.items worker.new.purse (L.faults link.new))
             stage result }
@@ -246,7 +246,7 @@ fn ask<R: Wait, C: Clock, B: Bell, M: Names>(
     requires pass { IsPassOf site.now.directory.now worker.old.purse.directory }
     ensures pass { IsPassOf site.now.directory.now worker.new.purse.directory }
     ensures held { IsServedBy worker.new.purse.sessions result }
-    ensures moves { (stream given : Option (List ℕ)) → (faults : ℕ) → Moves (setting site.now.hosts.now (C.moment site.now.clock.now))
+    ensures moves { (stream given : Option (List ℕ)) → (faults : ℕ) → Moves (setting site.now.hosts.now site.now.limit (C.moment site.now.clock.now))
         (record { stream = stream; given = given; trail = worker.old.trail.lines.items; purse = worker.old.purse; faults = faults })
         (record { stream = stream; given = given; trail = worker.new.trail.lines.items; purse = worker.new.purse; faults = faults })
         (Stage.Asked body closing) result }

@@ -12,13 +12,15 @@ use server_ports::{Clock, Names};
 use session_table::{Directory, Purse};
 use std::alloc::{AllocError, Global};
 
-/// What all workers share: the directory at its gate, the hosts, and the time.
+/// What all workers share: the directory at its gate, the hosts, the time, and how many counted bytes the journal of a session may
+/// have.
 #[derive(Drop)]
 pub struct Site<'s, C: Clock> {
     pub alloc: Global,
     pub directory: &'s Gate<Directory>,
     pub hosts: &'s HostNames,
     pub clock: &'s C,
+    pub limit: u64,
     // A session can be opened at each of the hosts.
     pub ghost serves: { IsTrue (list_all can_serve hosts.now) },
 }
@@ -30,8 +32,9 @@ impl<'s, C: Clock> Site<'s, C> {
         directory: &'s Gate<Directory>,
         hosts: &'s HostNames,
         clock: &'s C,
+        limit: u64,
     ) -> Result<Option<Site<'s, C>>, AllocError>
-        ensures some { IfOk result (λ site. IfSome site (λ site. (site.directory.now ≡ directory.now) × (site.hosts.now ≡ hosts.now) × (site.clock.now ≡ clock.now))) }
+        ensures some { IfOk result (λ site. IfSome site (λ site. (site.directory.now ≡ directory.now) × (site.hosts.now ≡ hosts.now) × (site.clock.now ≡ clock.now) × (site.limit ≡ limit))) }
         ensures none { IfOk result (λ site. IfNone site (list_all can_serve hosts.now ≡ false)) }
     {
         if !can_serve_all(alloc, hosts)? {
@@ -42,6 +45,7 @@ impl<'s, C: Clock> Site<'s, C> {
             directory,
             hosts,
             clock,
+            limit,
         }))
     }
 }

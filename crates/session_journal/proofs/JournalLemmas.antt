@@ -7,7 +7,7 @@ use Rattle.session_attrs.specs.Reading.{request_of}
 use Rattle.session_attrs.specs.Values.{values_of}
 use Rattle.session_core.specs.Journal as plain
 use Rattle.session_core.specs.Journal.{Journal, IsReadFrom}
-use Rattle.session_core.specs.Machine.{Opening}
+use Rattle.session_core.specs.declared.opening.Opening.{Opening}
 use Rattle.session_journal.specs.declared.entry.Entry.{Entry}
 use Rattle.session_journal.specs.Entries.{unrefused, request_in, opening_in, entry_in, all_of, entries_in, journal_in}
 use Rattle.session_laws.specs.Growing.{with_later}

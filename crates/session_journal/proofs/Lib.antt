@@ -6,3 +6,4 @@ pub mod Standing
 pub mod SeenLemmas
 pub mod Stepping
 pub mod ObjectLemmas
+pub mod RecordedLemmas

@@ -1,5 +1,5 @@
 -- A session beside its entries as the object of a gate.
-use Rattle.std.proofs.Common.{◌≡◌, ℕ, List, Option, None, Result, Ok, Err, refl}
+use Rattle.std.proofs.Common.{◌≡◌, ℕ, Option, ap, None, Result, Ok, Err, refl}
 use Rattle.std.specs.Prelude.{IfOk, OnErr}
 use Rattle.std.specs.declared.alloc.AllocError.{AllocError}
 use Rattle.parked_gate.specs.Histories.{Appends}
@@ -7,12 +7,13 @@ use Rattle.session_journal.specs.declared.call.Call.{Call}
 use Rattle.session_journal.specs.declared.call.Reply.{Reply}
 use Rattle.session_journal.specs.declared.entry.Entry.{Entry}
 use Rattle.session_journal.specs.Calls.{IsReplyTo, call_in, reply_in}
+use Rattle.session_journal.specs.Recording.{Recording}
 use Rattle.session_journal.specs.Seen.{RepliesTo}
 use Rattle.session_journal.specs.Stored.{Steps}
 
 -- a call was replied, or there was no memory
-pub step_replies : (log later : List Entry) (caller : ℕ) (call : Call) (result : Result Reply AllocError)
-    → IfOk result (λ reply. Steps log caller (call_in call) (reply_in reply) later) → IfOk result (λ reply. IsReplyTo call reply) → OnErr result (later ≡ log)
-    → (made : Option Entry) × Appends (λ e. e.caller) caller log made later × RepliesTo log call result made
-step_replies log later caller call (Ok reply) steps kind same = (steps.made, steps.appends, (steps.replies, kind))
-step_replies log later caller call (Err error) steps kind same = (None, same, refl)
+pub step_replies : (old new : Recording) (caller : ℕ) (call : Call) (result : Result Reply AllocError)
+    → IfOk result (λ reply. Steps old.log caller (call_in call) (reply_in reply) new.log) → IfOk result (λ reply. IsReplyTo call reply) → OnErr result (new ≡ old)
+    → (made : Option Entry) × Appends (λ e. e.caller) caller old.log made new.log × RepliesTo old.log call result made
+step_replies old new caller call (Ok reply) steps kind same = (steps.made, steps.appends, (steps.replies, kind))
+step_replies old new caller call (Err error) steps kind same = (None, ap (λ (r : Recording). r.log) same, refl)

@@ -4,24 +4,24 @@ use Rattle.std.specs.Prelude.{option_and_then}
 use Rattle.std.specs.Option.{option_map}
 use Rattle.session_core.specs.declared.session.Session.{Session}
 use Rattle.session_core.specs.Journal.{Journal, IsOpening, none}
-use Rattle.session_core.specs.Machine.{Opening, opened}
-use Rattle.session_core.specs.Opened.{opening_of}
+use Rattle.session_core.specs.Machine.{opened}
+use Rattle.session_core.specs.declared.opening.Opening.{Opening}
 use Rattle.session_core.specs.StandsFor.{StandsFor}
 use Rattle.session_journal.specs.declared.entry.Entered.TheVariants as stored
 use Rattle.session_journal.specs.declared.entry.Entry.{Entry}
-use Rattle.session_journal.specs.Entries.{opening_in, opening_with, terms_in, all_of}
+use Rattle.session_journal.specs.Entries.{opening_in, opening_with, opening_by, terms_in, all_of}
 use Rattle.session_journal.specs.Stored.{IsJournalOf}
 use Rattle.session_journal.specs.Storing.{Stands}
 use Rattle.session_journal.proofs.JournalLemmas.{read_gives, opened_with}
 
 -- the first entry tells the opening
-opening_told : (o : Opening) → IsOpening o → opening_in (stored.Open o.sid o.host o.greeting o.body o.now) ≡ Some o
+opening_told : (o : Opening) → IsOpening o → opening_in (stored.Open o.sid o.host o.greeting o.body o.at o.limit) ≡ Some o
 opening_told o is =
-    ap (option_and_then (opening_with o.sid o.host o.greeting o.body o.now)) (read_gives o.body o.request is.read)
-    ∙ ap (option_map (λ terms. opening_of o.request o.body terms o.sid o.host o.greeting o.now)) (ap terms_in (is.creation).1 ∙ ap Some (sym (is.creation).2))
+    ap (option_and_then (opening_with o.sid o.host o.greeting o.body o.at o.limit)) (read_gives o.body o.request is.read)
+    ∙ ap (option_map (opening_by o.sid o.host o.greeting o.body o.at o.limit o.request)) (ap terms_in (is.creation).1 ∙ ap Some (sym (is.creation).2))
 
 abbrev pub first_entry : ℕ → Opening → Entry
-first_entry caller o = record { caller = caller; call = stored.Open o.sid o.host o.greeting o.body o.now }
+first_entry caller o = record { caller = caller; call = stored.Open o.sid o.host o.greeting o.body o.at o.limit }
 
 abbrev pub first_journal : Opening → Journal
 first_journal o = record { opening = o; entries = [] }

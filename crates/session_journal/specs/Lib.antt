@@ -4,3 +4,4 @@ pub mod Stored
 pub mod Storing
 pub mod Seen
 pub mod SeenLaws
+pub mod Recording

@@ -12,13 +12,15 @@ pub enum Limited {
 /// What an entry keeps of a call. The request of a body, and the terms of a creation, are those that the body gives.
 #[derive(Debug, Drop)]
 pub enum Entered {
-    /// The creation of the session, under the name `sid`, for a host with a greeting. It comes first, and nowhere else.
+    /// The creation of the session, under the name `sid`, for a host with a greeting, with as many counted bytes as its journal
+    /// may have. It comes first, and nowhere else.
     Open {
         sid: Text,
         host: SharedText,
         greeting: Stanzas,
         body: SharedText,
         now: Moment,
+        limit: u64,
     },
     Arrive {
         body: SharedText,

@@ -2,14 +2,14 @@
 use crate::asking::{Answer, Found, Question};
 use crate::call::{Call, Reply};
 use crate::entry::Entry;
-use crate::journalled::Journalled;
+use crate::recorded::Recorded;
 use bosh_types::Ticket;
 use parked_gate::Object;
 use session_core::Collected;
 use std::alloc::AllocError;
 
 /// A call and a question of the host may find no memory.
-impl Object for Journalled {
+impl Object for Recorded {
     ghost use Rattle.session_core.specs.Journal.{IsAllowed};
     ghost use Rattle.session_journal.specs.Calls.{call_in};
     ghost use Rattle.session_journal.specs.Seen.{Answers, Finds, Lacks, RepliesTo};
@@ -29,7 +29,7 @@ impl Object for Journalled {
 
     type Entry = Entry;
 
-    ghost history = { λ journalled. journalled };
+    ghost history = { λ recorded. recorded.log };
 
     ghost caller_of = { λ e. e.caller };
 
@@ -46,11 +46,11 @@ impl Object for Journalled {
     ghost answers = { Answers };
 
     fn step(&mut self, caller: u32, call: Call) -> Result<Reply, AllocError> {
-        Journalled::step(self, caller, call)
+        Recorded::step(self, caller, call)
     }
 
     fn poll(&mut self, caller: u32, ticket: Ticket) -> Option<Found> {
-        match Journalled::poll(self, caller, ticket) {
+        match Recorded::poll(self, caller, ticket) {
             Collected::Answer(text) => Some(Found::Answer(text)),
             Collected::NotYet => None,
             Collected::Superseded => Some(Found::Superseded),
@@ -72,6 +72,6 @@ impl Object for Journalled {
     }
 
     fn count(&self) -> u64 {
-        self.entries().len() as u64
+        Recorded::count(self)
     }
 }

@@ -1,10 +1,12 @@
 // The steps with which entries are stored.
-ghost use Rattle.std.specs.Prelude.{◌≡◌, ◌+◌, ◌<◌, ◌≤◌, ◌^◌, OnOk, vec_len, vec_capacity};
+ghost use Rattle.std.specs.Prelude.{◌≡◌, ◌+◌, ◌<◌, ◌≤◌, ◌^◌, OnOk, Some, length, vec_len, vec_capacity};
 ghost use Rattle.parked_gate.specs.Histories.{Appends};
 ghost use Rattle.session_core.specs.Tickets.{uses_up};
+ghost use Rattle.session_journal.specs.declared.entry.Entered.{Entered as Call};
 ghost use Rattle.session_journal.specs.Storing.{by_caller, handed_out, cost_at_end, is_quiet, stored_as};
 
 use crate::entry::{Entered, Entry, Limited};
+use crate::history::History;
 use bosh_types::{Ending, Moment};
 use session_core::{Arrived, Collected, Ticked};
 use std::alloc::AllocError;
@@ -26,9 +28,41 @@ pub(crate) fn make_room(entries: &mut Vec<Entry>, out: usize, more: usize) -> Re
     entries.reserve(room)
 }
 
+/// Whether an entry can be counted, and one more for each ticket that is out and each that may be handed out.
+pub(crate) fn has_room(count: u64, out: usize, more: u64) -> Result<(), AllocError>
+    ensures ok { OnOk result (count + out + more + 1 < 2 ^ 64) }
+{
+    let Some(tickets) = count.checked_add(out as u64) else {
+        return Err(AllocError);
+    };
+    let Some(room) = tickets.checked_add(more) else {
+        return Err(AllocError);
+    };
+    match room.checked_add(1) {
+        Some(_) => Ok(()),
+        None => Err(AllocError),
+    }
+}
+
+/// Enters what the caller made, if it made something, and hands it out. It takes no memory.
+pub(crate) fn enter(
+    entries: &mut History<Entry>,
+    caller: u32,
+    entered: Option<Entered>,
+) -> Option<Entered>
+    requires { length entries.old + 1 < 2 ^ 64 }
+    ensures made { result ≡ entered }
+    ensures entries { Appends (λ e. e.caller) caller entries.old (by_caller caller entered) entries.new }
+{
+    let call = entered?;
+    let entry = Entry { caller, call };
+    entries.add(&entry);
+    Some(entry.call)
+}
+
 /// Adds the entry of a caller, if there is one. It takes no memory.
 pub(crate) fn store(entries: &mut Vec<Entry>, caller: u32, entered: Option<Entered>)
-    requires { vec_len entries.old < vec_capacity entries.old }
+    requires { (call : Call) → entered ≡ Some call → vec_len entries.old < vec_capacity entries.old }
     ensures items { Appends (λ e. e.caller) caller entries.old.items (by_caller caller entered) entries.new.items }
     ensures len { vec_len entries.new ≤ vec_len entries.old + 1 }
     ensures capacity { vec_capacity entries.new ≡ vec_capacity entries.old }

@@ -5,6 +5,12 @@ use denote.Param.Send.{IsSend, IsSync, sendable}
 use Rattle.std.proofs.Crossing as heap
 use Rattle.std.proofs.MapsCrossing as maps
 use Rattle.std.specs.declared.clone.Clone as clone
+use Rattle.std.specs.contracts.alloc.Global as Heap
+use Rattle.std.specs.contracts.impls.GlobalAllocator.TheImpl.{ghosts}
+use Rattle.circular_buffer.proofs.cells.Cells.TheSendSync as cells
+use Rattle.circular_buffer.proofs.cells.Deed.TheSendSync as deed
+use Rattle.circular_buffer.specs.contracts.cells.Deed as Deed
+use Rattle.http_server.proofs.log.Log.TheSendSync as log
 use Rattle.atomic_table.proofs.shared.Seat.TheSendSync as seat
 use Rattle.atomic_table.proofs.shared.Shared.TheSendSync as shared
 use Rattle.atomic_table.proofs.send_lease.SendLease.TheSendSync as lease
@@ -29,13 +35,16 @@ use Rattle.session_core.specs.contracts.outbox.Outbox as Outbox
 use Rattle.session_core.specs.contracts.tickets.Tickets as Tickets
 use Rattle.session_core.specs.contracts.session.Session as Session
 use Rattle.session_journal.specs.contracts.entry.Entry as Entry
-use Rattle.session_journal.specs.contracts.journalled.Journalled as Journalled
+use Rattle.session_journal.specs.contracts.recorded.Recorded as Recorded
 use Rattle.session_table.specs.contracts.directory.Directory as Directory
 use Rattle.session_table.specs.contracts.handle.SessionHandle as SessionHandle
 use Rattle.session_table.specs.contracts.purse.Purse as Purse
 
+pub deed_send : (T : RattleType) → IsSend (Deed.the_row T Heap.the_row ghosts)
+deed_send T = deed.the_send T Heap.the_row ghosts heap.send heap.frees
+
 -- the rules of the types that stand below
-pub ruleset crosses = (seat.the_send, shared.the_send, shared.the_sync, lease.the_send, lease.the_sync, sendable, heap.crosses, maps.crosses)
+pub ruleset crosses = (deed_send, cells.the_send, log.the_send, seat.the_send, shared.the_send, shared.the_sync, lease.the_send, lease.the_sync, sendable, heap.crosses, maps.crosses)
 
 -- a gate may be called by many threads where its object may go to one, and then so may a pass of it
 module _ (O C R A F Q W E : RattleType) (g : Ghosts O.Denot C.Denot R.Denot A.Denot F.Denot Q.Denot W.Denot E.Denot) where
@@ -104,12 +113,12 @@ session = search (window, rid, moment, mark, deadlines, keys, acks, ending, keep
 entry : IsSend Entry.the_row
 entry = search (shared_text, crosses) depth 200 fits 100000
 
-pub journalled : IsSend Journalled.the_row
-journalled = search (session, entry, crosses) depth 200 fits 100000
+pub recorded : IsSend Recorded.the_row
+recorded = search (session, entry, shared_text, crosses) depth 200 fits 100000
 
 -- the directory and what its callers keep
 pub handle : IsSend SessionHandle.the_row
-handle = search (journalled, crosses) depth 200 fits 100000
+handle = search (recorded, crosses) depth 200 fits 100000
 
 pub directory : IsSend Directory.the_row
 directory = search (handle, crosses) depth 200 fits 100000

@@ -13,9 +13,8 @@ use Rattle.body_writer.proofs.Plain.{all_plain, decimal_plain, is_plain_byte, pl
 use Rattle.server_ports.specs.Names.{IsNamePart, is_name_byte}
 use Rattle.session_attrs.specs.Terms.{terms_of}
 use Rattle.session_core.specs.Journal.{IsOpening}
-use Rattle.session_core.specs.Opened.{opening_of}
 use Rattle.session_table.specs.declared.opening.Opening.{Opening}
-use Rattle.session_table.specs.Replies.{MayOpen}
+use Rattle.session_table.specs.Replies.{MayOpen, session_opening}
 use Rattle.session_table.specs.Sids.{sid_of}
 
 plain_name_byte : (b : ℕ) → is_name_byte b ≡ true → is_plain_byte b ≡ true
@@ -39,16 +38,13 @@ sid_text name number is few = (
 )
 
 -- the session is opened under its name
-pub may_open : (o : Opening) (number : ℕ) (body sid host : List ℕ) (terms : Terms) (may : MayOpen o) → number ≤ most_openings
-    → terms ≡ terms_of may.creation.0 → body ≡ o.body → sid ≡ sid_of o.name number → host ≡ o.host
-    → IsOpening (opening_of o.request body terms sid host o.greeting o.at)
-may_open o number body sid host terms may few terms_is body_is sid_is host_is =
-    subst (λ b. IsOpening (opening_of o.request b terms sid host o.greeting o.at)) (sym body_is)
-    (subst (λ s. IsOpening (opening_of o.request o.body terms s host o.greeting o.at)) (sym sid_is)
-    (subst (λ h. IsOpening (opening_of o.request o.body terms (sid_of o.name number) h o.greeting o.at)) (sym host_is) (record {
+pub may_open : (o : Opening) (number : ℕ) (sid : List ℕ) (terms : Terms) (may : MayOpen o) → number ≤ most_openings
+    → terms ≡ terms_of may.creation.0 → sid ≡ sid_of o.name number → IsOpening (session_opening sid terms o)
+may_open o number sid terms may few terms_is sid_is =
+    subst (λ s. IsOpening (session_opening s terms o)) (sym sid_is) (record {
       read = may.read;
       creation = (may.creation.0, may.creation.1, terms_is);
       sid = sid_text o.name number may.name few;
       host = may.host;
       greeting = may.greeting;
-    })))
+    })

@@ -11,7 +11,6 @@ use Rattle.bosh_types.specs.Limits.{most_openings, most_sessions}
 use Rattle.parked_gate.specs.Histories.{Appends}
 use Rattle.parked_gate.specs.Passes.{GateId, gate_of, known}
 use Rattle.session_journal.specs.declared.entry.Entry as journal
-use Rattle.session_journal.specs.Stored.{IsJournalOf}
 use Rattle.session_table.specs.declared.entry.Entry.{Entry}
 use Rattle.session_table.specs.declared.handle.SessionHandle.{SessionHandle}
 use Rattle.session_table.specs.declared.opening.Opening.{Opening}
@@ -19,7 +18,7 @@ use Rattle.session_table.specs.Entering.{EntersOpening, EntersRemoval, RemovesOr
 use Rattle.session_table.specs.Handles.{IsOfSame, IsSameHandle, IsSplitOf}
 use Rattle.session_table.specs.History.{live_of, opening_in, openings_of}
 use Rattle.session_table.specs.Keeping.{Keeps, session_of}
-use Rattle.session_table.specs.Replies.{Opens, RepliesTo, Starts, Steps, first_seen, live_sessions}
+use Rattle.session_table.specs.Replies.{IsAnswered, Opens, RepliesTo, Starts, Steps, first_seen, live_sessions}
 use Rattle.session_table.specs.Sessions.{OpenedSession}
 use Rattle.session_table.specs.declared.calls.LiveSession.{LiveSession}
 
@@ -29,9 +28,7 @@ starts_split number o x y answer starts split = record {
   sid = (split.of_same).sid ∙ starts.sid;
   number_is = (split.of_same).number ∙ starts.number_is;
   seen = split.seen ∙ (starts.seen ∙ ap (λ s. first_seen s o) (sym (split.of_same).sid));
-  journal = starts.journal;
-  is = subst (λ l. IsJournalOf l starts.journal) (sym split.seen) starts.is;
-  answer_is = starts.answer_is;
+  answered = subst (λ l. IsAnswered l answer) (sym split.seen) starts.answered;
 }
 
 pub step_opened : (value later : List Entry) (caller openings : ℕ) (o : Opening) (started kept handed : SessionHandle) (answer : List ℕ)

@@ -6,12 +6,14 @@ use Rattle.std.specs.declared.alloc.AllocError.{AllocError}
 use Rattle.body_cutter.specs.BodyText.{IsText}
 use Rattle.body_cutter.specs.Cutting.{is_stanza}
 use Rattle.body_writer.specs.Answer.{answer_text}
+use Rattle.bosh_types.specs.declared.terms.Terms.{Terms}
 use Rattle.bosh_types.specs.Limits.{most_sessions, most_openings, most_waiting, longest_stanza}
 use Rattle.parked_gate.specs.Histories.{Appends}
 use Rattle.parked_gate.specs.Passes.{gate_of, known}
 use Rattle.server_ports.specs.Names.{IsNamePart}
 use Rattle.session_attrs.specs.declared.request.Creation.{Creation}
 use Rattle.session_attrs.specs.declared.request.Kind.TheVariants as kinds
+use Rattle.session_core.specs.declared.opening.Opening as core
 use Rattle.session_core.specs.declared.outward.Outward.TheVariants.{Stanza}
 use Rattle.session_core.specs.Journal.{Journal, IsReadFrom}
 use Rattle.session_core.specs.Machine.{created_parts}
@@ -56,18 +58,27 @@ IsFull log = length (live_of log) ≡ most_sessions
 abbrev pub IsSpent : List Entry → Type 0
 IsSpent log = length (openings_of log) ≡ most_openings
 
+-- what the session itself is opened with, under its whole name and with its terms
+abbrev pub session_opening : List ℕ → Terms → Opening → core.Opening
+session_opening sid terms o =
+    record { request = o.request; body = o.body; terms = terms; sid = sid; host = o.host; greeting = o.greeting; at = o.at; limit = o.limit }
+
 -- what a session has seen of itself when it is opened
 abbrev pub first_seen : List ℕ → Opening → List journal_entry.Entry
-first_seen sid o = record { caller = 0; call = stored.Open sid o.host o.greeting o.body o.at } ∷ []
+first_seen sid o = record { caller = 0; call = stored.Open sid o.host o.greeting o.body o.at o.limit } ∷ []
+
+-- what was seen of a session tells a journal, and this is the answer of its creation
+pub record IsAnswered (log : List journal_entry.Entry) (answer : List ℕ) : Type 0 where
+  pub journal : Journal
+  pub is : IsJournalOf log journal
+  pub answer_is : answer ≡ answer_text (created_parts journal.opening)
 
 -- a session was started under this number: its pass has seen its opening alone, and the answer is the one of its creation
 pub record Starts (number : ℕ) (o : Opening) (x : SessionHandle) (answer : List ℕ) : Type 0 where
   pub sid : x.sid ≡ sid_of o.name number
   pub number_is : x.number ≡ number
   pub seen : (known x.pass).seen ≡ first_seen x.sid o
-  pub journal : Journal
-  pub is : IsJournalOf (known x.pass).seen journal
-  pub answer_is : answer ≡ answer_text (created_parts journal.opening)
+  pub answered : IsAnswered (known x.pass).seen answer
 
 -- a session was opened, under the name of the next opening number, and the entry tells of its gate
 pub record Opens (log : List Entry) (o : Opening) (x : Opened) (made : Option Entry) : Type 0 where

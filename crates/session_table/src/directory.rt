@@ -8,8 +8,8 @@ ghost use Rattle.session_attrs.specs.Terms.{terms_of};
 ghost use Rattle.session_table.specs.declared.calls.DirectoryCall.TheVariants as calls;
 ghost use Rattle.session_table.specs.Entering.{EntersOpening, RemovesOrNot};
 ghost use Rattle.session_table.specs.History.{IsLegal, live_at, live_of, openings_of};
-ghost use Rattle.session_table.specs.Replies.{FindsOrNot, MayOpen, Starts, Steps, live_sessions};
-ghost use Rattle.session_table.specs.Sids.{IsSidOf};
+ghost use Rattle.session_table.specs.Replies.{FindsOrNot, IsAnswered, MayOpen, Starts, Steps, first_seen, live_sessions, session_opening};
+ghost use Rattle.session_table.specs.Sids.{IsSidOf, sid_of};
 
 use crate::calls::{DirectoryReply, LiveSession, LiveSessions, Opened};
 use crate::entry::{Entry, Event};
@@ -17,23 +17,25 @@ use crate::handle::SessionHandle;
 use crate::opening::Opening;
 use crate::sid::{number_in, sid_text};
 use bosh_types::limits::{MOST_OPENINGS, MOST_SESSIONS};
-use bosh_types::{SharedText, Terms};
+use bosh_types::{SharedText, Stanzas, Terms, Text, copy_items};
 use parked_gate::Gate;
 use session_attrs::{Kind, Request, negotiate};
-use session_journal::Journalled;
+use session_core::copied_request;
+use session_journal::{History, Recorded};
 use std::alloc::{AllocError, Global};
 use std::collections::BTreeMap;
 use std::marker::Model;
 use std::snapshot::Snapshot;
 use std::sync::Arc;
 
-/// Which sessions are live. Clauses see its history.
+/// Which sessions are live. Clauses see its history, of which it keeps the count alone: of a session that was removed nothing
+/// stays in memory.
 #[derive(Drop)]
 pub struct Directory {
     alloc: Global,
     // The live sessions by their opening numbers.
     sessions: BTreeMap<u64, SessionHandle>,
-    entries: Vec<Entry>,
+    entries: History<Entry>,
     // How many sessions were opened.
     openings: u64,
 }
@@ -46,9 +48,9 @@ impl Model for Directory {
 
     ghost use Rattle.session_table.specs.Keeping.{Keeps};
 
-    ghost view = { λ d. d.entries.items };
+    ghost view = { λ d. d.entries };
 
-    ghost invariant = { λ d. Keeps d.sessions.entries d.entries.items d.openings };
+    ghost invariant = { λ d. Keeps d.sessions.entries d.entries d.openings };
 }
 
 /// A session that was just opened, and the body that answers its creation.
@@ -62,17 +64,17 @@ impl Directory {
         Directory {
             alloc,
             sessions: BTreeMap::new(alloc),
-            entries: Vec::new(alloc),
+            entries: History::new(),
             openings: 0,
         }
     }
 
-    /// The history.
-    pub fn entries(&self) -> &[Entry]
-        ensures entries { result.now ≡ self.now }
+    /// How many entries its history has.
+    pub fn count(&self) -> u64
+        ensures count { result ≡ length self.now }
         ensures legal { IsLegal self.now }
     {
-        self.entries.as_slice()
+        self.entries.len()
     }
 
     /// How many sessions are live.
@@ -116,12 +118,12 @@ impl Directory {
         ensures ok { OnOk result (EntersOpening self.old caller session self.new) }
         ensures err { OnErr result (self.new ≡ self.old) }
     {
-        self.entries.reserve(1)?;
+        self.entries.room()?;
         let sid = session.sid.again()?;
         let event = Event::Opened(Snapshot::of(&*session.gate));
         let number = session.number;
         self.sessions.insert(number, session)?;
-        self.entries.push_reserved(Entry { caller, sid, event });
+        self.entries.add(&Entry { caller, sid, event });
         self.openings = number;
         Ok(())
     }
@@ -170,10 +172,10 @@ impl Directory {
             unreachable!();
         };
         let sid = session.sid.again()?;
-        self.entries.reserve(1)?;
+        self.entries.room()?;
         self.sessions.remove(&number);
         let event = Event::Removed;
-        self.entries.push_reserved(Entry { caller, sid, event });
+        self.entries.add(&Entry { caller, sid, event });
         Ok(true)
     }
 
@@ -199,18 +201,8 @@ fn start(alloc: Global, number: u64, opening: &Opening) -> Result<Started, Alloc
     ensures { IfOk result (λ started. Starts number opening.now started.0 started.1) }
 {
     let sid = sid_text(alloc, opening.name.as_slice(), number)?;
-    let (journalled, answer) = Journalled::open(
-        alloc,
-        &opening.request,
-        opening.body.as_slice(),
-        terms_in(&opening.request),
-        sid.as_slice(),
-        opening.host.as_slice(),
-        &opening.greeting,
-        opening.at,
-        0,
-    )?;
-    let Ok((gate, pass)) = Gate::new(alloc, journalled) else {
+    let (recorded, answer) = begin(alloc, number, &sid, opening)?;
+    let Ok((gate, pass)) = Gate::new(alloc, recorded) else {
         return Err(AllocError);
     };
     let Ok(gate) = Arc::new(alloc, gate) else {
@@ -223,6 +215,47 @@ fn start(alloc: Global, number: u64, opening: &Opening) -> Result<Started, Alloc
         pass,
     };
     Ok((session, answer))
+}
+
+// The session of this name, and the body that answers its creation. Nobody keeps its entry.
+fn begin(
+    alloc: Global,
+    number: u64,
+    sid: &SharedText,
+    opening: &Opening,
+) -> Result<(Recorded, SharedText), AllocError>
+    requires may { MayOpen opening.now }
+    requires few { number ≤ most_openings }
+    requires sid { sid.now ≡ sid_of opening.now.name number }
+    ensures log { IfOk result (λ begun. begun.0.log ≡ first_seen sid.now opening.now) }
+    ensures answer { IfOk result (λ begun. IsAnswered begun.0.log begun.1) }
+{
+    let begun = Recorded::open(alloc, session_opening(alloc, sid, opening)?, 0)?;
+    Ok((begun.recorded, begun.answer))
+}
+
+// What the session of this name is opened with.
+fn session_opening(
+    alloc: Global,
+    sid: &SharedText,
+    opening: &Opening,
+) -> Result<session_core::Opening, AllocError>
+    requires { (creation : Creation) × (opening.now.request.kind ≡ kinds.Creation creation) }
+    ensures { IfOk result (λ made. (creation : Creation) → opening.now.request.kind ≡ kinds.Creation creation → made ≡ session_opening sid.now (terms_of creation) opening.now) }
+{
+    let request = copied_request(alloc, &opening.request)?;
+    let sid = Vec::from_slice(alloc, sid.as_slice())?;
+    let greeting = copy_items(alloc, opening.greeting.as_slice())?;
+    Ok(session_core::Opening {
+        request,
+        body: opening.body.again()?,
+        terms: terms_in(&opening.request),
+        sid: Text::from_vec(sid),
+        host: opening.host.again()?,
+        greeting: Stanzas::from_vec(greeting),
+        at: opening.at,
+        limit: opening.limit,
+    })
 }
 
 // The terms of the session that the request creates.

@@ -6,7 +6,7 @@ ghost use Rattle.session_table.specs.Opens.{opened_sid};
 
 use bosh_types::SharedText;
 use parked_gate::{Gate, Pass};
-use session_journal::Journalled;
+use session_journal::Recorded;
 use std::alloc::{AllocError, Global};
 use std::sync::Arc;
 
@@ -16,8 +16,8 @@ pub struct SessionHandle {
     pub sid: SharedText,
     /// How many sessions were opened up to it.
     pub number: u64,
-    pub gate: Arc<Gate<Journalled>, Global>,
-    pub pass: Pass<Journalled>,
+    pub gate: Arc<Gate<Recorded>, Global>,
+    pub pass: Pass<Recorded>,
     pub ghost fits: { IsPassOf (arc_value gate) pass },
     // The pass has seen that the session was opened under this name.
     pub ghost opened: { opened_sid (known pass).seen ≡ Some sid },

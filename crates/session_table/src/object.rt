@@ -73,6 +73,6 @@ impl Object for Directory {
     }
 
     fn count(&self) -> u64 {
-        self.entries().len() as u64
+        Directory::count(self)
     }
 }

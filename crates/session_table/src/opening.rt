@@ -11,4 +11,6 @@ pub struct Opening {
     pub request: Request,
     pub body: SharedText,
     pub at: Moment,
+    /// How many counted bytes its journal may have.
+    pub limit: u64,
 }

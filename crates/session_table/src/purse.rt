@@ -1,5 +1,5 @@
 // What one worker keeps of the directory.
-ghost use Rattle.std.specs.Prelude.{◌≡◌, ◌==◌, ◌≤◌, IfNone, IfOk, IfSome, IsSome, None, OnErr, OnOk, Some};
+ghost use Rattle.std.specs.Prelude.{◌≡◌, ◌==◌, ◌≤◌, ℕ, IfNone, IfOk, IfSome, IsSome, None, OnErr, OnOk, Some};
 ghost use Rattle.std.specs.List.{list_any};
 ghost use Rattle.std.specs.BTreeMap.{IsEmpty, IsUnchanged};
 ghost use Rattle.bosh_ports.specs.Faults.{HasRisen};
@@ -189,6 +189,14 @@ impl Purse {
         ensures directory { self.new.directory ≡ self.old.directory }
     {
         self.sessions.remove(&number);
+    }
+
+    /// Lets every session go, so that whoever is idle keeps none of them in memory. One that is wanted again is found again.
+    pub fn let_all_go(&mut self)
+        ensures none { (number : ℕ) → held self.new.sessions number ≡ None }
+        ensures directory { self.new.directory ≡ self.old.directory }
+    {
+        self.sessions.clear();
     }
 
     /// Makes a call of the session with this opening number. The only error is want of memory.

@@ -1,48 +1,15 @@
 // A session's calls in a row, with what each is told.
 ghost use Rattle.std.specs.Prelude.{◌≡◌, ℕ, IfSome, IsTrue, List, [], true};
 ghost use Rattle.body_cutter.specs.Cutting.{is_stanza};
-ghost use Rattle.session_attrs.specs.declared.request.Kind.TheVariants as kinds;
-ghost use Rattle.session_core.specs.Journal.{IsReadFrom};
 
-use body_cutter::{cut, read_stanza};
-use bosh_types::{Closing, Ending, Inward, Moment, SharedText, Stanzas, StreamNo, Ticket};
-use session_attrs::{Creation, Kind, Request, negotiate, read_request};
+use crate::openings::{is_later, opening_with, request_in, text};
+use body_cutter::read_stanza;
+use bosh_types::limits::JOURNAL_BYTES;
+use bosh_types::{Closing, Ending, Inward, Moment, SharedText, StreamNo, Ticket};
 use session_core::{Arrived, Collected, Session, Taken};
 use std::alloc::Global;
 use std::process::Abort;
 use std::test::Fail;
-
-// The request that this body is, if it is one.
-fn request_in(alloc: Global, body: &[u8]) -> Option<Request>
-    ensures { IfSome result (λ request. IsReadFrom body.now request) }
-{
-    let Ok(parts) = cut(alloc, body) else {
-        return None;
-    };
-    match read_request(alloc, &parts, body) {
-        Ok(request) => Some(request),
-        Err(_) => None,
-    }
-}
-
-// What the request asks for, if it creates a session.
-fn creation_in(request: &Request) -> Option<Creation>
-    ensures { IfSome result (λ creation. request.now.kind ≡ kinds.Creation creation) }
-{
-    match &request.kind {
-        Kind::Creation(creation) => Some(*creation),
-        Kind::Later { .. } => None,
-    }
-}
-
-fn is_later(request: &Request) -> bool
-    ensures { result ≡ true → (sid : List ℕ) × (request.now.kind ≡ kinds.Later sid) }
-{
-    match &request.kind {
-        Kind::Creation(_) => false,
-        Kind::Later { .. } => true,
-    }
-}
 
 #[tactic(auto, unfolding(body_cutter::specs::Cutting::is_stanza))]
 fn is_one_stanza(alloc: Global, text: &[u8]) -> bool
@@ -54,31 +21,10 @@ fn is_one_stanza(alloc: Global, text: &[u8]) -> bool
     }
 }
 
-fn no_stanzas(alloc: Global) -> Stanzas
-    ensures { result ≡ [] }
-{
-    Stanzas::from_vec(Vec::new(alloc))
-}
-
 // A session for this creation, with no greeting, and its answer.
 fn opened(alloc: Global, body: &[u8]) -> Result<(Session, SharedText), Fail> {
-    let Some(request) = request_in(alloc, body) else {
-        return Err("a request")?;
-    };
-    let Some(creation) = creation_in(&request) else {
-        return Err("a creation")?;
-    };
-    let greeting = no_stanzas(alloc);
-    Ok(Session::open(
-        alloc,
-        &request,
-        body,
-        negotiate(&creation),
-        b"s1",
-        b"example.org",
-        &greeting,
-        Moment::from_millis(0),
-    )?)
+    let opening = opening_with(alloc, body, JOURNAL_BYTES)?;
+    Ok(Session::open(alloc, &opening)?)
 }
 
 // A request for the session arrives with this body.
@@ -94,7 +40,8 @@ fn arrived(
     if !is_later(&request) {
         return Err("a later request")?;
     }
-    Ok(session.arrive(alloc, &request, body, now)?)
+    let body = text(alloc, body)?;
+    Ok(session.arrive(alloc, &request, &body, now)?)
 }
 
 // The server gives a stanza.
@@ -102,7 +49,8 @@ fn given(alloc: Global, session: &mut Session, stanza: &[u8], now: Moment) -> Re
     if !is_one_stanza(alloc, stanza) {
         return Err("a stanza")?;
     }
-    Ok(session.back(alloc, StreamNo::unnamed(), stanza, now)?)
+    let stanza = text(alloc, stanza)?;
+    Ok(session.back(alloc, StreamNo::unnamed(), &stanza, now)?)
 }
 
 // One call. A request has its id, more attributes, its stanzas and its moment.
@@ -145,6 +93,8 @@ fn told_of_inward(alloc: Global, reply: Option<Inward>) -> Result<String, Fail> 
     match reply {
         Some(Inward::Item(_, text)) => words(alloc, "Item", &text),
         Some(Inward::Restart(_)) => Ok(format!(in alloc; "Restart")?),
+        Some(Inward::Open(_, to)) => words(alloc, "Open", &to),
+        Some(Inward::Close(_)) => Ok(format!(in alloc; "Close")?),
         None => Ok(format!(in alloc; "None")?),
     }
 }

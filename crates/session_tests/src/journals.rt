@@ -3,54 +3,23 @@ ghost use Rattle.std.specs.Prelude.{◌≡◌, ℕ, All, IfOk, IfSome, IsTrue, L
 ghost use Rattle.std.specs.Thread.{IsSync};
 ghost use Rattle.body_cutter.specs.Cutting.{is_stanza};
 ghost use Rattle.parked_gate.specs.Passes.{IsPassOf};
-ghost use Rattle.session_attrs.specs.declared.request.Kind.TheVariants as kinds;
-ghost use Rattle.session_core.specs.Journal.{IsAllowed, IsReadFrom};
+ghost use Rattle.session_core.specs.Journal.{IsAllowed};
 ghost use Rattle.session_journal.specs.Calls.{call_in};
 
-use body_cutter::{cut, read_stanza};
+use crate::openings::{is_later, opening_with, request_in, text};
+use body_cutter::read_stanza;
 use bosh_ports::SteadyBell;
-use bosh_types::{Ending, Inward, Moment, Row, SharedText, Stanzas, StreamNo, Ticket};
+use bosh_types::limits::JOURNAL_BYTES;
+use bosh_types::{Ending, Inward, Moment, SharedText, StreamNo, Ticket};
 use parked_gate::{Gate, Pass, Waited};
-use session_attrs::{Creation, Kind, Request, negotiate, read_request};
 use session_core::{Arrived, Collected, Taken, Waiting};
-use session_journal::{Answer, Call, Entered, Entry, Found, Journalled, Limited, Question, Reply};
+use session_journal::{
+    Answer, Call, Entered, Entry, Found, Journalled, Limited, Question, Recorded, Reply,
+};
 use std::alloc::{AllocError, Global};
 use std::sync::Wait;
 use std::test::Fail;
 use std::thread::{Threads, join};
-
-/// The request that this body is, if it is one.
-fn request_in(alloc: Global, text: &[u8]) -> Option<Request>
-    ensures { IfSome result (λ request. IsReadFrom text.now request) }
-{
-    let Ok(parts) = cut(alloc, text) else {
-        return None;
-    };
-    match read_request(alloc, &parts, text) {
-        Ok(request) => Some(request),
-        Err(_) => None,
-    }
-}
-
-/// What the request asks for, if it creates a session.
-fn creation_in(request: &Request) -> Option<Creation>
-    ensures { IfSome result (λ creation. request.now.kind ≡ kinds.Creation creation) }
-{
-    match &request.kind {
-        Kind::Creation(creation) => Some(*creation),
-        Kind::Later { .. } => None,
-    }
-}
-
-/// Whether the request is for a session that there is.
-fn is_later(request: &Request) -> bool
-    ensures { result ≡ true → (sid : List ℕ) × (request.now.kind ≡ kinds.Later sid) }
-{
-    match &request.kind {
-        Kind::Creation(_) => false,
-        Kind::Later { .. } => true,
-    }
-}
 
 /// Whether the text is a stanza by itself.
 #[tactic(auto, unfolding(body_cutter::specs::Cutting::is_stanza))]
@@ -63,45 +32,16 @@ fn is_stanza(alloc: Global, text: &[u8]) -> bool
     }
 }
 
-fn no_stanzas(alloc: Global) -> Stanzas
-    ensures { result ≡ [] }
-{
-    Stanzas::from_vec(Vec::new(alloc))
-}
+// A creation that asks to hold one request.
+const CREATION: &[u8] =
+    b"<body rid='1000' to='example.org' wait='60' hold='1' ver='1.6' xmlns='http://jabber.org/protocol/httpbind'/>";
 
-/// A session whose creation asks to hold one request.
-fn opened(alloc: Global) -> Result<Journalled, &'static str>
-    ensures { IfOk result (λ journalled. All (λ e. e.caller ≡ 0) journalled) }
+/// A session that hands out its entries.
+fn opened(alloc: Global) -> Result<Recorded, Fail>
+    ensures { IfOk result (λ recorded. All (λ e. e.caller ≡ 0) recorded.log) }
 {
-    let body =
-        b"<body rid='1000' to='example.org' wait='60' hold='1' ver='1.6' xmlns='http://jabber.org/protocol/httpbind'/>";
-    let Some(request) = request_in(alloc, body) else {
-        return Err("no request");
-    };
-    let Some(creation) = creation_in(&request) else {
-        return Err("no creation");
-    };
-    let greeting = no_stanzas(alloc);
-    match Journalled::open(
-        alloc,
-        &request,
-        body,
-        negotiate(&creation),
-        b"s1",
-        b"example.org",
-        &greeting,
-        Moment::from_millis(0),
-        0,
-    ) {
-        Ok((journalled, _text)) => Ok(journalled),
-        Err(AllocError) => Err("no memory"),
-    }
-}
-
-fn text(alloc: Global, bytes: &[u8]) -> Result<SharedText, AllocError>
-    ensures { IfOk result (λ text. text ≡ bytes.now) }
-{
-    SharedText::new(alloc, Row::from_vec(Vec::from_slice(alloc, bytes)?))
+    let begun = Recorded::open(alloc, opening_with(alloc, CREATION, JOURNAL_BYTES)?, 0)?;
+    Ok(begun.recorded)
 }
 
 /// The arrival of a body at a moment.
@@ -146,7 +86,8 @@ const FIRST: &[u8] =
 
 #[test]
 fn a_call_is_entered_and_a_poll_that_finds_nothing_is_not(rt: HostRuntime) -> Result<(), Fail> {
-    let mut journalled = opened(rt.alloc())?;
+    let opening = opening_with(rt.alloc(), CREATION, JOURNAL_BYTES)?;
+    let (mut journalled, _text) = Journalled::open(rt.alloc(), opening, 0)?;
     let reply = journalled.step(1, arrival(rt.alloc(), FIRST, 10)?)?;
     assert!(rt; matches!(&reply, Reply::Arrive(Arrived::Parked(_))));
     let collected = journalled.poll(2, Ticket::new(1));
@@ -158,12 +99,12 @@ fn a_call_is_entered_and_a_poll_that_finds_nothing_is_not(rt: HostRuntime) -> Re
 }
 
 /// A session behind a gate.
-fn gate(alloc: Global) -> Result<(Gate<Journalled>, Pass<Journalled>), &'static str>
+fn gate(alloc: Global) -> Result<(Gate<Recorded>, Pass<Recorded>), Fail>
     ensures { IfOk result (λ made. IsPassOf made.0 made.1) }
 {
     match Gate::new(alloc, opened(alloc)?) {
         Ok(made) => Ok(made),
-        Err(_) => Err("no memory"),
+        Err(_) => Err("memory")?,
     }
 }
 
@@ -214,10 +155,10 @@ type Made = Result<Reply, AllocError>;
 /// Two calls, each in a thread of its own. A pass goes into its thread by value, and comes back.
 fn call_in_two_threads<R: Threads + Wait + Sync>(
     rt: &R,
-    gate: &Gate<Journalled>,
-    passes: (Pass<Journalled>, Pass<Journalled>),
+    gate: &Gate<Recorded>,
+    passes: (Pass<Recorded>, Pass<Recorded>),
     calls: (Call, Call),
-) -> (Pass<Journalled>, Made, Made)
+) -> (Pass<Recorded>, Made, Made)
     requires first { IsPassOf gate.now passes.0 × IsAllowed (call_in calls.0) }
     requires second { IsPassOf gate.now passes.1 × IsAllowed (call_in calls.1) }
     ensures { IsPassOf gate.now result.0 }
@@ -226,14 +167,14 @@ fn call_in_two_threads<R: Threads + Wait + Sync>(
     let (early, late) = calls;
     let ((mut first, answered), (second, parked)) = join(
         rt,
-        move || -> (Pass<Journalled>, Made)
+        move || -> (Pass<Recorded>, Made)
             requires { IsSync R.row × IsPassOf gate.now first × IsAllowed (call_in early) }
             ensures { IsPassOf gate.entry.now result.0 }
         {
             let reply = gate.call(rt, &mut first, early);
             (first, reply)
         },
-        move || -> (Pass<Journalled>, Made)
+        move || -> (Pass<Recorded>, Made)
             requires { IsSync R.row × IsPassOf gate.now second × IsAllowed (call_in late) }
             ensures { IsPassOf gate.entry.now result.0 }
         {
@@ -266,8 +207,8 @@ fn text_found(found: Option<Found>) -> Option<SharedText> {
 /// What an arrival was answered, at once or through its ticket.
 fn answer_to<R: Wait>(
     rt: &R,
-    gate: &Gate<Journalled>,
-    pass: &mut Pass<Journalled>,
+    gate: &Gate<Recorded>,
+    pass: &mut Pass<Recorded>,
     reply: Reply,
 ) -> Option<SharedText>
     requires { IsPassOf gate.now pass.old }
@@ -285,15 +226,15 @@ fn stanza_in(reply: Reply) -> Option<SharedText> {
     };
     match item? {
         Inward::Item(_, stanza) => Some(stanza),
-        Inward::Restart(_) => None,
+        Inward::Restart(_) | Inward::Open(_, _) | Inward::Close(_) => None,
     }
 }
 
 /// The next stanza of the client.
 fn stanza_taken<R: Wait>(
     rt: &R,
-    gate: &Gate<Journalled>,
-    pass: &mut Pass<Journalled>,
+    gate: &Gate<Recorded>,
+    pass: &mut Pass<Recorded>,
 ) -> Option<SharedText>
     requires { IsPassOf gate.now pass.old }
     ensures { IsPassOf gate.now pass.new }
@@ -416,11 +357,11 @@ fn cost_of(ending: Option<Ending>) -> Option<u64> {
     }
 }
 
-/// A stanza of a million bytes.
+/// A stanza of a thousand bytes.
 fn long_stanza(alloc: Global) -> Result<SharedText, &'static str>
     ensures { IfOk result (λ stanza. IsTrue (is_stanza stanza)) }
 {
-    let Ok(stanza) = message(alloc, 1_000_000) else {
+    let Ok(stanza) = message(alloc, 1_000) else {
         return Err("no memory");
     };
     if !is_stanza(alloc, stanza.as_bytes()) {
@@ -442,11 +383,12 @@ fn last_limit(journalled: &Journalled) -> Option<(u32, u64)> {
 
 #[test]
 fn the_call_that_meets_the_limit_is_entered_by_its_cost(rt: HostRuntime) -> Result<(), Fail> {
-    let mut journalled = opened(rt.alloc())?;
+    let opening = opening_with(rt.alloc(), CREATION, 4_000)?;
+    let (mut journalled, _text) = Journalled::open(rt.alloc(), opening, 0)?;
     let stanza = long_stanza(rt.alloc())?;
-    assert_eq!(rt; give(&mut journalled, &stanza, 20)?, 4);
-    assert_eq!(rt; entry_count(&journalled), 18);
-    assert_eq!(rt; last_limit(&journalled), Some((3, 1_000_064)));
-    assert_eq!(rt; cost_of(journalled.ending()), Some(1_000_064));
+    assert_eq!(rt; give(&mut journalled, &stanza, 20)?, 3);
+    assert_eq!(rt; entry_count(&journalled), 5);
+    assert_eq!(rt; last_limit(&journalled), Some((3, 1_064)));
+    assert_eq!(rt; cost_of(journalled.ending()), Some(1_064));
     Ok(())
 }

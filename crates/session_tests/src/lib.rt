@@ -6,4 +6,6 @@ mod calls;
 #[cfg(test)]
 mod journals;
 #[cfg(test)]
+mod openings;
+#[cfg(test)]
 mod parts;

@@ -127,13 +127,27 @@ fn holds_the_oldest_first(rt: HostRuntime) -> Result<(), Fail> {
 #[test]
 fn passes_inward_in_order(rt: HostRuntime) -> Result<(), Fail> {
     let mut inbox = Inbox::new(rt.alloc());
-    inbox.push(Inward::Item(StreamNo::unnamed(), text(rt.alloc(), 3)?))?;
+    inbox.push(item(rt.alloc(), 3)?)?;
     inbox.push(Inward::Restart(StreamNo::unnamed()))?;
     let mut copy = inbox.copied(rt.alloc())?;
-    assert!(rt; matches!(inbox.take_first(), Some(Inward::Item(_, text)) if text.len() == 3));
+    assert_eq!(rt; size_of(inbox.take_first()), Some(3));
     assert!(rt; matches!(inbox.take_first(), Some(Inward::Restart(_))));
     assert!(rt; inbox.take_first().is_none());
     assert!(rt; inbox.is_empty() && !copy.is_empty());
-    assert!(rt; matches!(copy.take_first(), Some(Inward::Item(_, _))));
+    assert_eq!(rt; size_of(copy.take_first()), Some(3));
     Ok(())
+}
+
+// A stanza of so many bytes, on its way inward.
+fn item(alloc: Global, size: usize) -> Result<Inward, AllocError> {
+    let text = text(alloc, size)?;
+    Ok(Inward::Item(StreamNo::unnamed(), text))
+}
+
+// How many bytes the stanza has, where it is one.
+fn size_of(item: Option<Inward>) -> Option<usize> {
+    match item? {
+        Inward::Item(_, text) => Some(text.len()),
+        Inward::Restart(_) | Inward::Open(_, _) | Inward::Close(_) => None,
+    }
 }

@@ -1,5 +1,0 @@
-use Rattle.session_journal.proofs.ObjectLemmas.{step_replies}
-use Rattle.session_journal.proofs.object.JournalledObject.step.Goals as goal
-
-pub returns : goal.returns
-returns c = step_replies c.args.self.now c.step.new.self c.args.caller c.args.call c.step.result c.step.ensures.step c.step.ensures.kind c.step.ensures.err

@@ -1,6 +1,0 @@
-use Rattle.std.proofs.Common.{subst}
-use Rattle.session_table.specs.History.{IsLegal}
-use Rattle.session_table.proofs.directory.Directory.entries.Goals as goal
-
-pub returns-clause-legal : goal.returns-clause-legal
-returns-clause-legal c = subst IsLegal c.self.view_is (c.self.invariant).legal
