@@ -1,7 +1,7 @@
 -- What becomes of what is given to a session, and moves with it.
 use Rattle.std.proofs.Common.{◌≡◌, ◌≢◌, ◌/◌, ◌+◌, ℕ, List, length, Option, Some, None, Result, Ok, Err, refl, sym, subst, ap, ◌∙◌, false, true≢false}
 use Rattle.std.specs.Bool.{⊤}
-use Rattle.std.specs.Prelude.{is_some, ◌||◌, true}
+use Rattle.std.specs.Prelude.{IfSome, is_some, ◌||◌, true}
 use Rattle.std.specs.Result.{IsErr}
 use Rattle.std.specs.declared.alloc.AllocError.{AllocError}
 use Rattle.bosh_types.specs.declared.ending.Closing.{Closing}
@@ -21,18 +21,22 @@ use Rattle.session_journal.specs.declared.call.Reply.TheVariants as replies
 use Rattle.session_journal.specs.declared.entry.Entry.{Entry}
 use Rattle.session_table.specs.Purses.{OthersStay, Sessions, Turned, held}
 use Rattle.xmpp_backend.specs.Counts.{counted_on}
-use Rattle.xmpp_backend.specs.Told.{given_too}
+use Rattle.xmpp_backend.specs.Told.{given_too, held_too}
 use Rattle.xmpp_backend.specs.declared.backend.Given.{Given}
 use Rattle.xmpp_backend.specs.declared.backend.Given.TheVariants as given
 use Rattle.session_pump.specs.Ends.{Changes, Ends, GivesOn, HasFailed, Shifts}
-use Rattle.session_pump.specs.Giving.{FindsNoRoom, GiveMoves, Gives, GivesOnce, GivesTimes, HadNoRoom, HasRoom, HostSide, IsAsked, IsReady, LacksRoom, OnceReady, PollGave, PollsHost, PollsOut, Refuses, Takes, Tried, again, asks, called, does_nothing, fails, finds_nothing, finds_room, gave_much, gives, had_no_room, had_nothing, has_failed, has_room, is_full, is_refused, lacks_room, lets_go, more, most_polls, moves, never, none, polls, wants_memory}
-use Rattle.session_pump.specs.Sides.{Called, ClosesStream, IsAt}
+use Rattle.session_pump.specs.Taking.{FindsNoRoom, Gives, HasRoom, IsAsked, IsReady, LacksRoom, OnceReady, Refuses, Takes, Tried, called, finds_room, has_room, is_full, lacks_room}
+use Rattle.session_pump.specs.Giving.{ComesFirst, GiveMoves, GivesOnce, GivesTimes, HadNoRoom, HostSide, PollGave, PollsHost, PollsOut, again, asks, does_nothing, fails, finds_nothing, gave_much, gives, had_no_room, had_nothing, had_one_before, has_failed, is_held, is_refused, lets_go, more, most_polls, moves, never, none, polls, wants_memory}
+use Rattle.session_pump.specs.Pumping.{LineTurns, Lines, line_of}
+use Rattle.session_pump.specs.declared.line.Line.{Line}
+use Rattle.session_pump.specs.declared.line.Stage.TheVariants as stages
+use Rattle.session_pump.specs.Calling.{Called, ClosesStream, IsAt}
 use Rattle.bosh_types.specs.Limits.{most_streams}
 use Rattle.session_pump.specs.declared.line.Owing.{Owing}
 use Rattle.session_pump.specs.declared.giving.Giving.{Giving}
 use Rattle.session_pump.specs.declared.giving.Giving.TheVariants as givings
 use Rattle.session_pump.proofs.MovesLemmas.{ends_are}
-use Rattle.session_pump.proofs.TurnedLemmas.{turned_as, turned_then}
+use Rattle.session_pump.proofs.TurnedLemmas.{some_same, turned_as, turned_then}
 
 says_so : (moment : Option ℕ) (now : ℕ) (text : List ℕ) (giving : Giving) (reply : Reply) (k m : Known Entry)
     → (giving ≡ givings.Done → (taken : Taken) × (reply ≡ replies.Back taken) × (taken ≢ takings.Full)) → (giving ≡ givings.Full → reply ≡ replies.Back takings.Full)
@@ -62,127 +66,217 @@ pub close_tried : (moment : Option ℕ) (number : ℕ) (closing : Closing) (a b 
 close_tried moment number closing a b error turned =
     turned_as number a b (ClosesStream moment closing (Err error)) Tried (λ k m made. called (calls.BackClosed 0 closing made.0) error made.1) turned
 
--- a host with this kept, these back ends and these sessions
-abbrev pub host : Option Owing → Ends → Sessions → HostSide
-host kept ends sessions = record { kept = kept; ends = ends; sessions = sessions }
+-- a host at this place with this kept, these back ends, sessions and lines
+abbrev pub host : ℕ → Option Owing → Ends → Sessions → Lines → HostSide
+host place kept ends sessions lines = record { place = place; kept = kept; ends = ends; sessions = sessions; lines = lines }
 
 pub gives_then : {moment : Option ℕ} {h i j : HostSide} → GiveMoves moment h i → GiveMoves moment i j → GiveMoves moment h j
 gives_then first none = first
 gives_then first (more rest last) = more (gives_then first rest) last
 
--- its session is no more
-pub is_gone : {moment : Option ℕ} (kept : Option Owing) (owing : Owing) (ends : Ends) (s : Sessions) → kept ≡ Some owing → held s owing.number ≡ None
-    → GiveMoves moment (host kept ends s) (host None ends s)
-is_gone kept owing ends s is gone = more none (lets_go owing is gone)
-
 pub looks_any : {P : List Entry → Type 0} {k m : Known Entry} → Looks P k m → Looks (λ _. Unit {0}) k m
 looks_any looks = record { begins = looks.begins; says = tt; mine = looks.mine; earlier = looks.earlier; learnt = looks.learnt }
 
-kept_by : (moment : Option ℕ) (kept : Option Owing) (owing : Owing) (ends : Ends) (s : Sessions) (h : HostSide) → kept ≡ Some owing
-    → GiveMoves moment (host (Some owing) ends s) h → GiveMoves moment (host kept ends s) h
-kept_by moment kept owing ends s h is = subst (λ (k : Option Owing). GiveMoves moment (host k ends s) h) (sym is)
-
--- its session was asked for room
-pub is_asked : {moment : Option ℕ} (kept : Option Owing) (owing : Owing) (ends : Ends) (s t : Sessions) → kept ≡ Some owing
-    → Turned owing.number s t IsAsked → OthersStay owing.number s t → GiveMoves moment (host kept ends s) (host (Some owing) ends t)
-is_asked {moment} kept owing ends s t is turned others = kept_by moment kept owing ends s (host (Some owing) ends t) is (more none (asks owing t refl turned others))
-
 -- it was given once that was ready
-once_ready : (owing : Owing) (s t u : Sessions) (Given : Known Entry → Known Entry → Type 0) → Turned owing.number s t (IsReady owing) → Turned owing.number t u Given
-    → Turned owing.number s u (OnceReady owing Given)
-once_ready owing s t u Given ready turned = turned_then owing.number s t u (IsReady owing) Given (OnceReady owing Given) (λ k l m is given. (l, is, given)) ready turned
+pub once_ready : (number : ℕ) (owing : Owing) (s t u : Sessions) (Given : Known Entry → Known Entry → Type 0) → Turned number s t (IsReady owing) → Turned number t u Given
+    → Turned number s u (OnceReady owing Given)
+once_ready number owing s t u Given ready turned = turned_then number s t u (IsReady owing) Given (OnceReady owing Given) (λ k l m is given. (l, is, given)) ready turned
 
 both_stay : (number : ℕ) (s t u : Sessions) → OthersStay number s t → OthersStay number t u → OthersStay number s u
 both_stay number s t u first second other apart = second other apart ∙ first other apart
 
--- its session took it
-pub is_taken : {moment : Option ℕ} (kept : Option Owing) (owing : Owing) (ends : Ends) (s t u : Sessions) (giving : Giving) → kept ≡ Some owing → giving ≡ givings.Done
-    → Turned owing.number s t (IsReady owing) → OthersStay owing.number s t
-    → Turned owing.number t u (Gives moment owing.given (Ok giving)) → OthersStay owing.number t u → GiveMoves moment (host kept ends s) (host None ends u)
-is_taken {moment} kept owing ends s t u giving is done ready stay turned others =
-    kept_by moment kept owing ends s (host None ends u) is
-    (more none (gives owing u refl
-    (once_ready owing s t u (Takes moment owing.given) ready (subst (λ g. Turned owing.number t u (Gives moment owing.given (Ok g))) done turned))
-    (both_stay owing.number s t u stay others)))
+idled_as : (place : ℕ) (R : HostSide → Type 0) (kept kept' : Option Owing) (e f : Ends) (s : Sessions) (l : Lines) → kept' ≡ kept
+    → Shifts (λ told. told) counted_on (λ count. count) e f
+    → R (host place kept (record e { told = f.told; idle = counted_on e.idle }) s l) → R (host place kept' f s l)
+idled_as place R kept kept' e f s l same shifts is =
+    subst (λ (k : Option Owing). R (host place k f s l)) (sym same)
+    (subst (λ (ends : Ends). R (host place kept ends s l)) (ends_are (λ told. told) counted_on (λ count. count) e f shifts) is)
 
--- its session has no room
-pub is_full_for : {moment : Option ℕ} (kept : Option Owing) (owing later : Owing) (ends : Ends) (s t u : Sessions) (giving : Giving) → kept ≡ Some owing → giving ≡ givings.Full
-    → later.number ≡ owing.number → later.given ≡ owing.given → later.was_refused ≡ true → Turned owing.number s t (IsReady owing) → OthersStay owing.number s t
-    → Turned owing.number t u (Gives moment owing.given (Ok giving)) → OthersStay owing.number t u → GiveMoves moment (host kept ends s) (host (Some later) ends u)
-is_full_for {moment} kept owing later ends s t u giving is full number same marked ready stay turned others =
-    kept_by moment kept owing ends s (host (Some later) ends u) is
-    (more none (is_refused owing later u refl number same marked
-    (once_ready owing s t u (Refuses moment owing.given) ready (subst (λ g. Turned owing.number t u (Gives moment owing.given (Ok g))) full turned))
-    (both_stay owing.number s t u stay others)))
+module _ {moment : Option ℕ} {place : ℕ} where
+  -- its session is no more
+  pub is_gone : (kept : Option Owing) (owing : Owing) (ends : Ends) (s : Sessions) (l : Lines) → kept ≡ Some owing → held s owing.number ≡ None
+      → GiveMoves moment (host place kept ends s l) (host place None ends s l)
+  is_gone kept owing ends s l is gone = more none (lets_go owing is gone)
 
--- there was no memory for it
-pub is_wanted : {moment : Option ℕ} (kept : Option Owing) (owing : Owing) (ends : Ends) (s t u : Sessions) → kept ≡ Some owing
-    → Turned owing.number s t IsAsked → OthersStay owing.number s t → Turned owing.number t u Tried → OthersStay owing.number t u
-    → GiveMoves moment (host kept ends s) (host (Some owing) ends u)
-is_wanted kept owing ends s t u is asked stay turned others =
-    gives_then (is_asked kept owing ends s t is asked stay) (more none (wants_memory owing.number u turned others))
+  pub kept_by : (kept : Option Owing) (owing : Owing) (ends : Ends) (s : Sessions) (l : Lines) (h : HostSide) → kept ≡ Some owing
+      → GiveMoves moment (host place (Some owing) ends s l) h → GiveMoves moment (host place kept ends s l) h
+  kept_by kept owing ends s l h is = subst (λ (k : Option Owing). GiveMoves moment (host place k ends s l) h) (sym is)
 
-polled_as : (kept : Option Owing) (owing : Owing) (e f : Ends) (s : Sessions) → record e { told = f.told; answers = counted_on e.answers } ≡ f
-    → host (Some owing) f s ≡ record (host kept e s) { kept = Some owing; ends = record e { told = f.told; answers = counted_on e.answers } }
-polled_as kept owing e f s same = ap (λ (ends : Ends). host (Some owing) ends s) (sym same)
+  -- its session was asked for room
+  pub is_asked : (kept : Option Owing) (owing : Owing) (ends : Ends) (s t : Sessions) (l : Lines) → kept ≡ Some owing
+      → Turned owing.number s t IsAsked → OthersStay owing.number s t → GiveMoves moment (host place kept ends s l) (host place (Some owing) ends t l)
+  is_asked kept owing ends s t l is turned others = kept_by kept owing ends s l (host place (Some owing) ends t l) is (more none (asks owing t refl turned others))
+
+  -- its session took it
+  pub is_taken : (kept : Option Owing) (owing : Owing) (ends : Ends) (s t u : Sessions) (l : Lines) (giving : Giving) → kept ≡ Some owing → giving ≡ givings.Done
+      → ComesFirst owing.number l → Turned owing.number s t (IsReady owing) → OthersStay owing.number s t
+      → Turned owing.number t u (Gives moment owing.given (Ok giving)) → OthersStay owing.number t u
+      → GiveMoves moment (host place kept ends s l) (host place None ends u l)
+  is_taken kept owing ends s t u l giving is done first ready stay turned others =
+      kept_by kept owing ends s l (host place None ends u l) is
+      (more none (gives owing u refl first
+      (once_ready owing.number owing s t u (Takes moment owing.given) ready (subst (λ g. Turned owing.number t u (Gives moment owing.given (Ok g))) done turned))
+      (both_stay owing.number s t u stay others)))
+
+  -- its session has no room
+  pub is_full_for : (kept : Option Owing) (owing later : Owing) (ends : Ends) (s t u : Sessions) (l : Lines) (giving : Giving) → kept ≡ Some owing → giving ≡ givings.Full
+      → ComesFirst owing.number l → later.number ≡ owing.number → later.wire ≡ owing.wire → later.given ≡ owing.given → later.was_refused ≡ true
+      → Turned owing.number s t (IsReady owing) → OthersStay owing.number s t
+      → Turned owing.number t u (Gives moment owing.given (Ok giving)) → OthersStay owing.number t u
+      → GiveMoves moment (host place kept ends s l) (host place (Some later) ends u l)
+  is_full_for kept owing later ends s t u l giving is full first number wire same marked ready stay turned others =
+      kept_by kept owing ends s l (host place (Some later) ends u l) is
+      (more none (is_refused owing later u refl first number wire same marked
+      (once_ready owing.number owing s t u (Refuses moment owing.given) ready (subst (λ g. Turned owing.number t u (Gives moment owing.given (Ok g))) full turned))
+      (both_stay owing.number s t u stay others)))
+
+  -- there was no memory for it
+  pub is_wanted : (kept : Option Owing) (owing : Owing) (ends : Ends) (s t u : Sessions) (l : Lines) → kept ≡ Some owing
+      → Turned owing.number s t IsAsked → OthersStay owing.number s t → Turned owing.number t u Tried → OthersStay owing.number t u
+      → GiveMoves moment (host place kept ends s l) (host place (Some owing) ends u l)
+  is_wanted kept owing ends s t u l is asked stay turned others =
+      gives_then (is_asked kept owing ends s t l is asked stay) (more none (wants_memory owing.number u turned others))
+
+  -- it had nothing to give
+  pub is_idle : (kept kept' : Option Owing) (e f : Ends) (s : Sessions) (l : Lines) → kept ≡ None → kept' ≡ kept → Shifts (λ told. told) counted_on (λ count. count) e f
+      → PollsOut moment (host place kept e s l) (host place kept' f s l)
+  is_idle kept kept' e f s l empty same shifts =
+      idled_as place (PollsOut moment (host place kept e s l)) kept kept' e f s l same shifts (had_nothing f.told none empty shifts.told)
+
+  pub idle_moves : (kept kept' : Option Owing) (e f : Ends) (s : Sessions) (l : Lines) → kept ≡ None → kept' ≡ kept → Shifts (λ told. told) counted_on (λ count. count) e f
+      → GiveMoves moment (host place kept e s l) (host place kept' f s l)
+  idle_moves kept kept' e f s l empty same shifts =
+      idled_as place (GiveMoves moment (host place kept e s l)) kept kept' e f s l same shifts (more none (finds_nothing f.told empty shifts.told))
+
+  -- there was no memory for a poll
+  pub polls_not : (kept kept' : Option Owing) (e f : Ends) (s : Sessions) (l : Lines) → kept' ≡ kept → Changes (λ told. told) e f
+      → GiveMoves moment (host place kept e s l) (host place kept' f s l)
+  polls_not kept kept' e f s l same changes =
+      subst (λ (k : Option Owing). GiveMoves moment (host place kept e s l) (host place k f s l)) (sym same)
+      (subst (λ (ends : Ends). GiveMoves moment (host place kept e s l) (host place kept ends s l)) (ends_are (λ told. told) (λ count. count) (λ count. count) e f changes)
+      (more none (does_nothing f.told changes.told)))
+
+  -- it failed
+  pub failed_so : (kept kept' : Option Owing) (e f : Ends) (s : Sessions) (l : Lines) → kept ≡ None → kept' ≡ kept → HasFailed e f
+      → PollsOut moment (host place kept e s l) (host place kept' f s l)
+  failed_so kept kept' e f s l empty same failed =
+      subst (λ (k : Option Owing). PollsOut moment (host place kept e s l) (host place k f s l)) (sym same) (has_failed f none empty failed)
+
+  pub failure_moves : (kept kept' : Option Owing) (e f : Ends) (s : Sessions) (l : Lines) → kept ≡ None → kept' ≡ kept → HasFailed e f
+      → GiveMoves moment (host place kept e s l) (host place kept' f s l)
+  failure_moves kept kept' e f s l empty same failed =
+      subst (λ (k : Option Owing). GiveMoves moment (host place kept e s l) (host place k f s l)) (sym same) (more none (fails f empty failed))
+
+  -- it is kept with the line, and its wire is held
+  pub held_back : (kept : Option Owing) (owing : Owing) (e f : Ends) (s : Sessions) (l l' : Lines) (line : Line) → kept ≡ Some owing → owing.was_refused ≡ true
+      → line_of l owing.number ≡ Some line → line.host ≡ Some place → line.stage ≡ stages.Opened e.failures → line.owed ≡ None
+      → LineTurns owing.number l l' line (record line { owed = Some owing }) → Changes (held_too owing.wire) e f
+      → GiveMoves moment (host place kept e s l) (host place None f s l')
+  held_back kept owing e f s l l' line is marked before at opened empty turns changes =
+      subst (λ (ends : Ends). GiveMoves moment (host place kept e s l) (host place None ends s l')) (ends_are (held_too owing.wire) (λ count. count) (λ count. count) e f changes)
+      (more none (is_held owing line l' f.told is marked (record { is = before; host = at; opened = opened }) empty turns changes.told))
+
+  pub held_back_by : (kept kept' : Option Owing) (number : ℕ) (owing : Owing) (e f : Ends) (s : Sessions) (l l' : Lines) (line : Line)
+      → (other : Owing) × (kept ≡ Some other) × (other.number ≡ number) × (other.was_refused ≡ true) → kept ≡ Some owing → line_of l number ≡ Some line
+      → (found : Line) × (line_of l number ≡ Some found) × (found.host ≡ Some place) × (found.stage ≡ stages.Opened e.failures) → ComesFirst number l
+      → LineTurns number l l' line (record line { owed = Some owing }) → Changes (held_too owing.wire) e f → kept' ≡ None
+      → GiveMoves moment (host place kept e s l) (host place kept' f s l')
+  held_back_by kept kept' number owing e f s l l' line was is before found first turns changes empty =
+      let same : was.0 ≡ owing = some_same was.0 owing (sym was.1 ∙ is) in
+      let numbered : number ≡ owing.number = sym was.2 ∙ ap (λ (o : Owing). o.number) same in
+      let marked : owing.was_refused ≡ true = subst (λ (o : Owing). o.was_refused ≡ true) same was.3 in
+      let it : found.0 ≡ line = some_same found.0 line (sym found.1 ∙ before) in
+      let at : line.host ≡ Some place = subst (λ (x : Line). x.host ≡ Some place) it found.2 in
+      let opened : line.stage ≡ stages.Opened e.failures = subst (λ (x : Line). x.stage ≡ stages.Opened e.failures) it found.3 in
+      let nothing : line.owed ≡ None = subst (λ (o : Option Line). IfSome o (λ line. line.owed ≡ None)) before first in
+      subst (λ (k : Option Owing). GiveMoves moment (host place kept e s l) (host place k f s l')) (sym empty)
+      (held_back kept owing e f s l l' line is marked (subst (λ n. line_of l n ≡ Some line) numbered before) at opened nothing
+      (subst (λ n. LineTurns n l l' line (record line { owed = Some owing })) numbered turns) changes)
+
+  -- something waits before what is kept
+  pub waits_behind : (kept : Option Owing) (owing : Owing) (ends : Ends) (s : Sessions) (l : Lines) → kept ≡ Some owing
+      → (line : Line) × (first : Owing) × (line_of l owing.number ≡ Some line) × (line.owed ≡ Some first)
+      → PollsOut moment (host place kept ends s l) (host place (Some owing) ends s l)
+  waits_behind kept owing ends s l is waits =
+      subst (λ (k : Option Owing). PollsOut moment (host place kept ends s l) (host place k ends s l)) is (had_one_before owing waits.1 waits.0 none is waits.2 waits.3)
+
+  -- nothing of the host changed since
+  pub over_still : {h : HostSide} (kept kept' : Option Owing) (e e' : Ends) (s : Sessions) (l l' : Lines) → kept' ≡ kept → e' ≡ e → l' ≡ l
+      → PollsOut moment h (host place kept e s l) → PollsOut moment h (host place kept' e' s l')
+  over_still {h} kept kept' e e' s l l' same ends lines over =
+      subst (λ (k : Option Owing). PollsOut moment h (host place k e' s l')) (sym same)
+      (subst (λ (x : Ends). PollsOut moment h (host place kept x s l')) (sym ends)
+      (subst (λ (x : Lines). PollsOut moment h (host place kept e s x)) (sym lines) over))
+
+  -- there is no room for what is kept, by what the session answered, and its wire isn't open here
+  pub has_no_room : (kept : Option Owing) (owing : Owing) (ends : Ends) (s t : Sessions) (l : Lines) → kept ≡ Some owing
+      → Turned owing.number s t (Looks (LacksRoom owing.given)) → OthersStay owing.number s t
+      → ((line : Line) → line_of l owing.number ≡ Some line → line.host ≡ Some place → line.stage ≢ stages.Opened ends.failures)
+      → PollsOut moment (host place kept ends s l) (host place (Some owing) ends t l)
+  has_no_room kept owing ends s t l is asked others elsewhere = had_no_room (record {
+    before = host place kept ends s l;
+    moves = none;
+    owing = owing;
+    later = owing;
+    sessions = t;
+    kept = is;
+    number = refl;
+    given = refl;
+    found = turned_as owing.number s t (Looks (LacksRoom owing.given)) (FindsNoRoom moment owing) (λ k m looks. lacks_room looks) asked;
+    others = others;
+    elsewhere = λ line here. elsewhere line here.is here.host here.opened;
+    is = refl;
+  })
+
+  -- its session refused it
+  pub was_refused : (kept : Option Owing) (owing later : Owing) (ends : Ends) (s t u : Sessions) (l : Lines) (giving : Giving) → kept ≡ Some owing → giving ≡ givings.Full
+      → later.number ≡ owing.number → later.given ≡ owing.given → Turned owing.number s t (IsReady owing) → OthersStay owing.number s t
+      → Turned owing.number t u (Gives moment owing.given (Ok giving)) → OthersStay owing.number t u
+      → ((line : Line) → line_of l owing.number ≡ Some line → line.host ≡ Some place → line.stage ≢ stages.Opened ends.failures)
+      → PollsOut moment (host place kept ends s l) (host place (Some later) ends u l)
+  was_refused kept owing later ends s t u l giving is full number same ready stay turned others elsewhere = had_no_room (record {
+    before = host place kept ends s l;
+    moves = none;
+    owing = owing;
+    later = later;
+    sessions = u;
+    kept = is;
+    number = number;
+    given = same;
+    found = turned_as owing.number s u (OnceReady owing (Refuses moment owing.given)) (FindsNoRoom moment owing) (λ k m refuses. is_full refuses)
+        (once_ready owing.number owing s t u (Refuses moment owing.given) ready (subst (λ g. Turned owing.number t u (Gives moment owing.given (Ok g))) full turned));
+    others = both_stay owing.number s t u stay others;
+    elsewhere = λ line here. elsewhere line here.is here.host here.opened;
+    is = refl;
+  })
+
+polled_as : (place : ℕ) (kept : Option Owing) (owing : Owing) (e f : Ends) (s : Sessions) (l : Lines) → record e { told = f.told; answers = counted_on e.answers } ≡ f
+    → host place (Some owing) f s l ≡ record (host place kept e s l) { kept = Some owing; ends = record e { told = f.told; answers = counted_on e.answers } }
+polled_as place kept owing e f s l same = ap (λ (ends : Ends). host place (Some owing) ends s l) (sym same)
 
 -- the back end gave something on a wire that was opened
-pub has_polled : (kept kept' : Option Owing) (owing : Owing) (wire : ℕ) (what : Given) (e f : Ends) (s : Sessions) → kept ≡ None → kept' ≡ Some owing
-    → owing.number ≡ wire / most_streams → owing.given ≡ what → owing.was_refused ≡ false → GivesOn wire what e f
-    → PollGave (host kept e s) (host kept' f s)
-has_polled kept kept' owing wire what e f s empty is number same fresh found =
-    let shifts = subst (λ g. Shifts (given_too wire g) (λ count. count) counted_on e f) (sym same) found.1 in
+pub has_polled : (place : ℕ) (kept kept' : Option Owing) (owing : Owing) (wire : ℕ) (what : Given) (e f : Ends) (s : Sessions) (l : Lines) → kept ≡ None → kept' ≡ Some owing
+    → owing.number ≡ wire / most_streams → owing.wire ≡ wire → owing.given ≡ what → owing.was_refused ≡ false → GivesOn wire what e f
+    → PollGave (host place kept e s l) (host place kept' f s l)
+has_polled place kept kept' owing wire what e f s l empty is number on same fresh found =
+    let shifts = subst (λ g. Shifts (given_too wire g) (λ count. count) counted_on e f) (sym same) found.2 in
     record {
       owing = owing;
       wire = wire;
       told = f.told;
       empty = empty;
       number = number;
+      on = on;
       fresh = fresh;
       opened = found.0;
+      unheld = found.1;
       given = shifts.told;
-      is = ap (λ (k : Option Owing). host k f s) is ∙ polled_as kept owing e f s (ends_are (given_too wire owing.given) (λ count. count) counted_on e f shifts);
+      is = ap (λ (k : Option Owing). host place k f s l) is ∙ polled_as place kept owing e f s l (ends_are (given_too wire owing.given) (λ count. count) counted_on e f shifts);
     }
 
 -- that is a move
 pub poll_moves : {moment : Option ℕ} {h i : HostSide} → PollGave h i → GiveMoves moment h i
 poll_moves gave = more none (polls gave)
-
-idled_as : (R : HostSide → Type 0) (kept kept' : Option Owing) (e f : Ends) (s : Sessions) → kept' ≡ kept → Shifts (λ told. told) counted_on (λ count. count) e f
-    → R (host kept (record e { told = f.told; idle = counted_on e.idle }) s) → R (host kept' f s)
-idled_as R kept kept' e f s same shifts is =
-    subst (λ (k : Option Owing). R (host k f s)) (sym same)
-    (subst (λ (ends : Ends). R (host kept ends s)) (ends_are (λ told. told) counted_on (λ count. count) e f shifts) is)
-
--- it had nothing to give
-pub is_idle : (moment : Option ℕ) (kept kept' : Option Owing) (e f : Ends) (s : Sessions) → kept ≡ None → kept' ≡ kept → Shifts (λ told. told) counted_on (λ count. count) e f
-    → PollsOut moment (host kept e s) (host kept' f s)
-is_idle moment kept kept' e f s empty same shifts =
-    idled_as (PollsOut moment (host kept e s)) kept kept' e f s same shifts (had_nothing f.told none empty shifts.told)
-
-pub idle_moves : (moment : Option ℕ) (kept kept' : Option Owing) (e f : Ends) (s : Sessions) → kept ≡ None → kept' ≡ kept → Shifts (λ told. told) counted_on (λ count. count) e f
-    → GiveMoves moment (host kept e s) (host kept' f s)
-idle_moves moment kept kept' e f s empty same shifts =
-    idled_as (GiveMoves moment (host kept e s)) kept kept' e f s same shifts (more none (finds_nothing f.told empty shifts.told))
-
--- there was no memory for a poll
-pub polls_not : {moment : Option ℕ} (kept kept' : Option Owing) (e f : Ends) (s : Sessions) → kept' ≡ kept → Changes (λ told. told) e f
-    → GiveMoves moment (host kept e s) (host kept' f s)
-polls_not {moment} kept kept' e f s same changes =
-    subst (λ (k : Option Owing). GiveMoves moment (host kept e s) (host k f s)) (sym same)
-    (subst (λ (ends : Ends). GiveMoves moment (host kept e s) (host kept ends s)) (ends_are (λ told. told) (λ count. count) (λ count. count) e f changes)
-    (more none (does_nothing f.told changes.told)))
-
--- it failed
-pub failed_so : (moment : Option ℕ) (kept kept' : Option Owing) (e f : Ends) (s : Sessions) → kept ≡ None → kept' ≡ kept → HasFailed e f
-    → PollsOut moment (host kept e s) (host kept' f s)
-failed_so moment kept kept' e f s empty same failed =
-    subst (λ (k : Option Owing). PollsOut moment (host kept e s) (host k f s)) (sym same) (has_failed f none empty failed)
-
-pub failure_moves : (moment : Option ℕ) (kept kept' : Option Owing) (e f : Ends) (s : Sessions) → kept ≡ None → kept' ≡ kept → HasFailed e f
-    → GiveMoves moment (host kept e s) (host kept' f s)
-failure_moves moment kept kept' e f s empty same failed =
-    subst (λ (k : Option Owing). GiveMoves moment (host kept e s) (host k f s)) (sym same) (more none (fails f empty failed))
 
 pub times_moves : {moment : Option ℕ} {count : ℕ} {h i : HostSide} → GivesTimes moment count h i → GiveMoves moment h i
 times_moves never = none
@@ -215,6 +309,7 @@ no_room_after first full = record {
   given = full.given;
   found = full.found;
   others = full.others;
+  elsewhere = full.elsewhere;
   is = full.is;
 }
 
@@ -222,44 +317,9 @@ no_room_after first full = record {
 pub over_after : {moment : Option ℕ} {h i j : HostSide} → GiveMoves moment h i → PollsOut moment i j → PollsOut moment h j
 over_after first (had_nothing told rest empty stays) = had_nothing told (gives_then first rest) empty stays
 over_after first (has_failed ends rest empty failed) = has_failed ends (gives_then first rest) empty failed
+over_after first (had_one_before owing before line rest kept is waits) = had_one_before owing before line (gives_then first rest) kept is waits
 over_after first (had_no_room full) = had_no_room (no_room_after first full)
 over_after first (gave_much times rest empty) = gave_much (times_after first times) rest empty
-
--- there is no room for what is kept, by what the session answered
-pub has_no_room : {moment : Option ℕ} (kept : Option Owing) (owing : Owing) (ends : Ends) (s t : Sessions) → kept ≡ Some owing
-    → Turned owing.number s t (Looks (LacksRoom owing.given)) → OthersStay owing.number s t → HadNoRoom moment (host kept ends s) (host (Some owing) ends t)
-has_no_room {moment} kept owing ends s t is looked others = record {
-  before = host kept ends s;
-  moves = none;
-  owing = owing;
-  later = owing;
-  sessions = t;
-  kept = is;
-  number = refl;
-  given = refl;
-  found = turned_as owing.number s t (Looks (LacksRoom owing.given)) (FindsNoRoom moment owing) (λ k m looks. lacks_room looks) looked;
-  others = others;
-  is = refl;
-}
-
--- its session refused it
-pub was_refused : {moment : Option ℕ} (kept : Option Owing) (owing later : Owing) (ends : Ends) (s t u : Sessions) (giving : Giving) → kept ≡ Some owing → giving ≡ givings.Full
-    → later.number ≡ owing.number → later.given ≡ owing.given → Turned owing.number s t (IsReady owing) → OthersStay owing.number s t
-    → Turned owing.number t u (Gives moment owing.given (Ok giving)) → OthersStay owing.number t u → HadNoRoom moment (host kept ends s) (host (Some later) ends u)
-was_refused {moment} kept owing later ends s t u giving is full number same ready stay turned others = record {
-  before = host kept ends s;
-  moves = none;
-  owing = owing;
-  later = later;
-  sessions = u;
-  kept = is;
-  number = number;
-  given = same;
-  found = turned_as owing.number s u (OnceReady owing (Refuses moment owing.given)) (FindsNoRoom moment owing) (λ k m refuses. is_full refuses)
-      (once_ready owing s t u (Refuses moment owing.given) ready (subst (λ g. Turned owing.number t u (Gives moment owing.given (Ok g))) full turned));
-  others = both_stay owing.number s t u stay others;
-  is = refl;
-}
 
 pub looks_as : {P Q : List Entry → Type 0} {k m : Known Entry} → ((log : List Entry) → P log → Q log) → Looks P k m → Looks Q k m
 looks_as {k = k} {m = m} by looks = record { begins = looks.begins; says = by m.seen looks.says; mine = looks.mine; earlier = looks.earlier; learnt = looks.learnt }

@@ -10,7 +10,8 @@ use Rattle.session_journal.specs.declared.call.Reply.TheVariants as replies
 use Rattle.session_journal.specs.declared.entry.Entry.{Entry}
 use Rattle.session_table.specs.Purses.{Sessions, Turned}
 use Rattle.session_pump.specs.Ends.{Ends}
-use Rattle.session_pump.specs.Sides.{Called, Moves, PassesAll, Side, more, takes, wants_memory}
+use Rattle.session_pump.specs.Calling.{Called}
+use Rattle.session_pump.specs.Sides.{Moves, PassesAll, Side, more, takes, wants_memory}
 use Rattle.session_pump.specs.declared.line.Line.{Line}
 use Rattle.session_pump.proofs.MovesLemmas.{moves_then}
 use Rattle.session_pump.proofs.TurnedLemmas.{turned_as, turned_then}

@@ -33,7 +33,8 @@ use Rattle.xmpp_backend.specs.Told.{Told, closed_too}
 use Rattle.session_pump.specs.Ends.{Changes, Ends}
 use Rattle.session_pump.specs.Giving.{PollsHost}
 use Rattle.session_pump.specs.Places.{IsFirstPlace}
-use Rattle.session_pump.specs.Sides.{Called, Moves, Side, Ticks}
+use Rattle.session_pump.specs.Calling.{Called, Ticks}
+use Rattle.session_pump.specs.Sides.{Moves, Side}
 use Rattle.session_pump.specs.declared.line.Stage.TheVariants as stages
 use Rattle.session_pump.specs.Pumping.{AsksDirectory, AsksSession, Each, EachPlace, HasOpened, HostFacts, HostTurns, LineTurns, Lines, OnLine, Pumping, Step, Then, alone, and_one, both, line_of, next_place, on_host, side, stopped}
 use Rattle.session_pump.specs.Turns.{AsksLive, ClosesWire, CountsLive, IsGoingOn, IsNewLine, IsOver, Meets, PollsAt, Removes, ServesAlone, ShutsDown, Takes, TakesAll, TellsCut, Turns, closes_it, counted, met, met_not, no_time, not_asked, refused, removed, removed_not, shuts_nobody, ticked, took, wants_memory, was_met}
@@ -213,18 +214,19 @@ pub each_all : {A : Type 0} {Does : A → Step} {a b : Pumping} {result : Result
 each_all {A} {Does} {a} {b} {result} xs i whole each = subst (λ (ys : List A). Each Does a ys b result) (take_all i xs whole) each
 
 -- a host was polled
-pub polls_of : {X : Type 0} (facts : X → HostFacts) (moment : Option ℕ) (place : ℕ) (d d' : Known Entry) (s s' : Sessions) (l : Lines) (stands : List X) (was is : X) (result : Result ⊤ AllocError)
+pub polls_of : {X : Type 0} (facts : X → HostFacts) (moment : Option ℕ) (place : ℕ) (d d' : Known Entry) (s s' : Sessions) (l l' : Lines) (stands : List X) (was is : X) (result : Result ⊤ AllocError)
     → d' ≡ d → place < length stands → was ≡ get_or stands place was → (facts is).name ≡ (facts was).name
-    → PollsHost moment (record { kept = (facts was).kept; ends = (facts was).ends; sessions = s }) (record { kept = (facts is).kept; ends = (facts is).ends; sessions = s' }) result
-    → PollsAt moment place (pumping d s l (map facts stands)) (pumping d' s' l (map facts (set stands place is))) result
-polls_of facts moment place d d' s s' l stands was is result same within read name polls =
+    → PollsHost moment (record { place = place; kept = (facts was).kept; ends = (facts was).ends; sessions = s; lines = l })
+    (record { place = place; kept = (facts is).kept; ends = (facts is).ends; sessions = s'; lines = l' }) result
+    → PollsAt moment place (pumping d s l (map facts stands)) (pumping d' s' l' (map facts (set stands place is))) result
+polls_of facts moment place d d' s s' l l' stands was is result same within read name polls =
     record {
       host = facts was;
       later = facts is;
       name = name;
       turned = host_turns facts stands place was is within read;
       polls = polls;
-      same = ap (λ (k : Known Entry). pumping k s' l (map facts (set stands place is))) same;
+      same = ap (λ (k : Known Entry). pumping k s' l' (map facts (set stands place is))) same;
     }
 
 -- a session was told, and its wire isn't cut
@@ -288,14 +290,15 @@ any_of_map test f (x ∷ xs) = ap (λ (b : Bool). test (f x) || b) (any_of_map t
 pub new_line : {X : Type 0} (facts : X → HostFacts) (number opening : ℕ) (text name : List ℕ) (stands : List X) (found : Option ℕ) (line : Line) → text ≡ name → opening ≡ number
     → IfSome found (λ place. IsFirstPlace (λ stand. bytes_eq (facts stand).name text) stands place)
     → IfNone found (list_any (λ stand. bytes_eq (facts stand).name text) stands ≡ false)
-    → line.host ≡ found → line.wire ≡ opening * most_streams → line.stage ≡ stages.Unopened → line.kept ≡ None
+    → line.host ≡ found → line.wire ≡ opening * most_streams → line.stage ≡ stages.Unopened → line.kept ≡ None → line.owed ≡ None
     → IsNewLine number name (map facts stands) line
-new_line facts number opening text name stands found line same small first none host wire stage kept =
+new_line facts number opening text name stands found line same small first none host wire stage kept owed =
     subst (λ (n : List ℕ). IsNewLine number n (map facts stands) line) same
     (record {
       wire = wire ∙ ap (λ (n : ℕ). n * most_streams) small;
       stage = stage;
       kept = kept;
+      owed = owed;
       place = subst (λ (o : Option ℕ). IfSome o (λ place. IsFirstPlace (λ h. bytes_eq h.name text) (map facts stands) place)) (sym host) (placed found first);
       nowhere = λ is. any_of_map (λ h. bytes_eq h.name text) facts stands ∙ (missing found (sym host ∙ is) none);
     })

@@ -2,7 +2,7 @@
 use Rattle.std.specs.Prelude.{◌≡◌, ◌+◌, ℕ, Option}
 use Rattle.bosh_ports.specs.Faults.{HasRisen}
 use Rattle.xmpp_backend.specs.Counts.{Counts, counted_on}
-use Rattle.xmpp_backend.specs.Told.{Told, Becomes, WasOpened, given_too}
+use Rattle.xmpp_backend.specs.Told.{IsUnheld, Told, Becomes, WasOpened, given_too}
 use Rattle.xmpp_backend.specs.declared.backend.Given.{Given}
 use Rattle.xmpp_backend.specs.declared.backend.Given.TheVariants as given
 use Rattle.xmpp_backend.specs.declared.backend.Passed.{Passed}
@@ -51,9 +51,9 @@ CallsEnd change passed.Done old new = Changes change old new
 CallsEnd change passed.NoMemory old new = Changes (λ told. told) old new
 CallsEnd change passed.Failed old new = HasFailed old new
 
--- a poll gave this on a wire that was opened
+-- a poll gave this on a wire that was opened and isn't held
 abbrev pub GivesOn : ℕ → Given → Ends → Ends → Type 0
-GivesOn wire what old new = WasOpened old.told wire × Shifts (given_too wire what) (λ count. count) counted_on old new
+GivesOn wire what old new = WasOpened old.told wire × IsUnheld old.told wire × Shifts (given_too wire what) (λ count. count) counted_on old new
 
 -- what a poll does
 abbrev pub PollsEnd : Polled → Ends → Ends → Type 0

@@ -1,7 +1,8 @@
+pub mod Calling
 pub mod Ends
 pub mod Giving
 pub mod Places
-pub mod Proper
 pub mod Pumping
 pub mod Sides
+pub mod Taking
 pub mod Turns

@@ -1,19 +1,20 @@
 -- A session beside its host's back end, as the pump sees both, and the moves that it makes between them.
-use Rattle.std.specs.Prelude.{◌≡◌, ◌≢◌, ℕ, ⊤, List, Option, Some, None, IfSome, Result, Ok, Err}
+use Rattle.std.specs.Prelude.{◌≡◌, ◌≢◌, ℕ, ⊤, Option, Some, None, Result, Ok, Err}
 use Rattle.std.specs.declared.alloc.AllocError.{AllocError}
-use Rattle.bosh_types.specs.declared.ending.Closing.{Closing}
 use Rattle.bosh_types.specs.declared.ending.Closing.TheVariants.{RemoteConnectionFailed}
 use Rattle.bosh_types.specs.declared.inward.Inward.{Inward}
-use Rattle.parked_gate.specs.Passes.{Calls, Known}
+use Rattle.parked_gate.specs.Passes.{Known}
 use Rattle.session_journal.specs.declared.call.Call.{Call}
 use Rattle.session_journal.specs.declared.call.Call.TheVariants as calls
 use Rattle.session_journal.specs.declared.call.Reply.{Reply}
 use Rattle.session_journal.specs.declared.call.Reply.TheVariants as replies
 use Rattle.session_journal.specs.declared.entry.Entry.{Entry}
-use Rattle.session_journal.specs.Seen.{RepliesTo}
-use Rattle.xmpp_backend.specs.Told.{Told, Becomes, opened_too, passed_too}
+use Rattle.xmpp_backend.specs.Told.{Told, Becomes, opened_too, passed_too, resumed_too}
 use Rattle.session_pump.specs.Ends.{Ends, HasFailed, StaysAs}
+use Rattle.session_pump.specs.Calling.{Called, IsAt}
+use Rattle.session_pump.specs.Taking.{FindsNoRoom, IsAsked, OnceReady, Refuses, Takes}
 use Rattle.session_pump.specs.declared.line.Line.{Line}
+use Rattle.session_pump.specs.declared.line.Owing.{Owing}
 use Rattle.session_pump.specs.declared.line.Stage.TheVariants as stages
 
 -- what the pump's pass of a session knows, its line, and the back ends of its host
@@ -30,16 +31,9 @@ IsOpen s = s.line.stage ≡ stages.Opened s.ends.failures
 abbrev pub IsCut : Side → Type 0
 IsCut s = (on : ℕ) × (s.line.stage ≡ stages.Opened on) × (on ≢ s.ends.failures)
 
--- the pass called its session so, and this was the reply; where there was no memory nothing was entered
-abbrev pub Called : Call → Result Reply AllocError → Known Entry → Known Entry → Type 0
-Called call result old new = Calls (λ e. e.caller) (λ before made. RepliesTo before call result made) old new
-
--- the moment of a call is the clock's, where that tells it
-abbrev pub IsAt : Option ℕ → ℕ → Type 0
-IsAt moment now = IfSome moment (λ told. now ≡ told)
-
 -- One move of the pump for a session. What is taken of the session is kept, and goes to the back end before more is taken;
--- where the wire was opened and is no more it is let go. No move is made but these.
+-- where the wire was opened and is no more it is let go. What its back end gave and it had no room for is given once it says that it
+-- has, and then its wire is resumed. No move is made but these.
 pub data Move (moment : Option ℕ) : Side → Side → Type 0 where
   ticks : {s : Side} (new : Known Entry) (now : ℕ) (result : Result Reply AllocError)
       → IsAt moment now → Called (calls.Tick now) result s.known new → Move moment s (record s { known = new })
@@ -65,11 +59,14 @@ pub data Move (moment : Option ℕ) : Side → Side → Type 0 where
   tells_cut : {s : Side} (new : Known Entry) (now : ℕ) (reply : Reply) → IsCut s → IsAt moment now
       → Called (calls.BackClosed 0 RemoteConnectionFailed now) (Ok reply) s.known new
       → Move moment s (record s { known = new; line = record s.line { stage = stages.Lost } })
-
--- what a call that takes the next item is replied
-abbrev pub taken_as : Result (Option Inward) AllocError → Result Reply AllocError
-taken_as (Ok item) = Ok (replies.TakeInward item)
-taken_as (Err error) = Err error
+  asks_room : {s : Side} (owing : Owing) (new : Known Entry) → s.line.owed ≡ Some owing → IsAsked s.known new → Move moment s (record s { known = new })
+  refuses : {s : Side} (owing : Owing) (new : Known Entry) → s.line.owed ≡ Some owing → OnceReady owing (Refuses moment owing.given) s.known new
+      → Move moment s (record s { known = new })
+  gives : {s : Side} (owing : Owing) (new : Known Entry) (told : Option Told) → s.line.owed ≡ Some owing
+      → OnceReady owing (Takes moment owing.given) s.known new → IsOpen s → Becomes s.ends.told told (resumed_too owing.wire)
+      → Move moment s (record s { known = new; line = record s.line { owed = None }; ends = record s.ends { told = told } })
+  gives_last : {s : Side} (owing : Owing) (new : Known Entry) → s.line.owed ≡ Some owing → OnceReady owing (Takes moment owing.given) s.known new
+      → (IsOpen s → ⊥) → Move moment s (record s { known = new; line = record s.line { owed = None } })
 
 -- moves one after the other
 pub data Moves (moment : Option ℕ) : Side → Side → Type 0 where
@@ -89,8 +86,19 @@ abbrev pub PassesAll : Option ℕ → Side → Side → Result ⊤ AllocError �
 PassesAll moment s t (Ok done) = MovesToTheEnd moment s t
 PassesAll moment s t (Err error) = Moves moment s t
 
--- The wire was opened, or opening it failed, then time passed, and then moves were made until nothing inward was left; or there
--- was no memory for one of these
+-- what the session had no room for was tried: there was nothing, or it was given, or the session had no room for it still
+pub data TriesOwed (moment : Option ℕ) (s : Side) : Side → Type 0 where
+  owes_nothing : s.line.owed ≡ None → TriesOwed moment s s
+  was_given : {t : Side} (owing : Owing) → s.line.owed ≡ Some owing → Move moment s t → t.line.owed ≡ None → TriesOwed moment s t
+  has_no_room : (owing : Owing) (new : Known Entry) → s.line.owed ≡ Some owing → FindsNoRoom moment owing s.known new → TriesOwed moment s (record s { known = new })
+
+-- or there was no memory
+abbrev pub Tries : Option ℕ → Side → Side → Result ⊤ AllocError → Type 0
+Tries moment s t (Ok done) = TriesOwed moment s t
+Tries moment s t (Err error) = Moves moment s t
+
+-- The wire was opened, or opening it failed, then time passed, then what the session had no room for was tried, and then moves were
+-- made until nothing inward was left; or there was no memory for one of these
 pub record ServesAll (moment : Option ℕ) (s t : Side) : Type 0 where
   pub first : Side
   pub opens : Moves moment s first
@@ -100,22 +108,10 @@ pub record ServesAll (moment : Option ℕ) (s t : Side) : Type 0 where
   pub reply : Reply
   pub later : Known Entry
   pub ticks : Called (calls.Tick now) (Ok reply) first.known later
-  pub passes : MovesToTheEnd moment (record first { known = later }) t
+  pub tried : Side
+  pub tries : TriesOwed moment (record first { known = later }) tried
+  pub passes : MovesToTheEnd moment tried t
 
 abbrev pub Serves : Option ℕ → Side → Side → Result ⊤ AllocError → Type 0
 Serves moment s t (Ok done) = ServesAll moment s t
 Serves moment s t (Err error) = Moves moment s t
-
--- time passed for the session, or there was no memory
-abbrev pub Ticks : Option ℕ → Result ⊤ AllocError → Known Entry → Known Entry → Type 0
-Ticks moment (Ok done) old new = (now : ℕ) × (reply : Reply) × IsAt moment now × Called (calls.Tick now) (Ok reply) old new
-Ticks moment (Err error) old new = (now : ℕ) × Called (calls.Tick now) (Err error) old new
-
--- its stream was closed, or there was no memory
-abbrev pub ClosesStream : Option ℕ → Closing → Result ⊤ AllocError → Known Entry → Known Entry → Type 0
-ClosesStream moment closing (Ok done) old new = (now : ℕ) × (reply : Reply) × IsAt moment now × Called (calls.BackClosed 0 closing now) (Ok reply) old new
-ClosesStream moment closing (Err error) old new = (now : ℕ) × Called (calls.BackClosed 0 closing now) (Err error) old new
-
--- the session was given a stanza, or there was no memory
-abbrev pub GivesStanza : Option ℕ → List ℕ → Result Reply AllocError → Known Entry → Known Entry → Type 0
-GivesStanza moment stanza result old new = (now : ℕ) × IsAt moment now × Called (calls.Back 0 stanza now) result old new

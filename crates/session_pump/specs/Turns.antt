@@ -27,7 +27,8 @@ use Rattle.session_pump.specs.Ends.{Ends, HasFailed, StaysAs}
 use Rattle.session_pump.specs.Giving.{PollsHost}
 use Rattle.session_pump.specs.Places.{IsFirstPlace}
 use Rattle.session_pump.specs.Pumping.{AsksDirectory, AsksSession, Each, EachPlace, HostFacts, HostTurns, Lines, OnLine, Pumping, Then, both, line_of}
-use Rattle.session_pump.specs.Sides.{Called, ClosesStream, IsCut, IsOpen, Moves, PassesAll, Serves, Side, Ticks}
+use Rattle.session_pump.specs.Calling.{Called, ClosesStream, Ticks}
+use Rattle.session_pump.specs.Sides.{IsCut, IsOpen, Moves, PassesAll, Serves, Side}
 use Rattle.session_pump.specs.declared.line.Line.{Line}
 use Rattle.session_pump.specs.declared.line.Stage.TheVariants as stages
 
@@ -76,6 +77,7 @@ pub record IsNewLine (number : ℕ) (name : List ℕ) (hosts : List HostFacts) (
   pub wire : line.wire ≡ number * most_streams
   pub stage : line.stage ≡ stages.Unopened
   pub kept : line.kept ≡ None
+  pub owed : line.owed ≡ None
   pub place : IfSome line.host (λ place. IsFirstPlace (λ host. bytes_eq host.name name) hosts place)
   pub nowhere : line.host ≡ None → list_any (λ host. bytes_eq host.name name) hosts ≡ false
 
@@ -136,9 +138,9 @@ pub record PollsAt (moment : Option ℕ) (place : ℕ) (a b : Pumping) (result :
   pub later : HostFacts
   pub name : later.name ≡ host.name
   pub turned : HostTurns place a.hosts b.hosts host later
-  pub polls : PollsHost moment (record { kept = host.kept; ends = host.ends; sessions = a.sessions })
-      (record { kept = later.kept; ends = later.ends; sessions = b.sessions }) result
-  pub same : b ≡ record a { sessions = b.sessions; hosts = b.hosts }
+  pub polls : PollsHost moment (record { place = place; kept = host.kept; ends = host.ends; sessions = a.sessions; lines = a.lines })
+      (record { place = place; kept = later.kept; ends = later.ends; sessions = b.sessions; lines = b.lines }) result
+  pub same : b ≡ record a { sessions = b.sessions; lines = b.lines; hosts = b.hosts }
 
 -- a session that is held was told where its back end failed
 pub data TellsOne (moment : Option ℕ) (session : LiveSession) (a : Pumping) : Pumping → Result ⊤ AllocError → Type 0 where

@@ -10,7 +10,7 @@ ghost use Rattle.session_journal.specs.declared.asking.Answer.TheVariants as ans
 ghost use Rattle.session_journal.specs.declared.call.Reply.TheVariants as replies;
 ghost use Rattle.session_table.specs.Purses.{OthersStay, Turned, held};
 ghost use Rattle.xmpp_backend.specs.declared.backend.Given.TheVariants as given;
-ghost use Rattle.session_pump.specs.Giving.{Gives, IsAsked, IsReady, LacksRoom, has_room};
+ghost use Rattle.session_pump.specs.Taking.{Gives, IsAsked, IsReady, LacksRoom, has_room};
 
 use crate::line::Owing;
 use crate::serving::close_stream;
@@ -38,20 +38,21 @@ pub(crate) enum Giving {
 pub(crate) fn give<R: Wait, C: Clock, B: Bell>(
     rt: &R,
     purse: &mut Purse,
+    number: u64,
     owing: &Owing,
     clock: &C,
     bell: &mut B,
 ) -> Result<Giving, AllocError>
-    requires { IsSome (held purse.old.sessions owing.now.number) }
-    ensures gives { Turned owing.now.number purse.old.sessions purse.new.sessions (Gives (C.moment clock.now) owing.now.given result) }
-    ensures others { OthersStay owing.now.number purse.old.sessions purse.new.sessions }
+    requires { IsSome (held purse.old.sessions number) }
+    ensures gives { Turned number purse.old.sessions purse.new.sessions (Gives (C.moment clock.now) owing.now.given result) }
+    ensures others { OthersStay number purse.old.sessions purse.new.sessions }
     ensures directory { purse.new.directory ≡ purse.old.directory }
     ensures silences { B.silences bell.new ≡ B.silences bell.old }
 {
     match &owing.given {
-        Given::Stanza(stanza) => give_stanza(rt, purse, owing.number, clock, bell, stanza),
+        Given::Stanza(stanza) => give_stanza(rt, purse, number, clock, bell, stanza),
         Given::Closed(closing) => {
-            match close_stream(rt, purse, owing.number, clock, bell, *closing) {
+            match close_stream(rt, purse, number, clock, bell, *closing) {
                 Ok(()) => Ok(Giving::Done),
                 Err(AllocError) => Err(AllocError),
             }
@@ -117,19 +118,21 @@ fn answered<B: Bell>(bell: &mut B, number: u64, reply: Reply) -> Giving
 pub(crate) fn may_take<R: Wait>(
     rt: &R,
     purse: &mut Purse,
+    number: u64,
     owing: &Owing,
 ) -> Result<bool, AllocError>
-    requires { IsSome (held purse.old.sessions owing.now.number) }
-    ensures asked { Turned owing.now.number purse.old.sessions purse.new.sessions IsAsked }
-    ensures full { result ≡ Ok false → Turned owing.now.number purse.old.sessions purse.new.sessions (Looks (LacksRoom owing.now.given)) }
-    ensures ready { result ≡ Ok true → Turned owing.now.number purse.old.sessions purse.new.sessions (IsReady owing.now) }
-    ensures others { OthersStay owing.now.number purse.old.sessions purse.new.sessions }
+    requires { IsSome (held purse.old.sessions number) }
+    ensures asked { Turned number purse.old.sessions purse.new.sessions IsAsked }
+    ensures full { result ≡ Ok false → Turned number purse.old.sessions purse.new.sessions (Looks (LacksRoom owing.now.given)) }
+    ensures refused { result ≡ Ok false → owing.now.was_refused ≡ true }
+    ensures ready { result ≡ Ok true → Turned number purse.old.sessions purse.new.sessions (IsReady owing.now) }
+    ensures others { OthersStay number purse.old.sessions purse.new.sessions }
     ensures directory { purse.new.directory ≡ purse.old.directory }
 {
     if !owing.was_refused {
         return Ok(true);
     }
-    let answer = purse.look(rt, owing.number, &Question::Load)?;
+    let answer = purse.look(rt, number, &Question::Load)?;
     Ok(says_room(&answer, &owing.given))
 }
 

@@ -3,8 +3,8 @@ ghost use Rattle.std.specs.Prelude.{◌≡◌, ◌≢◌, ◌+◌, ◌<◌, IfNo
 ghost use Rattle.std.specs.List.{list_any};
 ghost use Rattle.std.specs.Str.{bytes_eq};
 ghost use Rattle.xmpp_backend.specs.Counts.{counted_on};
-ghost use Rattle.xmpp_backend.specs.Told.{GivesStanza, closed_too, opened_too, passed_too};
-ghost use Rattle.session_pump.specs.Ends.{CallsEnd, PollsEnd, ends_of};
+ghost use Rattle.xmpp_backend.specs.Told.{GivesStanza, closed_too, held_too, opened_too, passed_too, resumed_too};
+ghost use Rattle.session_pump.specs.Ends.{CallsEnd, Changes, PollsEnd, ends_of};
 ghost use Rattle.session_pump.specs.Places.{ChangesFirst, IsFirstPlace};
 
 use crate::line::Owing;
@@ -98,6 +98,28 @@ impl Stand {
             self.exchange();
         }
         polled
+    }
+
+    /// Holds a wire: nothing is to be given on it until it is resumed.
+    pub(crate) fn hold(&mut self, wire: Wire)
+        ensures ends { Changes (held_too wire)
+            (ends_of (told self.old.host.end) (counts self.old.host.end) self.old.failures (sum_by (λ spare. (counts spare).faults) self.old.host.spares.items))
+            (ends_of (told self.new.host.end) (counts self.new.host.end) self.new.failures (sum_by (λ spare. (counts spare).faults) self.new.host.spares.items)) }
+        ensures kept { self.new.kept ≡ self.old.kept }
+        ensures name { self.new.host.name ≡ self.old.host.name }
+    {
+        self.host.end.hold(wire);
+    }
+
+    /// Resumes a wire that was held.
+    pub(crate) fn resume(&mut self, wire: Wire)
+        ensures ends { Changes (resumed_too wire)
+            (ends_of (told self.old.host.end) (counts self.old.host.end) self.old.failures (sum_by (λ spare. (counts spare).faults) self.old.host.spares.items))
+            (ends_of (told self.new.host.end) (counts self.new.host.end) self.new.failures (sum_by (λ spare. (counts spare).faults) self.new.host.spares.items)) }
+        ensures kept { self.new.kept ≡ self.old.kept }
+        ensures name { self.new.host.name ≡ self.old.host.name }
+    {
+        self.host.end.resume(wire);
     }
 
     fn is_named(&self, name: &[u8]) -> bool

@@ -1,7 +1,7 @@
 // What the pump remembers of a session.
 ghost use Rattle.std.specs.Prelude.{◌≡◌, ◌≢◌, ◌*◌, ℕ, IsTrue, None, true, false};
 ghost use Rattle.bosh_types.specs.Limits.{most_streams};
-ghost use Rattle.session_pump.specs.Proper.{is_proper};
+ghost use Rattle.xmpp_backend.specs.Told.{is_proper};
 
 use bosh_types::{Inward, StreamNo, Wire};
 use xmpp_backend::Given;
@@ -26,12 +26,16 @@ pub struct Line {
     pub stage: Stage,
     /// What was taken of the session and not passed on yet.
     pub kept: Option<Inward>,
+    /// What its back end gave and the session had no room for. The wire is held until it is taken.
+    pub owed: Option<Owing>,
 }
 
 /// What a back end gave for the session with this opening number.
 #[derive(Debug, Drop)]
 pub struct Owing {
     pub number: u64,
+    /// The wire on which it was given.
+    pub wire: Wire,
     pub given: Given,
     /// Whether the session had no room for it.
     pub was_refused: bool,
@@ -44,12 +48,14 @@ impl Line {
         ensures wire { result.wire ≡ number * most_streams }
         ensures stage { result.stage ≡ Stage.Unopened }
         ensures kept { result.kept ≡ None }
+        ensures owed { result.owed ≡ None }
     {
         Line {
             host,
             wire: Wire::new(number, StreamNo::unnamed()),
             stage: Stage::Unopened,
             kept: None,
+            owed: None,
         }
     }
 

@@ -6,7 +6,8 @@ ghost use Rattle.session_journal.specs.declared.call.Reply.TheVariants as replie
 ghost use Rattle.session_journal.specs.declared.entry.Entry.{Entry};
 ghost use Rattle.session_table.specs.Purses.{OthersStay, Turned, held};
 ghost use Rattle.session_pump.specs.Ends.{ends_of};
-ghost use Rattle.session_pump.specs.Sides.{Called, Moves, PassesAll, taken_as};
+ghost use Rattle.session_pump.specs.Calling.{Called, taken_as};
+ghost use Rattle.session_pump.specs.Sides.{Moves, PassesAll};
 ghost use Rattle.session_pump.specs.Turns.{TakesAll};
 
 use crate::hosts::Stand;

@@ -1,52 +1,59 @@
 // What the back ends give is polled and given to the sessions.
-ghost use Rattle.std.specs.Prelude.{◌≡◌, ◌+◌, ◌/◌, ℕ, IsTrue, None, Ok, Option, false, sum_by, true};
+ghost use Rattle.std.specs.Prelude.{◌≡◌, ◌≢◌, ◌+◌, ◌/◌, ℕ, IsTrue, None, Ok, Option, Some, false, sum_by, true};
 ghost use Rattle.bosh_types.specs.Limits.{most_streams};
 ghost use Rattle.session_table.specs.Purses.{Sessions};
-ghost use Rattle.session_pump.specs.Ends.{Ends, ends_of};
-ghost use Rattle.session_pump.specs.Giving.{GiveMoves, GivesOnce, HadNoRoom, PollGave, PollsHost, PollsOut, most_polls};
-ghost use Rattle.session_pump.specs.Proper.{is_proper};
+ghost use Rattle.session_pump.specs.Ends.{ends_of};
+ghost use Rattle.session_pump.specs.Pumping.{Lines, line_of};
+ghost use Rattle.session_pump.specs.declared.line.Line.{Line};
+ghost use Rattle.session_pump.specs.declared.line.Owing.{Owing};
+ghost use Rattle.session_pump.specs.Giving.{ComesFirst, GiveMoves, GivesOnce, PollGave, PollsHost, PollsOut, most_polls};
+ghost use Rattle.xmpp_backend.specs.Told.{is_proper};
 
 use crate::giving::{Giving, give, may_take};
 use crate::hosts::Stand;
-use crate::line::Owing;
+use crate::line::{Line, Owing, Stage};
 use bosh_ports::Bell;
 use bosh_types::Wire;
 use bosh_types::limits::MOST_STREAMS;
 use server_ports::Clock;
 use session_table::Purse;
 use std::alloc::AllocError;
+use std::collections::BTreeMap;
 use std::sync::Wait;
 use xmpp_backend::{Given, Polled};
 
 /// How often a host is polled in one turn at most.
 const MOST_POLLS: u32 = 4096;
 
-/// Gives the sessions of a host what its back end gave for them, until that has nothing or fails, or a session has no room, or
-/// that gave something 4096 times. The only error is want of memory, and then the next turn goes on from there.
+/// Gives the sessions of the host at this place what its back end gave for them, until that has nothing or fails, or it gave
+/// something 4096 times. What a session has no room for is kept with its line, and the wire is held. The only error is want of
+/// memory, and then the next turn goes on from there.
 pub fn poll_host<R: Wait, C: Clock, B: Bell>(
     rt: &R,
     purse: &mut Purse,
+    lines: &mut BTreeMap<u64, Line>,
+    place: usize,
     stand: &mut Stand,
     clock: &C,
     bell: &mut B,
 ) -> Result<(), AllocError>
     ensures gives { GiveMoves (C.moment clock.now)
-        (record { kept = stand.old.kept; ends = ends_of (told stand.old.host.end) (counts stand.old.host.end) stand.old.failures (sum_by (λ spare. (counts spare).faults) stand.old.host.spares.items); sessions = purse.old.sessions })
-        (record { kept = stand.new.kept; ends = ends_of (told stand.new.host.end) (counts stand.new.host.end) stand.new.failures (sum_by (λ spare. (counts spare).faults) stand.new.host.spares.items); sessions = purse.new.sessions }) }
+        (record { place = place; kept = stand.old.kept; ends = ends_of (told stand.old.host.end) (counts stand.old.host.end) stand.old.failures (sum_by (λ spare. (counts spare).faults) stand.old.host.spares.items); sessions = purse.old.sessions; lines = lines.old })
+        (record { place = place; kept = stand.new.kept; ends = ends_of (told stand.new.host.end) (counts stand.new.host.end) stand.new.failures (sum_by (λ spare. (counts spare).faults) stand.new.host.spares.items); sessions = purse.new.sessions; lines = lines.new }) }
     ensures polls { PollsHost (C.moment clock.now)
-        (record { kept = stand.old.kept; ends = ends_of (told stand.old.host.end) (counts stand.old.host.end) stand.old.failures (sum_by (λ spare. (counts spare).faults) stand.old.host.spares.items); sessions = purse.old.sessions })
-        (record { kept = stand.new.kept; ends = ends_of (told stand.new.host.end) (counts stand.new.host.end) stand.new.failures (sum_by (λ spare. (counts spare).faults) stand.new.host.spares.items); sessions = purse.new.sessions })
+        (record { place = place; kept = stand.old.kept; ends = ends_of (told stand.old.host.end) (counts stand.old.host.end) stand.old.failures (sum_by (λ spare. (counts spare).faults) stand.old.host.spares.items); sessions = purse.old.sessions; lines = lines.old })
+        (record { place = place; kept = stand.new.kept; ends = ends_of (told stand.new.host.end) (counts stand.new.host.end) stand.new.failures (sum_by (λ spare. (counts spare).faults) stand.new.host.spares.items); sessions = purse.new.sessions; lines = lines.new })
         result }
     ensures name { stand.new.host.name ≡ stand.old.host.name }
     ensures directory { purse.new.directory ≡ purse.old.directory }
     ensures silences { B.silences bell.new ≡ B.silences bell.old }
 {
     for _ in 0..MOST_POLLS {
-        if !give_and_poll(rt, purse, stand, clock, bell)? {
+        if !give_and_poll(rt, purse, lines, place, stand, clock, bell)? {
             return Ok(());
         }
     }
-    let giving = give_kept(rt, purse, &mut stand.kept, clock, bell)?;
+    let giving = give_kept(rt, purse, lines, place, stand, clock, bell)?;
     match giving {
         Giving::Done => Ok(()),
         Giving::Full => Ok(()),
@@ -57,24 +64,26 @@ pub fn poll_host<R: Wait, C: Clock, B: Bell>(
 fn give_and_poll<R: Wait, C: Clock, B: Bell>(
     rt: &R,
     purse: &mut Purse,
+    lines: &mut BTreeMap<u64, Line>,
+    place: usize,
     stand: &mut Stand,
     clock: &C,
     bell: &mut B,
 ) -> Result<bool, AllocError>
     ensures gives { GiveMoves (C.moment clock.now)
-        (record { kept = stand.old.kept; ends = ends_of (told stand.old.host.end) (counts stand.old.host.end) stand.old.failures (sum_by (λ spare. (counts spare).faults) stand.old.host.spares.items); sessions = purse.old.sessions })
-        (record { kept = stand.new.kept; ends = ends_of (told stand.new.host.end) (counts stand.new.host.end) stand.new.failures (sum_by (λ spare. (counts spare).faults) stand.new.host.spares.items); sessions = purse.new.sessions }) }
+        (record { place = place; kept = stand.old.kept; ends = ends_of (told stand.old.host.end) (counts stand.old.host.end) stand.old.failures (sum_by (λ spare. (counts spare).faults) stand.old.host.spares.items); sessions = purse.old.sessions; lines = lines.old })
+        (record { place = place; kept = stand.new.kept; ends = ends_of (told stand.new.host.end) (counts stand.new.host.end) stand.new.failures (sum_by (λ spare. (counts spare).faults) stand.new.host.spares.items); sessions = purse.new.sessions; lines = lines.new }) }
     ensures over { result ≡ Ok false → PollsOut (C.moment clock.now)
-        (record { kept = stand.old.kept; ends = ends_of (told stand.old.host.end) (counts stand.old.host.end) stand.old.failures (sum_by (λ spare. (counts spare).faults) stand.old.host.spares.items); sessions = purse.old.sessions })
-        (record { kept = stand.new.kept; ends = ends_of (told stand.new.host.end) (counts stand.new.host.end) stand.new.failures (sum_by (λ spare. (counts spare).faults) stand.new.host.spares.items); sessions = purse.new.sessions }) }
+        (record { place = place; kept = stand.old.kept; ends = ends_of (told stand.old.host.end) (counts stand.old.host.end) stand.old.failures (sum_by (λ spare. (counts spare).faults) stand.old.host.spares.items); sessions = purse.old.sessions; lines = lines.old })
+        (record { place = place; kept = stand.new.kept; ends = ends_of (told stand.new.host.end) (counts stand.new.host.end) stand.new.failures (sum_by (λ spare. (counts spare).faults) stand.new.host.spares.items); sessions = purse.new.sessions; lines = lines.new }) }
     ensures on { result ≡ Ok true → GivesOnce (C.moment clock.now)
-        (record { kept = stand.old.kept; ends = ends_of (told stand.old.host.end) (counts stand.old.host.end) stand.old.failures (sum_by (λ spare. (counts spare).faults) stand.old.host.spares.items); sessions = purse.old.sessions })
-        (record { kept = stand.new.kept; ends = ends_of (told stand.new.host.end) (counts stand.new.host.end) stand.new.failures (sum_by (λ spare. (counts spare).faults) stand.new.host.spares.items); sessions = purse.new.sessions }) }
+        (record { place = place; kept = stand.old.kept; ends = ends_of (told stand.old.host.end) (counts stand.old.host.end) stand.old.failures (sum_by (λ spare. (counts spare).faults) stand.old.host.spares.items); sessions = purse.old.sessions; lines = lines.old })
+        (record { place = place; kept = stand.new.kept; ends = ends_of (told stand.new.host.end) (counts stand.new.host.end) stand.new.failures (sum_by (λ spare. (counts spare).faults) stand.new.host.spares.items); sessions = purse.new.sessions; lines = lines.new }) }
     ensures name { stand.new.host.name ≡ stand.old.host.name }
     ensures directory { purse.new.directory ≡ purse.old.directory }
     ensures silences { B.silences bell.new ≡ B.silences bell.old }
 {
-    let giving = give_kept(rt, purse, &mut stand.kept, clock, bell)?;
+    let giving = give_kept(rt, purse, lines, place, stand, clock, bell)?;
     if is_full(giving) {
         return Ok(false);
     }
@@ -91,59 +100,141 @@ fn is_full(giving: Giving) -> bool
     }
 }
 
-// Gives what is kept, and keeps it where its session has no room or there is no memory.
+// Gives what is kept, and keeps it where there is no memory. Where its session has no room it is kept with the line.
 fn give_kept<R: Wait, C: Clock, B: Bell>(
     rt: &R,
     purse: &mut Purse,
-    kept: &mut Option<Owing>,
+    lines: &mut BTreeMap<u64, Line>,
+    place: usize,
+    stand: &mut Stand,
     clock: &C,
     bell: &mut B,
 ) -> Result<Giving, AllocError>
-    ensures gives { (ends : Ends) → GiveMoves (C.moment clock.now)
-        (record { kept = kept.old; ends = ends; sessions = purse.old.sessions })
-        (record { kept = kept.new; ends = ends; sessions = purse.new.sessions }) }
-    ensures done { result ≡ Ok Giving.Done → kept.new ≡ None }
-    ensures full { result ≡ Ok Giving.Full → (ends : Ends) → HadNoRoom (C.moment clock.now)
-        (record { kept = kept.old; ends = ends; sessions = purse.old.sessions })
-        (record { kept = kept.new; ends = ends; sessions = purse.new.sessions }) }
+    ensures gives { GiveMoves (C.moment clock.now)
+        (record { place = place; kept = stand.old.kept; ends = ends_of (told stand.old.host.end) (counts stand.old.host.end) stand.old.failures (sum_by (λ spare. (counts spare).faults) stand.old.host.spares.items); sessions = purse.old.sessions; lines = lines.old })
+        (record { place = place; kept = stand.new.kept; ends = ends_of (told stand.new.host.end) (counts stand.new.host.end) stand.new.failures (sum_by (λ spare. (counts spare).faults) stand.new.host.spares.items); sessions = purse.new.sessions; lines = lines.new }) }
+    ensures done { result ≡ Ok Giving.Done → stand.new.kept ≡ None }
+    ensures full { result ≡ Ok Giving.Full → PollsOut (C.moment clock.now)
+        (record { place = place; kept = stand.old.kept; ends = ends_of (told stand.old.host.end) (counts stand.old.host.end) stand.old.failures (sum_by (λ spare. (counts spare).faults) stand.old.host.spares.items); sessions = purse.old.sessions; lines = lines.old })
+        (record { place = place; kept = stand.new.kept; ends = ends_of (told stand.new.host.end) (counts stand.new.host.end) stand.new.failures (sum_by (λ spare. (counts spare).faults) stand.new.host.spares.items); sessions = purse.new.sessions; lines = lines.new }) }
+    ensures name { stand.new.host.name ≡ stand.old.host.name }
     ensures directory { purse.new.directory ≡ purse.old.directory }
     ensures silences { B.silences bell.new ≡ B.silences bell.old }
 {
-    let Some(owing) = kept else {
+    let Some(owing) = &mut stand.kept else {
         return Ok(Giving::Done);
     };
-    if purse.sessions.get(&owing.number).is_none() {
-        *kept = None;
+    let number = owing.number;
+    if purse.sessions.get(&number).is_none() {
+        stand.kept = None;
         return Ok(Giving::Done);
     }
-    if !may_take(rt, purse, owing)? {
+    if !comes_first(lines, number) {
         return Ok(Giving::Full);
     }
-    match give(rt, purse, owing, clock, bell) {
+    if !may_take(rt, purse, number, owing)? {
+        return Ok(keep_back(lines, place, stand, number));
+    }
+    match give(rt, purse, number, owing, clock, bell) {
         Ok(Giving::Done) => {
-            *kept = None;
+            stand.kept = None;
             Ok(Giving::Done)
         }
         Ok(Giving::Full) => {
             owing.was_refused = true;
-            Ok(Giving::Full)
+            Ok(keep_back(lines, place, stand, number))
         }
         Err(AllocError) => Err(AllocError),
     }
 }
 
+// Whether nothing that was given to this session before waits for it.
+fn comes_first(lines: &BTreeMap<u64, Line>, number: u64) -> bool
+    ensures first { result ≡ true → ComesFirst number lines.now }
+    ensures behind { result ≡ false → (line : Line) × (owing : Owing) × (line_of lines.now number ≡ Some line) × (line.owed ≡ Some owing) }
+{
+    let Some(line) = lines.get(&number) else {
+        return true;
+    };
+    owes_nothing(line)
+}
+
+fn owes_nothing(line: &Line) -> bool
+    ensures nothing { result ≡ true → line.now.owed ≡ None }
+    ensures something { result ≡ false → (owing : Owing) × (line.now.owed ≡ Some owing) }
+{
+    match &line.owed {
+        Some(_) => false,
+        None => true,
+    }
+}
+
+// Whether the wire of this session is open at the back end of the host at this place before which so many failed.
+fn is_here(lines: &BTreeMap<u64, Line>, number: u64, place: usize, failures: u64) -> bool
+    ensures here { result ≡ true → (line : Line) × (line_of lines.now number ≡ Some line) × (line.host ≡ Some place) × (line.stage ≡ Stage.Opened failures) }
+    ensures elsewhere { result ≡ false → (line : Line) → line_of lines.now number ≡ Some line → line.host ≡ Some place → line.stage ≢ Stage.Opened failures }
+{
+    let Some(line) = lines.get(&number) else {
+        return false;
+    };
+    if line.host != Some(place) {
+        return false;
+    }
+    line.is_open_on(failures)
+}
+
+// Keeps what the session refused with its line, and holds the wire, where that is open here.
+fn keep_back(
+    lines: &mut BTreeMap<u64, Line>,
+    place: usize,
+    stand: &mut Stand,
+    number: u64,
+) -> Giving
+    requires kept { (owing : Owing) × (stand.old.kept ≡ Some owing) × (owing.number ≡ number) × (owing.was_refused ≡ true) }
+    requires first { ComesFirst number lines.old }
+    ensures moves { (moment : Option ℕ) → (sessions : Sessions) → GiveMoves moment
+        (record { place = place; kept = stand.old.kept; ends = ends_of (told stand.old.host.end) (counts stand.old.host.end) stand.old.failures (sum_by (λ spare. (counts spare).faults) stand.old.host.spares.items); sessions = sessions; lines = lines.old })
+        (record { place = place; kept = stand.new.kept; ends = ends_of (told stand.new.host.end) (counts stand.new.host.end) stand.new.failures (sum_by (λ spare. (counts spare).faults) stand.new.host.spares.items); sessions = sessions; lines = lines.new }) }
+    ensures done { result ≡ Giving.Done → stand.new.kept ≡ None }
+    ensures still { result ≡ Giving.Full → stand.new.kept ≡ stand.old.kept }
+    ensures ends { result ≡ Giving.Full → ends_of (told stand.new.host.end) (counts stand.new.host.end) stand.new.failures (sum_by (λ spare. (counts spare).faults) stand.new.host.spares.items)
+        ≡ ends_of (told stand.old.host.end) (counts stand.old.host.end) stand.old.failures (sum_by (λ spare. (counts spare).faults) stand.old.host.spares.items) }
+    ensures lines { result ≡ Giving.Full → lines.new ≡ lines.old }
+    ensures elsewhere { result ≡ Giving.Full → (line : Line) → line_of lines.old number ≡ Some line → line.host ≡ Some place → line.stage ≢ Stage.Opened stand.old.failures }
+    ensures name { stand.new.host.name ≡ stand.old.host.name }
+{
+    if !is_here(lines, number, place, stand.failures) {
+        return Giving::Full;
+    }
+    let Some(line) = lines.get_mut(&number) else {
+        unreachable!();
+    };
+    let Some(owing) = stand.kept.take() else {
+        unreachable!();
+    };
+    stand.hold(owing.wire);
+    keep_on(line, owing);
+    Giving::Done
+}
+
+fn keep_on(line: &mut Line, owing: Owing)
+    ensures { line.new ≡ record line.old { owed = Some owing } }
+{
+    line.owed = Some(owing);
+}
+
 // Polls the back end once, and keeps what it gives. Whether it gave something.
 fn poll(stand: &mut Stand) -> Result<bool, AllocError>
     requires { stand.old.kept ≡ None }
-    ensures polls { (moment : Option ℕ) → (sessions : Sessions) → GiveMoves moment
-        (record { kept = stand.old.kept; ends = ends_of (told stand.old.host.end) (counts stand.old.host.end) stand.old.failures (sum_by (λ spare. (counts spare).faults) stand.old.host.spares.items); sessions = sessions })
-        (record { kept = stand.new.kept; ends = ends_of (told stand.new.host.end) (counts stand.new.host.end) stand.new.failures (sum_by (λ spare. (counts spare).faults) stand.new.host.spares.items); sessions = sessions }) }
-    ensures over { result ≡ Ok false → (moment : Option ℕ) → (sessions : Sessions) → PollsOut moment
-        (record { kept = stand.old.kept; ends = ends_of (told stand.old.host.end) (counts stand.old.host.end) stand.old.failures (sum_by (λ spare. (counts spare).faults) stand.old.host.spares.items); sessions = sessions })
-        (record { kept = stand.new.kept; ends = ends_of (told stand.new.host.end) (counts stand.new.host.end) stand.new.failures (sum_by (λ spare. (counts spare).faults) stand.new.host.spares.items); sessions = sessions }) }
-    ensures gave { result ≡ Ok true → (sessions : Sessions) → PollGave
-        (record { kept = stand.old.kept; ends = ends_of (told stand.old.host.end) (counts stand.old.host.end) stand.old.failures (sum_by (λ spare. (counts spare).faults) stand.old.host.spares.items); sessions = sessions })
-        (record { kept = stand.new.kept; ends = ends_of (told stand.new.host.end) (counts stand.new.host.end) stand.new.failures (sum_by (λ spare. (counts spare).faults) stand.new.host.spares.items); sessions = sessions }) }
+    ensures polls { (moment : Option ℕ) → (place : ℕ) → (sessions : Sessions) → (lines : Lines) → GiveMoves moment
+        (record { place = place; kept = stand.old.kept; ends = ends_of (told stand.old.host.end) (counts stand.old.host.end) stand.old.failures (sum_by (λ spare. (counts spare).faults) stand.old.host.spares.items); sessions = sessions; lines = lines })
+        (record { place = place; kept = stand.new.kept; ends = ends_of (told stand.new.host.end) (counts stand.new.host.end) stand.new.failures (sum_by (λ spare. (counts spare).faults) stand.new.host.spares.items); sessions = sessions; lines = lines }) }
+    ensures over { result ≡ Ok false → (moment : Option ℕ) → (place : ℕ) → (sessions : Sessions) → (lines : Lines) → PollsOut moment
+        (record { place = place; kept = stand.old.kept; ends = ends_of (told stand.old.host.end) (counts stand.old.host.end) stand.old.failures (sum_by (λ spare. (counts spare).faults) stand.old.host.spares.items); sessions = sessions; lines = lines })
+        (record { place = place; kept = stand.new.kept; ends = ends_of (told stand.new.host.end) (counts stand.new.host.end) stand.new.failures (sum_by (λ spare. (counts spare).faults) stand.new.host.spares.items); sessions = sessions; lines = lines }) }
+    ensures gave { result ≡ Ok true → (place : ℕ) → (sessions : Sessions) → (lines : Lines) → PollGave
+        (record { place = place; kept = stand.old.kept; ends = ends_of (told stand.old.host.end) (counts stand.old.host.end) stand.old.failures (sum_by (λ spare. (counts spare).faults) stand.old.host.spares.items); sessions = sessions; lines = lines })
+        (record { place = place; kept = stand.new.kept; ends = ends_of (told stand.new.host.end) (counts stand.new.host.end) stand.new.failures (sum_by (λ spare. (counts spare).faults) stand.new.host.spares.items); sessions = sessions; lines = lines }) }
     ensures name { stand.new.host.name ≡ stand.old.host.name }
 {
     match stand.poll() {
@@ -165,11 +256,13 @@ fn poll(stand: &mut Stand) -> Result<bool, AllocError>
 fn owing(wire: Wire, given: Given) -> Owing
     requires { IsTrue (is_proper given) }
     ensures number { result.number ≡ wire / most_streams }
+    ensures on { result.wire ≡ wire }
     ensures given { result.given ≡ given }
     ensures fresh { result.was_refused ≡ false }
 {
     Owing {
         number: wire.number() / u64::from(MOST_STREAMS),
+        wire,
         given,
         was_refused: false,
     }

@@ -1,16 +1,19 @@
 // One session in a turn: its wire, its time, and what is inward of it.
-ghost use Rattle.std.specs.Prelude.{◌≡◌, ◌≢◌, ◌+◌, ℕ, IsSome, OnOk, Option, sum_by};
+ghost use Rattle.std.specs.Prelude.{◌≡◌, ◌≢◌, ◌⊎◌, ◌+◌, ℕ, IsSome, OnOk, Option, sum_by};
 ghost use Rattle.parked_gate.specs.Passes.{Known};
 ghost use Rattle.session_journal.specs.declared.entry.Entry.{Entry};
 ghost use Rattle.session_table.specs.Purses.{OthersStay, Turned, held};
-ghost use Rattle.session_pump.specs.Ends.{ends_of};
-ghost use Rattle.session_pump.specs.Sides.{ClosesStream, Moves, Serves, Ticks};
+ghost use Rattle.xmpp_backend.specs.Told.{resumed_too};
+ghost use Rattle.session_pump.specs.Ends.{Changes, ends_of};
+ghost use Rattle.session_pump.specs.Calling.{ClosesStream, Ticks};
+ghost use Rattle.session_pump.specs.Sides.{Moves, Serves, Tries};
 
+use crate::giving::{Giving, give, may_take};
 use crate::hosts::Stand;
 use crate::line::{Line, Stage};
 use crate::passing::pass_all;
 use bosh_ports::{Bell, BellKey};
-use bosh_types::{Closing, StreamNo};
+use bosh_types::{Closing, StreamNo, Wire};
 use server_ports::Clock;
 use session_core::Ticked;
 use session_journal::{Call, Reply};
@@ -20,7 +23,7 @@ use std::sync::Wait;
 use xmpp_backend::Passed;
 
 /// Serves one session of a host: opens its wire where that wasn't done, tells it that its back end failed where it did, lets time
-/// pass, and passes on what is inward. The only error is want of memory.
+/// pass, gives it what it had no room for, and passes on what is inward. The only error is want of memory.
 pub fn serve_line<R: Wait, C: Clock, B: Bell>(
     rt: &R,
     purse: &mut Purse,
@@ -46,7 +49,66 @@ pub fn serve_line<R: Wait, C: Clock, B: Bell>(
     open_wire(line, stand)?;
     tell_cut(rt, purse, number, line, stand, clock, bell)?;
     tick(rt, purse, number, clock, bell)?;
+    give_owed(rt, purse, number, line, stand, clock, bell)?;
     pass_all(rt, purse, number, line, stand)
+}
+
+// Gives a session what it had no room for, where it has room now or has ended, and resumes its wire then.
+fn give_owed<R: Wait, C: Clock, B: Bell>(
+    rt: &R,
+    purse: &mut Purse,
+    number: u64,
+    line: &mut Line,
+    stand: &mut Stand,
+    clock: &C,
+    bell: &mut B,
+) -> Result<(), AllocError>
+    requires { IsSome (held purse.old.sessions number) }
+    ensures tries { Turned number purse.old.sessions purse.new.sessions (λ old new. Tries (C.moment clock.now)
+        (record { known = old; line = line.old; ends = ends_of (told stand.old.host.end) (counts stand.old.host.end) stand.old.failures (sum_by (λ spare. (counts spare).faults) stand.old.host.spares.items) })
+        (record { known = new; line = line.new; ends = ends_of (told stand.new.host.end) (counts stand.new.host.end) stand.new.failures (sum_by (λ spare. (counts spare).faults) stand.new.host.spares.items) })
+        result) }
+    ensures stage { line.new.stage ≡ line.old.stage }
+    ensures host { line.new.host ≡ line.old.host }
+    ensures kept { stand.new.kept ≡ stand.old.kept }
+    ensures name { stand.new.host.name ≡ stand.old.host.name }
+    ensures others { OthersStay number purse.old.sessions purse.new.sessions }
+    ensures directory { purse.new.directory ≡ purse.old.directory }
+    ensures silences { B.silences bell.new ≡ B.silences bell.old }
+{
+    let Some(owing) = &line.owed else {
+        return Ok(());
+    };
+    if !may_take(rt, purse, number, owing)? {
+        return Ok(());
+    }
+    match give(rt, purse, number, owing, clock, bell) {
+        Ok(Giving::Done) => {
+            let wire = owing.wire;
+            line.owed = None;
+            resume_where_open(line, stand, wire);
+            Ok(())
+        }
+        Ok(Giving::Full) => Ok(()),
+        Err(AllocError) => Err(AllocError),
+    }
+}
+
+// Resumes a wire of the session, where its own is open.
+fn resume_where_open(line: &Line, stand: &mut Stand, wire: Wire)
+    ensures ends { ((line.now.stage ≡ Stage.Opened stand.old.failures) × Changes (resumed_too wire)
+        (ends_of (told stand.old.host.end) (counts stand.old.host.end) stand.old.failures (sum_by (λ spare. (counts spare).faults) stand.old.host.spares.items))
+        (ends_of (told stand.new.host.end) (counts stand.new.host.end) stand.new.failures (sum_by (λ spare. (counts spare).faults) stand.new.host.spares.items)))
+        ⊎ ((line.now.stage ≢ Stage.Opened stand.old.failures)
+        × (ends_of (told stand.new.host.end) (counts stand.new.host.end) stand.new.failures (sum_by (λ spare. (counts spare).faults) stand.new.host.spares.items)
+        ≡ ends_of (told stand.old.host.end) (counts stand.old.host.end) stand.old.failures (sum_by (λ spare. (counts spare).faults) stand.old.host.spares.items))) }
+    ensures kept { stand.new.kept ≡ stand.old.kept }
+    ensures name { stand.new.host.name ≡ stand.old.host.name }
+{
+    if !line.is_open_on(stand.failures) {
+        return;
+    }
+    stand.resume(wire);
 }
 
 // Opens the wire of a session, where that wasn't done yet.

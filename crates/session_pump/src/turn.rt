@@ -230,7 +230,15 @@ impl Pump {
         ensures silences { B.silences bell.new ≡ B.silences bell.old }
     {
         match self.hosts.stands.get_mut(place) {
-            Some(stand) => poll_host(rt, &mut self.purse, stand, clock, bell),
+            Some(stand) => poll_host(
+                rt,
+                &mut self.purse,
+                &mut self.lines,
+                place,
+                stand,
+                clock,
+                bell,
+            ),
             None => unreachable!(),
         }
     }

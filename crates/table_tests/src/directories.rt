@@ -7,6 +7,7 @@ ghost use Rattle.session_core.specs.Journal.{IsReadFrom};
 ghost use Rattle.session_table.specs.Replies.{MayOpen};
 
 use body_cutter::cut;
+use bosh_types::limits::JOURNAL_BYTES;
 use bosh_types::{Moment, Row, SharedText, Stanzas, Text};
 use parked_gate::{Gate, Object, Pass};
 use session_attrs::{Kind, Request, read_request};
@@ -104,6 +105,7 @@ fn opening_with(alloc: Global, request: Request) -> Result<Opening, AllocError>
         request,
         body: shared(alloc, CREATION)?,
         at: Moment::from_millis(0),
+        limit: JOURNAL_BYTES,
     })
 }
 
@@ -205,7 +207,7 @@ fn a_session_is_opened_found_and_removed(rt: HostRuntime) -> Result<(), Fail> {
     assert!(rt; !is_removed(rt.alloc(), &mut directory, b"s1")?);
     assert!(rt; !is_found(rt.alloc(), &mut directory, b"s1")?);
     assert_eq!(rt; count_live(&directory)?, 1);
-    assert_eq!(rt; directory.entries().len(), 3);
+    assert_eq!(rt; directory.count(), 3);
     Ok(())
 }
 

@@ -10,6 +10,7 @@ ghost use Rattle.session_table.specs.Replies.{MayOpen};
 
 use body_cutter::cut;
 use bosh_ports::SteadyBell;
+use bosh_types::limits::JOURNAL_BYTES;
 use bosh_types::{Moment, Row, SharedText, Stanzas, Text, Ticket};
 use parked_gate::Gate;
 use server_ports::StillClock;
@@ -21,7 +22,7 @@ use session_table::{Directory, NewSession, Opening, Purse};
 use std::alloc::{AllocError, Global};
 use std::sync::Wait;
 use std::test::Fail;
-use xmpp_backend::{Backend, BackendCall, Echo, Failing, Scripted, are_answers};
+use xmpp_backend::{Backend, BackendCall, Echo, Failing, Room, Scripted, are_answers};
 
 const CREATION: &[u8] =
     b"<body rid='1000' to='example.org' wait='60' hold='1' ver='1.6' xmlns='http://jabber.org/protocol/httpbind'/>";
@@ -35,6 +36,18 @@ const ITEM: &[u8] =
     b"<body rid='1001' sid='s1' xmlns='http://jabber.org/protocol/httpbind'><a/></body>";
 
 const NEXT: &[u8] = b"<body rid='1002' sid='s1' xmlns='http://jabber.org/protocol/httpbind'/>";
+
+const THIRD: &[u8] = b"<body rid='1003' sid='s1' xmlns='http://jabber.org/protocol/httpbind'/>";
+
+const MANY: &[u8] = b"<body rid='1001' sid='s2' xmlns='http://jabber.org/protocol/httpbind'>";
+
+const READS: &[u8] = b"<body rid='1002' sid='s2' xmlns='http://jabber.org/protocol/httpbind'/>";
+
+const SAYS: &[u8] =
+    b"<body rid='1003' sid='s2' xmlns='http://jabber.org/protocol/httpbind'><m/></body>";
+
+const ADDS: &[u8] =
+    b"<body rid='1004' sid='s2' xmlns='http://jabber.org/protocol/httpbind'><n/></body>";
 
 const LAST: &[u8] =
     b"<body rid='1001' sid='s1' type='terminate' xmlns='http://jabber.org/protocol/httpbind'/>";
@@ -118,6 +131,7 @@ fn opening_with(alloc: Global, request: Request) -> Result<Opening, AllocError>
         request,
         body: shared(alloc, CREATION)?,
         at: Moment::from_millis(0),
+        limit: JOURNAL_BYTES,
     })
 }
 
@@ -225,11 +239,22 @@ fn open<R: Wait>(rt: &R, scene: &mut Scene) -> Result<(), &'static str> {
 
 /// What the first session replies to a request that comes through the worker.
 fn arrive<R: Wait>(rt: &R, scene: &mut Scene, body: &[u8], at: u64) -> Result<Reply, &'static str> {
+    arrive_for(rt, scene, 1, body, at)
+}
+
+/// What the session under this number replies.
+fn arrive_for<R: Wait>(
+    rt: &R,
+    scene: &mut Scene,
+    number: u64,
+    body: &[u8],
+    at: u64,
+) -> Result<Reply, &'static str> {
     let call = arrival(scene.alloc, body, at)?;
-    if !holds(&scene.worker, 1) {
+    if !holds(&scene.worker, number) {
         return Err("no session");
     }
-    match scene.worker.call(rt, 1, call) {
+    match scene.worker.call(rt, number, call) {
         Ok(reply) => Ok(reply),
         Err(AllocError) => Err("no memory"),
     }
@@ -262,26 +287,26 @@ fn collected<R: Wait>(rt: &R, scene: &mut Scene, ticket: Ticket) -> Option<Share
     }
 }
 
-/// How many items wait in the first session to be given to the client.
-fn waiting<R: Wait>(rt: &R, scene: &mut Scene) -> Option<u32> {
-    if !holds(&scene.worker, 1) {
+/// How many items wait in the session under this number to be given to the client.
+fn waiting<R: Wait>(rt: &R, scene: &mut Scene, number: u64) -> Option<u32> {
+    if !holds(&scene.worker, number) {
         return None;
     }
-    match scene.worker.look(rt, 1, &Question::Load) {
+    match scene.worker.look(rt, number, &Question::Load) {
         Ok(Answer::Load { waiting, .. }) => Some(waiting.items),
         _ => None,
     }
 }
 
-/// Whether the pump keeps something that the first host's back end gave.
+/// Whether the pump keeps something that a back end gave for the first session.
 fn keeps_something(scene: &Scene) -> bool {
-    match scene.pump.hosts.stands.first() {
-        Some(stand) => stand.kept.is_some(),
+    match scene.pump.lines.get(&1) {
+        Some(line) => line.owed.is_some(),
         None => false,
     }
 }
 
-/// A back end that gives so many times the same stanza for the first item that it is passed.
+/// A back end that gives so many times the same stanza for the first item that it is passed, and then three others.
 fn giving(alloc: Global, count: usize) -> Result<Scripted, &'static str> {
     let Ok(answers) = one_answer(alloc, count) else {
         return Err("no memory");
@@ -297,6 +322,9 @@ fn one_answer(alloc: Global, count: usize) -> Result<Vec<Stanzas>, AllocError> {
     for _ in 0..count {
         stanzas.push(text(alloc, b"<x/>")?)?;
     }
+    stanzas.push(text(alloc, b"<a/>")?)?;
+    stanzas.push(text(alloc, b"<b/>")?)?;
+    stanzas.push(text(alloc, b"<c/>")?)?;
     let mut answers = Vec::new(alloc);
     answers.push(Stanzas::from_vec(stanzas))?;
     Ok(answers)
@@ -380,20 +408,94 @@ fn a_session_is_told_that_its_back_end_failed(rt: HostRuntime) -> Result<(), Fai
     Ok(())
 }
 
+/// The bytes of the answer that a request gets at once.
+fn answer_of(reply: &Reply) -> Option<&[u8]> {
+    match reply {
+        Reply::Arrive(Arrived::Answer(body)) => Some(body.as_slice()),
+        _ => None,
+    }
+}
+
+/// Whether the request gets an answer at once that has these last bytes.
+fn is_answered_with(reply: &Reply, end: &[u8]) -> bool {
+    match answer_of(reply) {
+        Some(text) => text.ends_with(end),
+        None => false,
+    }
+}
+
 #[test]
-fn what_a_session_has_no_room_for_is_kept(rt: HostRuntime) -> Result<(), Fail> {
+fn what_a_session_has_no_room_for_is_kept_in_order(rt: HostRuntime) -> Result<(), Fail> {
     let alloc = rt.alloc();
-    let end = giving(alloc, 1026)?;
+    let end = giving(alloc, 1025)?;
     let host = host(alloc, Box::new(alloc, end)?, Vec::new(alloc))?;
     let mut scene = set_up(&rt, alloc, host)?;
     let end = b" xmlns:stream='http://etherx.jabber.org/streams'><x/></body>";
     assert!(rt; is_answered_by_turn(&rt, &mut scene, ITEM, 0, end)?);
-    assert_eq!(rt; waiting(&rt, &mut scene), Some(1024));
+    assert_eq!(rt; waiting(&rt, &mut scene, 1), Some(1024));
     assert!(rt; keeps_something(&scene));
     let reply = arrive(&rt, &mut scene, NEXT, 0)?;
     assert_eq!(rt; payloads_in(alloc, &reply), Some(1024));
     assert_eq!(rt; turn(&rt, &mut scene, 0)?, 1);
-    assert_eq!(rt; waiting(&rt, &mut scene), Some(1));
+    assert_eq!(rt; waiting(&rt, &mut scene, 1), Some(3));
     assert!(rt; !keeps_something(&scene));
+    let reply = arrive(&rt, &mut scene, THIRD, 0)?;
+    assert!(rt; is_answered_with(&reply, b"><a/><b/><c/></body>"));
+    Ok(())
+}
+
+/// A body of the second session with so many stanzas.
+fn many(alloc: Global, count: usize) -> Result<Vec<u8>, AllocError> {
+    let mut body = Vec::from_slice(alloc, MANY)?;
+    for _ in 0..count {
+        body.extend_from_slice(b"<x/>")?;
+    }
+    body.extend_from_slice(b"</body>")?;
+    Ok(body)
+}
+
+/// Three members of a room, of which the first reads nothing and has as much waiting as may; the third came after that.
+fn full_room<R: Wait>(rt: &R, alloc: Global) -> Result<Scene, &'static str> {
+    let Ok(end) = room(alloc) else {
+        return Err("no memory");
+    };
+    let mut scene = set_up(rt, alloc, end)?;
+    open(rt, &mut scene)?;
+    open(rt, &mut scene)?;
+    let Ok(body) = many(alloc, 1024) else {
+        return Err("no memory");
+    };
+    arrive_for(rt, &mut scene, 2, &body, 0)?;
+    if turn(rt, &mut scene, 0).is_err() {
+        return Err("no memory");
+    }
+    arrive_for(rt, &mut scene, 2, READS, 0)?;
+    open(rt, &mut scene)?;
+    if turn(rt, &mut scene, 0).is_err() {
+        return Err("no memory");
+    }
+    Ok(scene)
+}
+
+fn room(alloc: Global) -> Result<Host, AllocError> {
+    host(alloc, Box::new(alloc, Room::new(alloc))?, Vec::new(alloc))
+}
+
+#[test]
+fn a_member_who_reads_nothing_silences_nobody(rt: HostRuntime) -> Result<(), Fail> {
+    let alloc = rt.alloc();
+    let mut scene = full_room(&rt, alloc)?;
+    assert_eq!(rt; waiting(&rt, &mut scene, 1), Some(1024));
+    for (body, count) in [(SAYS, 1), (ADDS, 2)] {
+        arrive_for(&rt, &mut scene, 2, body, 0)?;
+        assert_eq!(rt; turn(&rt, &mut scene, 0)?, 3);
+        assert_eq!(rt; waiting(&rt, &mut scene, 1), Some(1024));
+        assert_eq!(rt; waiting(&rt, &mut scene, 3), Some(count));
+    }
+    let reply = arrive(&rt, &mut scene, EMPTY, 0)?;
+    assert_eq!(rt; payloads_in(alloc, &reply), Some(1024));
+    assert_eq!(rt; turn(&rt, &mut scene, 0)?, 3);
+    let reply = arrive(&rt, &mut scene, NEXT, 0)?;
+    assert!(rt; is_answered_with(&reply, b"><m/><n/></body>"));
     Ok(())
 }

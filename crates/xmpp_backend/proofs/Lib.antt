@@ -1,2 +1,4 @@
-pub mod OpenedLemmas
+pub mod DuesLemmas
 pub mod KindLemmas
+pub mod MovingLemmas
+pub mod OpenedLemmas

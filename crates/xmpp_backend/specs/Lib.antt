@@ -1,5 +1,6 @@
 pub mod Counts
 pub mod Told
+pub mod Dues
 pub mod Owing
 pub mod Kinds
 pub mod Script

@@ -1,70 +1,67 @@
 -- What a kind in memory owes on its open wires, and what its calls do.
-use Rattle.std.specs.Prelude.{◌≡◌, ℕ, Bool, not, List, [], ◌∷◌, ◌++◌, ◌==◌, filter, Contains, All, if◌then◌else◌}
-use Rattle.std.specs.List.{list_any}
+use Rattle.std.specs.Prelude.{◌≡◌, ℕ, Bool, false, List, [], ◌∷◌, ◌++◌, Contains, All}
 use Rattle.bosh_types.specs.declared.inward.Inward.{Inward}
 use Rattle.xmpp_backend.specs.Counts.{Counts, counted_on}
-use Rattle.xmpp_backend.specs.Told.{Told, opened_too, passed_too, given_too, closed_too}
+use Rattle.xmpp_backend.specs.Dues.{Due, Dues, OwedText, closed_from, held_from, opened_from, owes_all, resumed_from}
+use Rattle.xmpp_backend.specs.Told.{Done, Told, has_wire, told_with}
+use Rattle.xmpp_backend.specs.declared.backend.Given.{Given}
 use Rattle.xmpp_backend.specs.declared.backend.Given.TheVariants as given
 use Rattle.xmpp_backend.specs.declared.backend.Passed.{Passed}
 use Rattle.xmpp_backend.specs.declared.backend.Passed.TheVariants as passed
 use Rattle.xmpp_backend.specs.declared.backend.Polled.{Polled}
 use Rattle.xmpp_backend.specs.declared.backend.Polled.TheVariants as polled
 
--- a stanza, and the wire on which it is owed
-abbrev pub OwedText : Type 0
-OwedText = ℕ × List ℕ
-
--- what it tells and counts, the wires that are open, in the order in which they were opened, and the stanzas that it owes
+-- what was done, what it counts, and what is owed on wires
 pub record Owing : Type 0 where
-  pub told : Told
+  pub done : Done
   pub counts : Counts
-  pub wires : List ℕ
-  pub owed : List OwedText
+  pub dues : Dues
+
+-- what it tells
+abbrev pub told_of : Owing → Told
+told_of owing = told_with owing.dues.held owing.done
 
 -- before any call
 abbrev pub nothing_owed : Owing
 nothing_owed = record {
-  told = record { opened = []; passed = []; given = []; closed = [] };
+  done = record { opened = []; passed = []; given = []; closed = [] };
   counts = record { faults = 0; idle = 0; answers = 0 };
-  wires = [];
-  owed = [];
+  dues = record { wires = []; held = []; owed = []; kept = [] };
 }
 
-abbrev pub has_wire : ℕ → List ℕ → Bool
-has_wire wire wires = list_any (λ other. other == wire) wires
-
--- the wires, and this one too
-abbrev pub with_wire : ℕ → List ℕ → List ℕ
-with_wire wire wires = if has_wire wire wires then wires else wires ++ wire ∷ []
-
 abbrev pub is_open : Owing → ℕ → Bool
-is_open owing wire = has_wire wire owing.wires
+is_open owing wire = has_wire wire owing.dues.wires
 
 -- the wire is open from now on
 abbrev pub opened : ℕ → Owing → Owing
-opened wire owing = record owing { told = opened_too wire owing.told; wires = with_wire wire owing.wires }
+opened wire owing = record owing { done = record owing.done { opened = owing.done.opened ++ wire ∷ [] }; dues = opened_from wire owing.dues }
 
 -- the item was passed, and these stanzas are owed after the others for it
 abbrev pub passed_for : ℕ → Inward → List OwedText → Owing → Owing
-passed_for wire item stanzas owing = record owing { told = passed_too wire item owing.told; owed = owing.owed ++ stanzas }
+passed_for wire item stanzas owing =
+    record owing { done = record owing.done { passed = owing.done.passed ++ (wire, item) ∷ [] }; dues = owes_all stanzas owing.dues }
 
 -- the wire is no longer open, and nothing is owed on it
 abbrev pub closed : ℕ → Owing → Owing
-closed wire owing = record owing {
-  told = closed_too wire owing.told;
-  wires = filter (λ other. not (other == wire)) owing.wires;
-  owed = filter (λ stanza. not (stanza.0 == wire)) owing.owed;
-}
+closed wire owing = record owing { done = record owing.done { closed = owing.done.closed ++ wire ∷ [] }; dues = closed_from wire owing.dues }
+
+-- the wire is held, and then no longer
+abbrev pub held : ℕ → Owing → Owing
+held wire owing = record owing { dues = held_from wire owing.dues }
+
+abbrev pub resumed : ℕ → Owing → Owing
+resumed wire owing = record owing { dues = resumed_from wire owing.dues }
 
 -- the call failed, and did nothing else
 abbrev pub failed : Owing → Owing
 failed owing = record owing { counts = record owing.counts { faults = counted_on owing.counts.faults } }
 
--- this stanza was given on this wire
-abbrev pub paid : ℕ → List ℕ → Owing → Owing
-paid wire text owing = record owing {
-  told = given_too wire (given.Stanza text) owing.told;
+-- this was given on this wire, and the rest is owed
+abbrev pub paid : ℕ → Given → List Due → Owing → Owing
+paid wire what rest owing = record {
+  done = record owing.done { given = owing.done.given ++ (wire, what) ∷ [] };
   counts = record owing.counts { answers = counted_on owing.counts.answers };
+  dues = record owing.dues { owed = rest };
 }
 
 -- a poll that had nothing to give
@@ -77,23 +74,29 @@ IsDoneOrSame old new after passed.Done = new ≡ after
 IsDoneOrSame old new after passed.Failed = ⊥
 IsDoneOrSame old new after passed.NoMemory = new ≡ old
 
--- a poll gives the first stanza that is owed, on its wire, and Nothing where none is; it never fails and takes no memory
+-- this is the first that is owed, on a wire that isn't held, and it was given
+abbrev pub Pays : ℕ → Given → Owing → Owing → Type 0
+Pays wire what old new = (old.dues.owed ≡ (wire, what) ∷ new.dues.owed) × (new ≡ paid wire what new.dues.owed old) × (has_wire wire old.dues.held ≡ false)
+
+-- a poll gives the first that is owed, on its wire, and Nothing where nothing is owed but on wires that are held; it never fails and
+-- takes no memory
 abbrev pub PaysFirst : Owing → Owing → Polled → Type 0
-PaysFirst old new (polled.Out wire text) = (old.owed ≡ (wire, text) ∷ new.owed) × (new ≡ record (paid wire text old) { owed = new.owed })
-PaysFirst old new (polled.Closed wire closing) = ⊥
-PaysFirst old new polled.Nothing = (old.owed ≡ []) × (new ≡ idled old)
+PaysFirst old new (polled.Out wire text) = Pays wire (given.Stanza text) old new
+PaysFirst old new (polled.Closed wire closing) = Pays wire (given.Closed closing) old new
+PaysFirst old new polled.Nothing = (old.dues.owed ≡ []) × (new ≡ idled old)
 PaysFirst old new polled.Failed = ⊥
 PaysFirst old new polled.NoMemory = ⊥
 
 -- what a poll gives, it gives on a wire that was opened
 abbrev pub GivesOnOpened : Owing → Polled → Type 0
-GivesOnOpened owing (polled.Out wire text) = Contains owing.told.opened wire
-GivesOnOpened owing (polled.Closed wire closing) = Contains owing.told.opened wire
+GivesOnOpened owing (polled.Out wire text) = Contains owing.done.opened wire
+GivesOnOpened owing (polled.Closed wire closing) = Contains owing.done.opened wire
 GivesOnOpened owing polled.Nothing = Unit {0}
 GivesOnOpened owing polled.Failed = Unit {0}
 GivesOnOpened owing polled.NoMemory = Unit {0}
 
--- the open wires were opened, and so were those on which something is owed
-pub record AllWereOpened (opened open_now : List ℕ) (stanzas : List OwedText) : Type 0 where
-  pub wires : All (Contains opened) open_now
-  pub owed : All (λ stanza. Contains opened stanza.0) stanzas
+-- the open wires were opened, and so were those on which something is owed or kept
+pub record AllWereOpened (opened : List ℕ) (dues : Dues) : Type 0 where
+  pub wires : All (Contains opened) dues.wires
+  pub owed : All (λ due. Contains opened due.0) dues.owed
+  pub kept : All (λ due. Contains opened due.0) dues.kept

@@ -3,7 +3,8 @@ use Rattle.std.specs.Prelude.{◌≡◌, ℕ, Bool, List, [], ◌∷◌, Contain
 use Rattle.std.specs.List.{list_all}
 use Rattle.body_cutter.specs.Cutting.{is_stanza}
 use Rattle.xmpp_backend.specs.Counts.{counted_on}
-use Rattle.xmpp_backend.specs.Owing.{Owing, OwedText, is_open, failed, PaysFirst}
+use Rattle.xmpp_backend.specs.Dues.{OwedText}
+use Rattle.xmpp_backend.specs.Owing.{Owing, is_open, failed, PaysFirst}
 use Rattle.xmpp_backend.specs.declared.calls.BackendCall.{BackendCall}
 use Rattle.xmpp_backend.specs.declared.calls.BackendCall.TheVariants as kind
 use Rattle.xmpp_backend.specs.declared.calls.Failing.{Failing}
@@ -70,7 +71,7 @@ IsDoneOrFails old new after passed.NoMemory = new ≡ old
 -- a poll that gives the first stanza that is owed, or fails and does nothing else
 abbrev pub PaysOrFails : Script → Script → Polled → Type 0
 PaysOrFails old new (polled.Out wire text) = PaysFirst old.owing new.owing (polled.Out wire text) × (new ≡ record old { owing = new.owing })
-PaysOrFails old new (polled.Closed wire closing) = ⊥
+PaysOrFails old new (polled.Closed wire closing) = PaysFirst old.owing new.owing (polled.Closed wire closing) × (new ≡ record old { owing = new.owing })
 PaysOrFails old new polled.Nothing = PaysFirst old.owing new.owing polled.Nothing × (new ≡ record old { owing = new.owing })
 PaysOrFails old new polled.Failed = new ≡ record old { owing = failed old.owing }
 PaysOrFails old new polled.NoMemory = ⊥

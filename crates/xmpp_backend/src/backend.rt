@@ -37,11 +37,12 @@ pub enum Polled {
 /// its polls gave are lists that only grow, in the order of the calls, where it tells them: a real back end may tell nothing.
 /// `Failed` comes only where its count of faults rose, and no other answer moves that count.
 pub trait Backend: Drop {
-    ghost use Rattle.std.specs.Prelude.{Option};
+    ghost use Rattle.std.specs.Prelude.{◌≡◌, Option};
     ghost use Rattle.xmpp_backend.specs.Counts.{Counts, CountsPassed, CountsPolled};
-    ghost use Rattle.xmpp_backend.specs.Told.{Told, Opens, Passes, Polls, Closes, GivesStanza};
+    ghost use Rattle.xmpp_backend.specs.Told.{Told, Opens, Passes, Polls, Closes, Holds, Resumes, GivesStanza};
 
-    // The wires that were opened and closed, what it was passed and what its polls gave, where it tells them.
+    // The wires that were opened and closed, what it was passed and what its polls gave, and the wires that are held, where it
+    // tells them.
     ghost told: { Self → Option Told };
 
     // How often it failed, and how often a poll found nothing and gave something.
@@ -68,4 +69,15 @@ pub trait Backend: Drop {
     fn close(&mut self, wire: Wire) -> Passed
         ensures lists { Closes (told self.old) (told self.new) wire result }
         ensures counts { CountsPassed (counts self.old) (counts self.new) result };
+
+    /// Nothing is given on this wire until it is resumed: its session has no room for more. One that tells nothing may go on
+    /// giving. It takes no memory.
+    fn hold(&mut self, wire: Wire)
+        ensures lists { Holds (told self.old) (told self.new) wire }
+        ensures counts { counts self.new ≡ counts self.old };
+
+    /// What is kept for this wire may be given again, in its order. It takes no memory.
+    fn resume(&mut self, wire: Wire)
+        ensures lists { Resumes (told self.old) (told self.new) wire }
+        ensures counts { counts self.new ≡ counts self.old };
 }

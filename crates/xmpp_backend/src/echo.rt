@@ -26,7 +26,7 @@ impl Model for Echo {
 }
 
 impl Echo {
-    ghost use Rattle.xmpp_backend.specs.Owing.{nothing_owed, is_open};
+    ghost use Rattle.xmpp_backend.specs.Owing.{nothing_owed};
     ghost use Rattle.xmpp_backend.specs.Kinds.{echo_on};
 
     /// No wire is open and nothing is owed. It takes no memory.
@@ -43,7 +43,6 @@ impl Echo {
     fn echo_on(&self, wire: Wire, item: &Inward) -> Result<Option<SharedText>, AllocError>
         ensures echo { IfOk result (λ stanza. stanza ≡ echo_on self.now wire item.now) }
         ensures text { IfOk result (λ stanza. IfSome stanza (λ text. IsTrue (is_stanza text))) }
-        ensures live { IfOk result (λ stanza. IfSome stanza (λ _. IsTrue (is_open self.now wire))) }
     {
         if !self.ledger.is_open(wire) {
             return Ok(None);
@@ -54,10 +53,10 @@ impl Echo {
 
 impl Backend for Echo {
     ghost use Rattle.xmpp_backend.specs.Told.{GivesStanza};
-    ghost use Rattle.xmpp_backend.specs.Owing.{opened, passed_for, closed, IsDoneOrSame, PaysFirst, GivesOnOpened};
+    ghost use Rattle.xmpp_backend.specs.Owing.{opened, passed_for, closed, held, resumed, told_of, IsDoneOrSame, PaysFirst, GivesOnOpened};
     ghost use Rattle.xmpp_backend.specs.Kinds.{echo_on, on_one};
 
-    ghost told = { λ e. Some e.told };
+    ghost told = { λ e. Some (told_of e) };
 
     ghost counts = { λ e. e.counts };
 
@@ -83,7 +82,7 @@ impl Backend for Echo {
         }
     }
 
-    // What is owed is given in order, and `Nothing` comes where nothing is owed.
+    // What is owed is given in order, and `Nothing` comes where nothing is owed but on wires that are held.
     fn poll(&mut self) -> Polled
         ensures first { PaysFirst self.old self.new result }
         ensures stanza { GivesStanza result }
@@ -98,5 +97,17 @@ impl Backend for Echo {
     {
         self.ledger.close(wire);
         Passed::Done
+    }
+
+    fn hold(&mut self, wire: Wire)
+        ensures { self.new ≡ held wire self.old }
+    {
+        self.ledger.hold(wire);
+    }
+
+    fn resume(&mut self, wire: Wire)
+        ensures { self.new ≡ resumed wire self.old }
+    {
+        self.ledger.resume(wire);
     }
 }

@@ -1,13 +1,16 @@
 // What the kinds in memory have in common: the open wires, the stanzas that are owed on them, and what was done.
-ghost use Rattle.std.specs.Prelude.{◌≡◌, [], ◌++◌, IsTrue, OnOk, OnErr, All};
+ghost use Rattle.std.specs.Prelude.{◌≡◌, IsTrue, List, OnOk, OnErr, ℕ};
 ghost use Rattle.std.specs.Option.{ForSome};
 ghost use Rattle.body_cutter.specs.Cutting.{is_stanza};
+ghost use Rattle.bosh_types.specs.declared.ending.Closing.{Closing};
+ghost use Rattle.xmpp_backend.specs.Told.{GivesStanza, is_proper};
+ghost use Rattle.xmpp_backend.specs.declared.backend.Given.TheVariants as given;
 
-use crate::backend::{Passed, Polled};
+use crate::backend::{Given, Polled};
+use crate::dues::Dues;
 use crate::lists::Lists;
 use crate::owed::Owed;
 use crate::tally::Tally;
-use crate::wires::Wires;
 use bosh_types::{Inward, SharedText, Wire};
 use std::alloc::{AllocError, Global};
 use std::collections::VecDeque;
@@ -17,25 +20,22 @@ use std::marker::Model;
 pub(crate) struct Ledger {
     lists: Lists,
     tally: Tally,
-    wires: Wires,
-    owed: VecDeque<Owed>,
+    dues: Dues,
 }
 
 impl Model for Ledger {
-    ghost use Rattle.std.specs.Prelude.{All, Contains};
     ghost use Rattle.xmpp_backend.specs.Owing.{Owing, AllWereOpened};
 
     ghost Value = { Owing };
 
-    ghost view = { λ l. record { told = l.lists; counts = l.tally; wires = l.wires; owed = l.owed.items } };
+    ghost view = { λ l. record { done = l.lists; counts = l.tally; dues = l.dues.dues } };
 
-    ghost invariant = { λ l. AllWereOpened l.lists.opened l.wires l.owed.items };
+    ghost invariant = { λ l. AllWereOpened l.lists.opened l.dues.dues };
 }
 
 impl Ledger {
-    ghost use Rattle.xmpp_backend.specs.Told.{GivesStanza};
-    ghost use Rattle.xmpp_backend.specs.Owing.{Owing, OwedText, nothing_owed, opened, passed_for, closed, failed, is_open, has_wire, with_wire, PaysFirst, GivesOnOpened};
     ghost use Rattle.xmpp_backend.specs.Kinds.{on_one};
+    ghost use Rattle.xmpp_backend.specs.Owing.{nothing_owed, opened, passed_for, closed, held, resumed, failed, is_open, PaysFirst, GivesOnOpened};
 
     // Nothing was done yet. It takes no memory.
     pub(crate) fn new(alloc: Global) -> Self
@@ -44,23 +44,22 @@ impl Ledger {
         Ledger {
             lists: Lists::new(),
             tally: Tally::new(),
-            wires: Wires::new(alloc),
-            owed: VecDeque::new(alloc),
+            dues: Dues::new(alloc),
         }
     }
 
     // The wires that are open.
     pub(crate) fn wires(&self) -> &[Wire]
-        ensures { result.now ≡ self.now.wires }
+        ensures { result.now ≡ self.now.dues.wires }
     {
-        self.wires.as_slice()
+        self.dues.wires()
     }
 
     // Whether the wire is open.
     pub(crate) fn is_open(&self, wire: Wire) -> bool
         ensures { result ≡ is_open self.now wire }
     {
-        self.wires.contains(wire)
+        self.dues.is_open(wire)
     }
 
     // The wire is open from now on.
@@ -68,7 +67,7 @@ impl Ledger {
         ensures ok { OnOk result (self.new ≡ opened wire self.old) }
         ensures err { OnErr result (self.new ≡ self.old) }
     {
-        self.wires.insert(wire)?;
+        self.dues.open(wire)?;
         self.lists.open(wire);
         Ok(())
     }
@@ -77,10 +76,22 @@ impl Ledger {
     pub(crate) fn close(&mut self, wire: Wire)
         ensures { self.new ≡ closed wire self.old }
     {
-        self.wires.remove(wire);
-        self.owed
-            .retain(|stanza| stanza.wire().number() != wire.number());
+        self.dues.close(wire);
         self.lists.close(wire);
+    }
+
+    // What is owed on the wire is kept until it is resumed.
+    pub(crate) fn hold(&mut self, wire: Wire)
+        ensures { self.new ≡ held wire self.old }
+    {
+        self.dues.hold(wire);
+    }
+
+    // What was kept for the wire is owed.
+    pub(crate) fn resume(&mut self, wire: Wire)
+        ensures { self.new ≡ resumed wire self.old }
+    {
+        self.dues.resume(wire);
     }
 
     // An item was passed on a wire, and one stanza is owed for it, or none.
@@ -90,13 +101,12 @@ impl Ledger {
         item: &Inward,
         stanza: Option<SharedText>,
     ) -> Result<(), AllocError>
-        requires stanza { ForSome stanza (λ text. IsTrue (is_stanza text)) }
-        requires live { ForSome stanza (λ _. IsTrue (is_open self.old wire)) }
+        requires { ForSome stanza (λ text. IsTrue (is_stanza text)) }
         ensures ok { OnOk result (self.new ≡ passed_for wire item.now (on_one wire stanza) self.old) }
         ensures err { OnErr result (self.new ≡ self.old) }
     {
         if let Some(stanza) = stanza {
-            self.owed.push_back(Owed::new(wire, stanza))?;
+            self.dues.put_one(wire, stanza)?;
             self.lists.pass(wire, item);
             return Ok(());
         }
@@ -109,13 +119,12 @@ impl Ledger {
         &mut self,
         wire: Wire,
         item: &Inward,
-        mut stanzas: VecDeque<Owed>,
+        stanzas: VecDeque<Owed>,
     ) -> Result<(), AllocError>
-        requires { All (λ stanza. IsTrue (is_open self.old stanza.0)) stanzas.items }
         ensures ok { OnOk result (self.new ≡ passed_for wire item.now stanzas.items self.old) }
         ensures err { OnErr result (self.new ≡ self.old) }
     {
-        self.owed.append(&mut stanzas)?;
+        self.dues.put_all(stanzas)?;
         self.lists.pass(wire, item);
         Ok(())
     }
@@ -127,23 +136,36 @@ impl Ledger {
         self.tally.fail();
     }
 
-    // Gives the first stanza that is owed. It takes no memory.
+    // Gives the first that is owed. It takes no memory.
     pub(crate) fn poll(&mut self) -> Polled
         ensures first { PaysFirst self.old self.new result }
         ensures stanza { GivesStanza result }
         ensures opened { GivesOnOpened self.old result }
     {
-        match self.owed.pop_front() {
+        match self.dues.pop() {
             None => {
                 self.tally.idle();
                 Polled::Nothing
             }
-            Some(owed) => {
-                let (wire, stanza) = owed.into_parts();
+            Some(due) => {
+                let (wire, given) = due.into_parts();
                 self.tally.answer();
-                self.lists.give(wire, &stanza);
-                Polled::Out(wire, stanza)
+                self.lists.give(wire, &given);
+                polled_on(wire, given)
             }
         }
+    }
+}
+
+// What is given on a wire, as the answer of a poll.
+fn polled_on(wire: Wire, what: Given) -> Polled
+    requires { IsTrue (is_proper what) }
+    ensures stanza { (text : List ℕ) → what ≡ given.Stanza text → result ≡ Polled.Out wire text }
+    ensures closed { (closing : Closing) → what ≡ given.Closed closing → result ≡ Polled.Closed wire closing }
+    ensures proper { GivesStanza result }
+{
+    match what {
+        Given::Stanza(stanza) => Polled::Out(wire, stanza),
+        Given::Closed(closing) => Polled::Closed(wire, closing),
     }
 }

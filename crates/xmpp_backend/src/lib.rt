@@ -5,7 +5,10 @@
 
 mod backend;
 mod calls;
+mod due;
+mod dues;
 mod echo;
+mod hold;
 mod ledger;
 mod lists;
 mod owed;

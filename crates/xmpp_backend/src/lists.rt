@@ -1,8 +1,8 @@
 // What a kind in memory tells and counts. The lists are read by proofs alone and take no memory.
 ghost use Rattle.std.specs.Prelude.{◌≡◌, []};
-ghost use Rattle.xmpp_backend.specs.Counts.{counted_on};
 
-use bosh_types::{Inward, SharedText, Wire};
+use crate::backend::Given;
+use bosh_types::{Inward, Wire};
 use http_server::Log;
 use std::marker::Model;
 
@@ -11,22 +11,21 @@ use std::marker::Model;
 pub(crate) struct Lists {
     opened: Log<Wire, Wire>,
     passed: Log<Wire, Inward>,
-    given: Log<Wire, SharedText>,
+    given: Log<Wire, Given>,
     closed: Log<Wire, Wire>,
 }
 
 impl Model for Lists {
     ghost use Rattle.std.specs.Prelude.{map};
-    ghost use Rattle.xmpp_backend.specs.Told.{Told, stanza_on};
+    ghost use Rattle.xmpp_backend.specs.Told.{Done};
 
-    ghost Value = { Told };
+    ghost Value = { Done };
 
-    ghost view = { λ l. record { opened = map (λ entry. entry.0) l.opened.items; passed = l.passed.items; given = map stanza_on l.given.items; closed = map (λ entry. entry.0) l.closed.items } };
+    ghost view = { λ l. record { opened = map (λ entry. entry.0) l.opened.items; passed = l.passed.items; given = l.given.items; closed = map (λ entry. entry.0) l.closed.items } };
 }
 
 impl Lists {
-    ghost use Rattle.xmpp_backend.specs.declared.backend.Given.TheVariants as given;
-    ghost use Rattle.xmpp_backend.specs.Told.{opened_too, passed_too, given_too, closed_too};
+    ghost use Rattle.std.specs.Prelude.{◌++◌, ◌∷◌};
 
     pub(crate) fn new() -> Self
         ensures { result ≡ record { opened = []; passed = []; given = []; closed = [] } }
@@ -40,25 +39,25 @@ impl Lists {
     }
 
     pub(crate) fn open(&mut self, wire: Wire)
-        ensures { self.new ≡ opened_too wire self.old }
+        ensures { self.new ≡ record self.old { opened = self.old.opened ++ wire ∷ [] } }
     {
         self.opened = self.opened.and(&wire, &wire);
     }
 
     pub(crate) fn pass(&mut self, wire: Wire, item: &Inward)
-        ensures { self.new ≡ passed_too wire item.now self.old }
+        ensures { self.new ≡ record self.old { passed = self.old.passed ++ (wire, item.now) ∷ [] } }
     {
         self.passed = self.passed.and(&wire, item);
     }
 
-    pub(crate) fn give(&mut self, wire: Wire, stanza: &SharedText)
-        ensures { self.new ≡ given_too wire (given.Stanza stanza.now) self.old }
+    pub(crate) fn give(&mut self, wire: Wire, given: &Given)
+        ensures { self.new ≡ record self.old { given = self.old.given ++ (wire, given.now) ∷ [] } }
     {
-        self.given = self.given.and(&wire, stanza);
+        self.given = self.given.and(&wire, given);
     }
 
     pub(crate) fn close(&mut self, wire: Wire)
-        ensures { self.new ≡ closed_too wire self.old }
+        ensures { self.new ≡ record self.old { closed = self.old.closed ++ wire ∷ [] } }
     {
         self.closed = self.closed.and(&wire, &wire);
     }

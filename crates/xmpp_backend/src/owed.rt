@@ -1,6 +1,5 @@
-ghost use Rattle.std.specs.Prelude.{◌≡◌, All, IfOk, IsTrue, map};
+ghost use Rattle.std.specs.Prelude.{◌≡◌, IfOk, IsTrue, map};
 ghost use Rattle.body_cutter.specs.Cutting.{is_stanza};
-ghost use Rattle.xmpp_backend.specs.Owing.{has_wire};
 ghost use Rattle.xmpp_backend.specs.Script.{are_stanzas};
 
 use bosh_types::{CopyIn, SharedText, Text, Wire};
@@ -18,7 +17,7 @@ pub(crate) struct Owed {
 impl Model for Owed {
     ghost use Rattle.std.specs.Prelude.{IsTrue};
     ghost use Rattle.body_cutter.specs.Cutting.{is_stanza};
-    ghost use Rattle.xmpp_backend.specs.Owing.{OwedText};
+    ghost use Rattle.xmpp_backend.specs.Dues.{OwedText};
 
     ghost Value = { OwedText };
 
@@ -59,8 +58,7 @@ pub(crate) fn owed_on_all(
     stanza: &SharedText,
 ) -> Result<VecDeque<Owed>, AllocError>
     requires { IsTrue (is_stanza stanza.now) }
-    ensures owed { IfOk result (λ owed. owed.items ≡ map (λ wire. (wire, stanza.now)) wires.now) }
-    ensures among { IfOk result (λ owed. All (λ stanza. IsTrue (has_wire stanza.0 wires.now)) owed.items) }
+    ensures { IfOk result (λ owed. owed.items ≡ map (λ wire. (wire, stanza.now)) wires.now) }
 {
     let mut owed = VecDeque::with_capacity(alloc, wires.len())?;
     for wire in wires {

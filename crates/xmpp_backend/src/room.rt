@@ -1,5 +1,5 @@
 // A back end that gives each stanza to all.
-ghost use Rattle.std.specs.Prelude.{◌≡◌, Some, All, IfOk, IsTrue};
+ghost use Rattle.std.specs.Prelude.{◌≡◌, Some, IfOk};
 
 use crate::backend::{Backend, Passed, Polled};
 use crate::ledger::Ledger;
@@ -28,7 +28,7 @@ impl Model for Room {
 }
 
 impl Room {
-    ghost use Rattle.xmpp_backend.specs.Owing.{nothing_owed, is_open};
+    ghost use Rattle.xmpp_backend.specs.Owing.{nothing_owed};
     ghost use Rattle.xmpp_backend.specs.Kinds.{shared_on};
 
     /// No wire is open and nothing is owed. It takes no memory.
@@ -44,7 +44,6 @@ impl Room {
     // What is owed for an item that is passed on the wire.
     fn shared_on(&self, wire: Wire, item: &Inward) -> Result<VecDeque<Owed>, AllocError>
         ensures shared { IfOk result (λ owed. owed.items ≡ shared_on self.now wire item.now) }
-        ensures live { IfOk result (λ owed. All (λ stanza. IsTrue (is_open self.now stanza.0)) owed.items) }
     {
         if !self.ledger.is_open(wire) {
             return Ok(VecDeque::new(self.alloc));
@@ -57,11 +56,11 @@ impl Room {
 }
 
 impl Backend for Room {
-    ghost use Rattle.xmpp_backend.specs.Told.{GivesStanza};
-    ghost use Rattle.xmpp_backend.specs.Owing.{opened, passed_for, closed, IsDoneOrSame, PaysFirst, GivesOnOpened};
+    ghost use Rattle.xmpp_backend.specs.Told.{GivesStanza, Passes};
+    ghost use Rattle.xmpp_backend.specs.Owing.{opened, passed_for, closed, held, resumed, told_of, IsDoneOrSame, PaysFirst, GivesOnOpened};
     ghost use Rattle.xmpp_backend.specs.Kinds.{shared_on};
 
-    ghost told = { λ r. Some r.told };
+    ghost told = { λ r. Some (told_of r) };
 
     ghost counts = { λ r. r.counts };
 
@@ -76,7 +75,8 @@ impl Backend for Room {
 
     // What comes on an open wire is owed on each open wire, after what is owed already.
     fn pass(&mut self, wire: Wire, item: &Inward) -> Passed
-        ensures { IsDoneOrSame self.old self.new (passed_for wire item.now (shared_on self.old wire item.now) self.old) result }
+        ensures step { IsDoneOrSame self.old self.new (passed_for wire item.now (shared_on self.old wire item.now) self.old) result }
+        ensures lists { Passes (Some (told_of self.old)) (Some (told_of self.new)) wire item.now result }
     {
         let Ok(stanzas) = self.shared_on(wire, item) else {
             return Passed::NoMemory;
@@ -87,7 +87,7 @@ impl Backend for Room {
         }
     }
 
-    // What is owed is given in order, and `Nothing` comes where nothing is owed.
+    // What is owed is given in order, and `Nothing` comes where nothing is owed but on wires that are held.
     fn poll(&mut self) -> Polled
         ensures first { PaysFirst self.old self.new result }
         ensures stanza { GivesStanza result }
@@ -102,5 +102,17 @@ impl Backend for Room {
     {
         self.ledger.close(wire);
         Passed::Done
+    }
+
+    fn hold(&mut self, wire: Wire)
+        ensures { self.new ≡ held wire self.old }
+    {
+        self.ledger.hold(wire);
+    }
+
+    fn resume(&mut self, wire: Wire)
+        ensures { self.new ≡ resumed wire self.old }
+    {
+        self.ledger.resume(wire);
     }
 }

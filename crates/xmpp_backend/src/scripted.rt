@@ -1,5 +1,5 @@
 // A back end that gives by a list.
-ghost use Rattle.std.specs.Prelude.{◌≡◌, ◌≢◌, ◌↔◌, Some, All, IfOk, IsTrue, drop};
+ghost use Rattle.std.specs.Prelude.{◌≡◌, ◌≢◌, ◌↔◌, Some, IfOk, IsTrue, drop};
 
 use crate::backend::{Backend, Passed, Polled};
 use crate::calls::{BackendCall, Calls, Failing};
@@ -33,7 +33,7 @@ impl Model for Scripted {
 }
 
 impl Scripted {
-    ghost use Rattle.xmpp_backend.specs.Owing.{nothing_owed, is_open};
+    ghost use Rattle.xmpp_backend.specs.Owing.{nothing_owed};
     ghost use Rattle.xmpp_backend.specs.Script.{no_calls, called, answer_on, are_answers, IsNextToFail};
 
     /// No wire is open, nothing is owed and no call was made. Each text of the lists is a stanza, which `are_answers` tests.
@@ -62,8 +62,7 @@ impl Scripted {
 
     // What is owed for the next item, where it is passed on this wire.
     fn answer_on(&self, wire: Wire) -> Result<VecDeque<Owed>, AllocError>
-        ensures answer { IfOk result (λ owed. owed.items ≡ answer_on self.now wire) }
-        ensures live { IfOk result (λ owed. All (λ stanza. IsTrue (is_open self.now.owing stanza.0)) owed.items) }
+        ensures { IfOk result (λ owed. owed.items ≡ answer_on self.now wire) }
     {
         if !self.ledger.is_open(wire) {
             return Ok(VecDeque::new(self.alloc));
@@ -83,11 +82,11 @@ impl Scripted {
 }
 
 impl Backend for Scripted {
-    ghost use Rattle.xmpp_backend.specs.Told.{GivesStanza};
-    ghost use Rattle.xmpp_backend.specs.Owing.{opened, passed_for, closed, GivesOnOpened};
+    ghost use Rattle.xmpp_backend.specs.Told.{GivesStanza, Passes};
+    ghost use Rattle.xmpp_backend.specs.Owing.{opened, passed_for, closed, held, resumed, told_of, GivesOnOpened};
     ghost use Rattle.xmpp_backend.specs.Script.{called, answer_on, IsNextToFail, IsDoneOrFails, PaysOrFails};
 
-    ghost told = { λ s. Some s.owing.told };
+    ghost told = { λ s. Some (told_of s.owing) };
 
     ghost counts = { λ s. s.owing.counts };
 
@@ -111,6 +110,7 @@ impl Backend for Scripted {
         ensures listed { (result ≡ Passed.Failed) ↔ IsNextToFail BackendCall.Pass self.old }
         ensures step { let old = called BackendCall.Pass self.old in
             IsDoneOrFails old self.new (record old { owing = passed_for wire item.now (answer_on old wire) old.owing; answers = drop 1 old.answers }) result }
+        ensures lists { Passes (Some (told_of self.old.owing)) (Some (told_of self.new.owing)) wire item.now result }
     {
         if self.call(BackendCall::Pass) {
             self.ledger.fail();
@@ -128,7 +128,7 @@ impl Backend for Scripted {
         }
     }
 
-    // What is owed is given in order, and `Nothing` comes where nothing is owed; but a listed call fails, whatever is owed.
+    // What is owed is given in order, and `Nothing` comes where nothing is owed but on wires that are held; but a listed call fails, whatever is owed.
     fn poll(&mut self) -> Polled
         ensures listed { (result ≡ Polled.Failed) ↔ IsNextToFail BackendCall.Poll self.old }
         ensures first { PaysOrFails (called BackendCall.Poll self.old) self.new result }
@@ -154,5 +154,17 @@ impl Backend for Scripted {
         }
         self.ledger.close(wire);
         Passed::Done
+    }
+
+    fn hold(&mut self, wire: Wire)
+        ensures { self.new ≡ record self.old { owing = held wire self.old.owing } }
+    {
+        self.ledger.hold(wire);
+    }
+
+    fn resume(&mut self, wire: Wire)
+        ensures { self.new ≡ record self.old { owing = resumed wire self.old.owing } }
+    {
+        self.ledger.resume(wire);
     }
 }

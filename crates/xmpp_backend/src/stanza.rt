@@ -32,7 +32,7 @@ pub(crate) fn stanza_in(alloc: Global, item: &Inward) -> Result<Option<SharedTex
             }
             Ok(None)
         }
-        Inward::Restart(_) => Ok(None),
+        Inward::Restart(_) | Inward::Open(_, _) | Inward::Close(_) => Ok(None),
     }
 }
 
@@ -53,6 +53,7 @@ pub(crate) fn echo_of(alloc: Global, item: &Inward) -> Result<Option<SharedText>
     match item {
         Inward::Item(_, _) => stanza_in(alloc, item),
         Inward::Restart(_) => Ok(Some(features(alloc)?)),
+        Inward::Open(_, _) | Inward::Close(_) => Ok(None),
     }
 }
 

@@ -1,6 +1,6 @@
 ghost use Rattle.std.specs.Prelude.{◌≡◌, ◌==◌, [], not, filter, OnOk, OnErr};
 ghost use Rattle.std.specs.List.{list_any};
-ghost use Rattle.xmpp_backend.specs.Owing.{has_wire, with_wire};
+ghost use Rattle.xmpp_backend.specs.Told.{has_wire, with_wire, without_wire};
 
 use bosh_types::Wire;
 use std::alloc::{AllocError, Global};
@@ -56,7 +56,7 @@ impl Wires {
     }
 
     pub(crate) fn remove(&mut self, wire: Wire)
-        ensures { self.new ≡ filter (λ other. not (other == wire)) self.old }
+        ensures { self.new ≡ without_wire wire self.old }
     {
         self.items.retain(|other| other.number() != wire.number());
     }

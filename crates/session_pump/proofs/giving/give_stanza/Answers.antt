@@ -1,5 +1,5 @@
 use Rattle.session_journal.specs.declared.call.Call.TheVariants as calls
-use Rattle.session_pump.specs.Giving.{untried}
+use Rattle.session_pump.specs.Taking.{untried}
 use Rattle.session_pump.proofs.GivingLemmas.{given_so, tried_so}
 use Rattle.session_pump.proofs.TurnedLemmas.{turned_none}
 use Rattle.session_pump.proofs.giving.give_stanza.Goals as goal

@@ -1,5 +1,5 @@
 use Rattle.std.proofs.Common.{rules}
-use Rattle.session_pump.specs.Giving.{IsAsked, IsReady, is_new, looked, unasked}
+use Rattle.session_pump.specs.Taking.{IsAsked, IsReady, is_new, looked, unasked}
 use Rattle.session_pump.proofs.GivingLemmas.{lacks_so, looks_any, ok_same, ready_so}
 use Rattle.session_pump.proofs.TurnedLemmas.{turned_as, turned_none}
 use Rattle.session_pump.proofs.giving.may_take.Goals as goal

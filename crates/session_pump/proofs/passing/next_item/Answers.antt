@@ -1,7 +1,7 @@
 use Rattle.std.proofs.Common.{Ok, subst}
 use Rattle.session_journal.specs.declared.call.Call.TheVariants as calls
 use Rattle.session_table.specs.Purses.{Turned}
-use Rattle.session_pump.specs.Sides.{Called}
+use Rattle.session_pump.specs.Calling.{Called}
 use Rattle.session_pump.proofs.passing.next_item.Goals as goal
 
 pub returns-in-Ok-clause-took : goal.returns-in-Ok-clause-took

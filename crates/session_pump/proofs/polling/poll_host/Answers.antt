@@ -1,5 +1,5 @@
 use Rattle.std.proofs.Common.{◌∙◌, refl, rules}
-use Rattle.session_pump.specs.Giving.{gave_much, had_no_room, never}
+use Rattle.session_pump.specs.Giving.{gave_much, never}
 use Rattle.session_pump.proofs.GivingLemmas.{gave_again, gave_so_often, gives_then, over_after, polls_err, times_moves}
 use Rattle.session_pump.proofs.polling.poll_host.Goals as goal
 
@@ -27,20 +27,20 @@ loop-preserved g c = record {
 }
 
 pub returns-in_err-giving-clause-gives : goal.returns-in_err-giving-clause-gives
-returns-in_err-giving-clause-gives g c = gives_then (times_moves c.loop.invariant.times) (c.in_err-giving.ensures.gives _)
+returns-in_err-giving-clause-gives g c = gives_then (times_moves c.loop.invariant.times) c.in_err-giving.ensures.gives
 
 pub returns-in_err-giving-clause-polls : goal.returns-in_err-giving-clause-polls
-returns-in_err-giving-clause-polls g c = polls_err _ c.from_residual-in_err-giving.ensures.0 (gives_then (times_moves c.loop.invariant.times) (c.in_err-giving.ensures.gives _))
+returns-in_err-giving-clause-polls g c = polls_err _ c.from_residual-in_err-giving.ensures.0 (gives_then (times_moves c.loop.invariant.times) c.in_err-giving.ensures.gives)
 
 pub returns-in-Done-clause-gives : goal.returns-in-Done-clause-gives
-returns-in-Done-clause-gives g c = gives_then (times_moves c.loop.invariant.times) (c.in_ok-giving.ensures.gives _)
+returns-in-Done-clause-gives g c = gives_then (times_moves c.loop.invariant.times) c.in_ok-giving.ensures.gives
 
 pub returns-in-Full-clause-gives : goal.returns-in-Full-clause-gives
-returns-in-Full-clause-gives g c = gives_then (times_moves c.loop.invariant.times) (c.in_ok-giving.ensures.gives _)
+returns-in-Full-clause-gives g c = gives_then (times_moves c.loop.invariant.times) c.in_ok-giving.ensures.gives
 
 pub returns-in-Done-clause-polls : goal.returns-in-Done-clause-polls
 returns-in-Done-clause-polls g c =
-    gave_much (gave_so_often _ _ _ (search rules) c.loop.invariant.times) (c.in_ok-giving.ensures.gives _) (c.in_ok-giving.ensures.done (search rules))
+    gave_much (gave_so_often _ _ _ (search rules) c.loop.invariant.times) c.in_ok-giving.ensures.gives (c.in_ok-giving.ensures.done (search rules))
 
 pub returns-in-Full-clause-polls : goal.returns-in-Full-clause-polls
-returns-in-Full-clause-polls g c = over_after (times_moves c.loop.invariant.times) (had_no_room (c.in_ok-giving.ensures.full (search rules) _))
+returns-in-Full-clause-polls g c = over_after (times_moves c.loop.invariant.times) (c.in_ok-giving.ensures.full (search rules))

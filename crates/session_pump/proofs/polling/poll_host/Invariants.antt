@@ -10,6 +10,7 @@ invariant-loop g l = record {
   silences : g.B.Bell.silences l.bell ≡ g.B.Bell.silences l.fn.bell;
   times : GivesTimes (g.C.Clock.moment l.clock) l.counter
       (record {
+        place = l.place;
         kept = l.fn.stand.kept;
         ends = ends_of
             ((goal.Backend-dyn g (l.fn.stand.host.end.vtable, l.fn.stand.host.end.value)).told l.fn.stand.host.end.value)
@@ -17,8 +18,10 @@ invariant-loop g l = record {
             l.fn.stand.failures
             (sum_by (λ spare. ((goal.Backend-dyn g (spare.vtable, spare.value)).counts spare.value).faults) l.fn.stand.host.spares.items);
         sessions = l.fn.purse.sessions;
+        lines = l.fn.lines;
       })
       (record {
+        place = l.place;
         kept = l.stand.kept;
         ends = ends_of
             ((goal.Backend-dyn g (l.stand.host.end.vtable, l.stand.host.end.value)).told l.stand.host.end.value)
@@ -26,5 +29,6 @@ invariant-loop g l = record {
             l.stand.failures
             (sum_by (λ spare. ((goal.Backend-dyn g (spare.vtable, spare.value)).counts spare.value).faults) l.stand.host.spares.items);
         sessions = l.purse.sessions;
+        lines = l.lines;
       });
 }

@@ -1,5 +1,5 @@
 use Rattle.session_pump.specs.Sides.{none}
-use Rattle.session_pump.proofs.ServingLemmas.{after_still, serves_early, serves_on, serves_untimed}
+use Rattle.session_pump.proofs.ServingLemmas.{after_still, serves_early, serves_on, serves_untimed, serves_untried}
 use Rattle.session_pump.proofs.TurnedLemmas.{turned_none}
 use Rattle.session_pump.proofs.serving.serve_line.Goals as goal
 
@@ -19,9 +19,15 @@ returns-in_err-tick-clause-serves g c =
     (after_still _ _ _ _ _ _ _ _ _ (c.in_ok-open_wire.ensures.moves (g.C.Clock.moment c.args.clock.now)) c.in_ok-tell_cut.ensures.moves)
     c.in_err-tick.ensures.ticks
 
+pub returns-in_err-give_owed-clause-serves : goal.returns-in_err-give_owed-clause-serves
+returns-in_err-give_owed-clause-serves g c =
+    serves_untried _ _ _ _ _ _ _ _ _ _ _ c.in_err-give_owed.field-0.0 _ c.from_residual-in_err-give_owed.ensures.0
+    (after_still _ _ _ _ _ _ _ _ _ (c.in_ok-open_wire.ensures.moves (g.C.Clock.moment c.args.clock.now)) c.in_ok-tell_cut.ensures.moves)
+    c.in_ok-tick.ensures.ticks c.in_err-give_owed.ensures.tries
+
 pub returns-clause-serves : goal.returns-clause-serves
 returns-clause-serves g c =
-    serves_on _ _ _ _ _ _ _ _ _ _ _ _ (c.in_ok-tell_cut.ensures.opened c.in_ok-open_wire.ensures.opened)
+    serves_on _ _ _ _ _ _ _ _ _ _ _ _ _ _ _ (c.in_ok-tell_cut.ensures.opened c.in_ok-open_wire.ensures.opened)
     (after_still _ _ _ _ _ _ _ _ _ (c.in_ok-open_wire.ensures.moves (g.C.Clock.moment c.args.clock.now)) c.in_ok-tell_cut.ensures.moves)
-    c.in_ok-tick.ensures.ticks
+    c.in_ok-tick.ensures.ticks c.in_ok-give_owed.ensures.tries
     (c.pass_all.ensures.passes (g.C.Clock.moment c.args.clock.now))

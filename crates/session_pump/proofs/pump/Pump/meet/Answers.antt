@@ -18,5 +18,5 @@ returns-in_default-clause-meets g c =
 pub returns-clause-meets : goal.returns-clause-meets
 returns-clause-meets g c =
     meets_so _ _ _ _ _ _ _ _ _ _ _ (ap known c.in_ok-name.ensures.directory) c.in_ok-name.ensures.named c.in_ok-name.ensures.others
-    (new_line _ _ _ c.as_slice.result.now _ _ _ _ c.as_slice.ensures c.in-Some.ensures.small c.place_of.ensures.first c.place_of.ensures.none c.new-line.ensures.host c.new-line.ensures.wire c.new-line.ensures.stage c.new-line.ensures.kept)
+    (new_line _ _ _ c.as_slice.result.now _ _ _ _ c.as_slice.ensures c.in-Some.ensures.small c.place_of.ensures.first c.place_of.ensures.none c.new-line.ensures.host c.new-line.ensures.wire c.new-line.ensures.stage c.new-line.ensures.kept c.new-line.ensures.owed)
     c.keep_line.ensures.kept c.keep_line.ensures.others c.keep_line.ensures.err
