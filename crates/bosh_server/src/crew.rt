@@ -48,6 +48,7 @@ fn push_served(alloc: Global, served: &mut Vec<HostName>, host: HostName) -> Res
 pub(crate) fn new_yard(
     alloc: Global,
     hosts: &Hosts,
+    journal_limit: u64,
 ) -> Result<(Arc<Yard>, Pass<Directory>), AllocError>
     ensures { IfOk result (λ made. IsPassOf (arc_value made.0).directory made.1) }
 {
@@ -55,7 +56,7 @@ pub(crate) fn new_yard(
     let Ok((directory, pass)) = Gate::new(alloc, Directory::new(alloc)) else {
         return Err(AllocError);
     };
-    let Ok(yard) = Arc::new(alloc, Yard::new(directory, hosts)) else {
+    let Ok(yard) = Arc::new(alloc, Yard::new(directory, hosts, journal_limit)) else {
         return Err(AllocError);
     };
     Ok((yard, pass))

@@ -5,6 +5,8 @@ pub struct ServePlan {
     pub workers: u32,
     /// After how many links the server ends. 0 is without end.
     pub connections: u32,
+    /// How many counted bytes the journal of a session may have. The call whose entry would pass it ends the session.
+    pub journal_limit: u64,
 }
 
 /// How a server ended.

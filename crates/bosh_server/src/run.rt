@@ -49,7 +49,7 @@ where
     ensures err { OnErr result ((outside.new.net ≡ outside.old.net) × (outside.new.spawner ≡ outside.old.spawner)) }
 {
     let hosts = Hosts::new(alloc, hosts)?;
-    let (yard, pass) = new_yard(alloc, &hosts)?;
+    let (yard, pass) = new_yard(alloc, &hosts, plan.journal_limit)?;
     let mut pass = pass;
     let queue = new_queue(alloc)?;
     let tools = Tools {

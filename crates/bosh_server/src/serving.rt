@@ -85,9 +85,11 @@ fn serve<R: Wait, L: Link + Drop, C: Clock, B: Bell, M: Names>(
         directory: &yard.directory,
         hosts: &yard.hosts,
         clock,
+        limit: yard.journal_limit,
     };
     serve_connection(rt, &site, worker, &mut link);
     worker.trail = Trail::new(alloc);
+    worker.purse.let_all_go();
     link.close();
 }
 

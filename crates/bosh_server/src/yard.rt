@@ -35,6 +35,8 @@ struct Progress {
 pub(crate) struct Yard {
     pub(crate) directory: Gate<Directory>,
     pub(crate) hosts: HostNames,
+    // How many counted bytes the journal of a session may have.
+    pub(crate) journal_limit: u64,
     progress: Mutex<Progress>,
     // Some job has ended.
     ended: Condvar,
@@ -51,13 +53,14 @@ pub(crate) struct Post {
 }
 
 impl Yard {
-    pub(crate) fn new(directory: Gate<Directory>, hosts: HostNames) -> Yard
+    pub(crate) fn new(directory: Gate<Directory>, hosts: HostNames, journal_limit: u64) -> Yard
         requires { IsTrue (list_all can_serve hosts) }
         ensures { result.directory ≡ directory }
     {
         Yard {
             directory,
             hosts,
+            journal_limit,
             progress: Mutex::new(Progress {
                 phase: Phase::Serving,
                 workers: 0,

@@ -2,6 +2,7 @@
 ghost use Rattle.parked_gate.specs.Passes.{IsPassOf};
 
 use bosh_ports::{Bell, ListedBell, MemoryLink, MemorySink, MemorySource};
+use bosh_types::limits::JOURNAL_BYTES;
 use bosh_types::{HostName, HostNames, Moment, Rid, Stanzas, Text};
 use parked_gate::{Gate, Pass};
 use serve_loop::{ConnectionEnd, Site, Trail, TrailLine, Worker, serve_connection};
@@ -111,7 +112,7 @@ fn serve_at<R: Wait>(
     let Ok(hosts) = one_host(alloc) else {
         return Err("no memory");
     };
-    let Ok(Some(site)) = Site::new(alloc, directory, &hosts, &clock) else {
+    let Ok(Some(site)) = Site::new(alloc, directory, &hosts, &clock, JOURNAL_BYTES) else {
         return Err("a host that can't be served");
     };
     let Ok(silent) = vec![in alloc; 1] else {

@@ -4,6 +4,7 @@ ghost use Rattle.parked_gate.specs.Passes.{IsPassOf};
 
 use super::{link_over, one_host, serve_by};
 use bosh_ports::{ListedBell, MemoryLink, RealBell};
+use bosh_types::limits::JOURNAL_BYTES;
 use bosh_types::{HostNames, Moment};
 use parked_gate::{Gate, Pass};
 use serve_loop::Site;
@@ -37,7 +38,7 @@ fn serve_one<R: Wait + Clock + Copy + Drop>(
     requires { IsPassOf directory.now pass }
 {
     let clock = still();
-    let Ok(Some(site)) = Site::new(alloc, directory, hosts, &clock) else {
+    let Ok(Some(site)) = Site::new(alloc, directory, hosts, &clock, JOURNAL_BYTES) else {
         return link;
     };
     let Ok(bell) = RealBell::new(alloc, *rt) else {
@@ -83,7 +84,7 @@ fn serve_late<R: Wait + Clock>(
     requires { IsPassOf directory.now pass }
 {
     let clock = still();
-    let Ok(Some(site)) = Site::new(alloc, directory, hosts, &clock) else {
+    let Ok(Some(site)) = Site::new(alloc, directory, hosts, &clock, JOURNAL_BYTES) else {
         return link;
     };
     let Ok(silent) = vec![in alloc; 1] else {

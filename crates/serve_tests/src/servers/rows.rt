@@ -2,6 +2,7 @@
 use super::ports::{Given, PausingBell, ShownLink, ShownNetwork};
 use bosh_ports::QuietSource;
 use bosh_server::{Outside, Ran, ServePlan, run_workers};
+use bosh_types::limits::JOURNAL_BYTES;
 use bosh_types::{Moment, Rid, Stanzas, Text};
 use server_ports::{GivenNames, ListedSpawner, StillClock, ThreadSpawner};
 use session_pump::Host;
@@ -130,6 +131,7 @@ fn a_request_elsewhere_frees_the_one_that_waits(rt: HostRuntime) -> Result<(), F
     let plan = ServePlan {
         workers: 2,
         connections: 2,
+        journal_limit: JOURNAL_BYTES,
     };
     let end = Scripted::new(alloc, Vec::new(alloc), Vec::new(alloc));
     let hosts = one_host(alloc, Box::new(alloc, end)?)?;
@@ -152,6 +154,7 @@ fn the_pump_brings_what_the_back_end_gives(rt: HostRuntime) -> Result<(), Fail> 
     let plan = ServePlan {
         workers: 1,
         connections: 1,
+        journal_limit: JOURNAL_BYTES,
     };
     let hosts = one_host(alloc, Box::new(alloc, Echo::new(alloc))?)?;
     let ran = served(&rt, alloc, net, &plan, Vec::new(alloc), hosts)?;
@@ -173,6 +176,7 @@ fn a_network_that_stops_ends_the_server(rt: HostRuntime) -> Result<(), Fail> {
     let plan = ServePlan {
         workers: 0,
         connections: 0,
+        journal_limit: JOURNAL_BYTES,
     };
     let end = Scripted::new(alloc, Vec::new(alloc), Vec::new(alloc));
     let hosts = one_host(alloc, Box::new(alloc, end)?)?;
@@ -196,6 +200,7 @@ fn a_refused_start_ends_the_server(rt: HostRuntime) -> Result<(), Fail> {
         let plan = ServePlan {
             workers: 2,
             connections: 1,
+            journal_limit: JOURNAL_BYTES,
         };
         let hosts = one_host(alloc, Box::new(alloc, Echo::new(alloc))?)?;
         let refused = vec![in alloc; number]?;
