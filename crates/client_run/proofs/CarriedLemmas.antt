@@ -25,9 +25,10 @@ use Rattle.client_run.specs.declared.entry.Entry.{Entry}
 use Rattle.client_run.specs.Adding.{by_call}
 use Rattle.client_run.specs.Calls.{changes, reply_in}
 use Rattle.client_run.specs.Carried.{CarriesTold, IsResponses, IsRun, Run, Trip, WasNext, answer_in, answers_in, taken_answers, texts_of}
-use Rattle.client_run.specs.Working.{Called, Exchanges, Move, Moves, Side, TakesSome, Tries, Wire, answers, asks, dials, fails_to_dial, hand_after, looks, loses, more, none, request_in, retires, wants_memory}
+use Rattle.client_run.specs.Working.{Called, Exchanges, Move, Moves, Side, TakesSome, Tries, Wire, answers, asks, dials, fails_to_dial, hand_after, looks, loses, more, none, refuses, request_in, retires, wants_memory}
 use Rattle.client_run.proofs.AddingLemmas.{Makes, called_makes, called_wants}
 use Rattle.client_run.proofs.EndLemmas.{next_name}
+use Rattle.client_run.proofs.LineLemmas.{refuses_tries}
 use Rattle.client_run.proofs.RiseLemmas.{calls_begin, starts_by, starts_later}
 
 -- Responses that were read one after the other.
@@ -429,6 +430,10 @@ module _ (first : List Entry) (earlier : Option (List Event)) where
   carried_moved moment s t (loses rid body old wire events counts row hand out tries retired counted) so =
       subst (λ h. IfSome events (So first earlier s.known None h)) (sym hand)
       (ended_told s.known (Some (rid, body)) (Some (rid, body)) old wire s.events events retired (λ told rest gave left_is given_is so. closed_trying s.known old wire rid body told rest gave tries left_is given_is so)
+      (subst (λ h. IfSome s.events (So first earlier s.known (Some old) h)) hand (subst (λ w. IfSome s.events (So first earlier s.known w s.hand)) out so)))
+  carried_moved moment s t (refuses rid body old wire events status hand out was retired) so =
+      subst (λ h. IfSome events (So first earlier s.known None h)) (sym hand)
+      (ended_told s.known (Some (rid, body)) (Some (rid, body)) old wire s.events events retired (λ told rest gave left_is given_is so. closed_trying s.known old wire rid body told rest gave (refuses_tries old wire body status was) left_is given_is so)
       (subst (λ h. IfSome s.events (So first earlier s.known (Some old) h)) hand (subst (λ w. IfSome s.events (So first earlier s.known w s.hand)) out so)))
   carried_moved moment s t (retires old events out retired) so =
       ended_told s.known s.hand None old old s.events events retired (λ told rest gave left_is given_is so. closed_idle s.known old s.hand told rest gave left_is given_is so)

@@ -211,7 +211,7 @@ says_handed stanza s t faults later result falls says risen =
     (handed_none true s (out_of says.put s.given) faults faults (goes_puts stanza queueings.Done s.known says.put says.puts) refl)
     (drains_handed (out_of says.put s.given) t faults later result says.drains risen)
 
-no_fault : (faults later : ℕ) → ◌≡◌ {A = Result Written AllocError} (Ok written.Done) (Ok written.WriteFault) → HasRisen faults later
+pub no_fault : (faults later : ℕ) → ◌≡◌ {A = Result Written AllocError} (Ok written.Done) (Ok written.WriteFault) → HasRisen faults later
 no_fault faults later is = absurd (cc)
 
 no_fault_wanting : (faults later : ℕ) (error : AllocError) → ◌≡◌ {A = Result Written AllocError} (Err error) (Ok written.WriteFault) → HasRisen faults later

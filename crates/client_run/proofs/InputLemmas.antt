@@ -81,7 +81,7 @@ more_line bytes (Some rest) None put n has place stanzas full (inr (line, reads)
 more_line bytes (Some rest) (Some rest') put n has place stanzas full (inl long) = more_by bytes rest put n has place stanzas (omega (arith, full)) full (some_first (lines_of rest) long)
 more_line bytes (Some rest) (Some rest') put n has place stanzas full (inr (line, reads)) = more_by bytes rest put n has place stanzas (omega (arith, full)) full (line, lines_of rest', reads.0)
 
-bad_in : (input left later : Option (List ℕ)) (t : Talk) (n : ℕ) (put : List (List ℕ)) → t.left ≡ left → t.put ≡ put → HasLines input put left → n ≡ length put + 1 → list_all is_stanza put ≡ true → length put ≤ most_lines
+pub bad_in : (input left later : Option (List ℕ)) (t : Talk) (n : ℕ) (put : List (List ℕ)) → t.left ≡ left → t.put ≡ put → HasLines input put left → n ≡ length put + 1 → list_all is_stanza put ≡ true → length put ≤ most_lines
     → Takes left later inputs.Other ⊎ IsOneMore t later → IfSome input (λ bytes. IsFirstBad (lines_of bytes) n)
 bad_in None left later t n put at is has place stanzas few why = tt
 bad_in (Some bytes) left later t n put at is has place stanzas few (inl takes) = bad_line bytes left later put n has place stanzas few takes
@@ -103,7 +103,7 @@ all_put : (input : Option (List ℕ)) (stanzas others : List (List ℕ)) → sta
 all_put None stanzas others same good few is = tt
 all_put (Some bytes) stanzas others same good few is = (is, ap (λ ls. list_all is_stanza ls) (is ∙ sym same) ∙ good, subst (λ ls. length ls ≤ most_lines) (sym (is ∙ sym same)) few)
 
-close_puts : (s t u : Talk) (changed : Bool) → (spoken : Spoken s t) → length spoken.more ≤ most_lines → Takes t.left u.left inputs.End → Makes calls.Terminate changed t.out.known.mine u.out.known.mine
+pub close_puts : (s t u : Talk) (changed : Bool) → (spoken : Spoken s t) → length spoken.more ≤ most_lines → Takes t.left u.left inputs.End → Makes calls.Terminate changed t.out.known.mine u.out.known.mine
     → PutsAll s.left s.out.known u.out.known
 unfolding Takes
 close_puts s t u true spoken few end made =
@@ -120,15 +120,15 @@ close_puts s t u false spoken few end same = record {
 }
 
 -- a stanza is taken while the client takes any
-put_over : (c : PlainClient) (stanza : List ℕ) → queueings.Over ≡ (put c stanza).1 → is_over c ≡ true
+pub put_over : (c : PlainClient) (stanza : List ℕ) → queueings.Over ≡ (put c stanza).1 → is_over c ≡ true
 put_over c stanza =
     by_if {X = PlainClient × Queued} (λ p. queueings.Over ≡ p.1 → is_over c ≡ true) (is_over c) _ _ (λ over is. over)
     (λ open_yet. by_if {X = PlainClient × Queued} (λ p. queueings.Over ≡ p.1 → is_over c ≡ true) (is_full c) _ _ (λ full is. absurd (cc)) (λ room is. absurd (cc)))
 
-queue_name : (done : PlainClient × Queued) (queued : Queued) → plain.ToQueue queued ≡ (called plain.ToQueue done).1 → queued ≡ done.1
+pub queue_name : (done : PlainClient × Queued) (queued : Queued) → plain.ToQueue queued ≡ (called plain.ToQueue done).1 → queued ≡ done.1
 queue_name (c, x) queued is = ap (λ reply. elim reply [ plain.ToQueue q ↦ q | plain.ToNext n ↦ queued | plain.ToAnswer a ↦ queued | plain.ToHandOut p ↦ queued ]) is
 
-entered_none : (number : ℕ) (before after : List Entry) (made : Option Entry) (stanza : List ℕ) → Enters (calls.Put stanza) false made → Appends (λ e. e.caller) number before made after → after ≡ before
+pub entered_none : (number : ℕ) (before after : List Entry) (made : Option Entry) (stanza : List ℕ) → Enters (calls.Put stanza) false made → Appends (λ e. e.caller) number before made after → after ≡ before
 entered_none number before after None stanza enters is = is
 entered_none number before after (Some e) stanza enters is = absurd (cc)
 

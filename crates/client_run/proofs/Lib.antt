@@ -1,5 +1,7 @@
 pub mod AddingLemmas
+pub mod AttendLemmas
 pub mod CarriedLemmas
+pub mod ClosedLemmas
 pub mod Crossing
 pub mod EndLemmas
 pub mod HandedLemmas

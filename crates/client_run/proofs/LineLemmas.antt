@@ -4,9 +4,9 @@ use Rattle.std.specs.Prelude.{Option}
 use Rattle.std.specs.Io.KnownBytes.{Keeps}
 use Rattle.bosh_http.specs.Texts.{post_text}
 use Rattle.client_run.specs.declared.line.Heard.{Heard}
-use Rattle.client_run.specs.declared.line.Heard.TheVariants.{Body, Nothing, Fault, NoMemory}
-use Rattle.client_run.specs.Lines.{HearsBy, IsHeard}
-use Rattle.client_run.specs.Working.{Wire, Exchanges, Sends, TakesSome, Tries}
+use Rattle.client_run.specs.declared.line.Heard.TheVariants.{Body, Refused, Nothing, Fault, NoMemory}
+use Rattle.client_run.specs.Lines.{FailsBy, HearsBy, IsHeard}
+use Rattle.client_run.specs.Working.{Wire, Exchanges, Refuses, Sends, TakesSome, Tries}
 
 pub keeps_same : (o : Option (List ℕ)) → Keeps o o
 keeps_same None = tt
@@ -38,6 +38,10 @@ exchange_tries old new body answer e = tried_whole old e.asked new body e.sends 
 
 pub heard_by : (old mid new : Wire) (body : List ℕ) (faults : ℕ) (heard : Heard) → Sends old mid body → IsHeard mid new faults heard → HearsBy old new body faults heard
 heard_by old mid new body faults (Body answer) sends heard = (record { asked = mid; sends = sends; hears = heard.0 }, heard.1)
+heard_by old mid new body faults (Refused status) sends heard = (record { asked = mid; sends = sends; responds = heard.1; given = heard.0 }, heard.2)
 heard_by old mid new body faults Nothing sends heard = (tried_whole old mid new body sends heard.0 heard.1, heard.2)
-heard_by old mid new body faults (Fault fault) sends heard = (tried_whole old mid new body sends heard.0 heard.1, heard.2)
+heard_by old mid new body count (Fault fault) sends heard = (tried_whole old mid new body sends heard.0 heard.1, heard.2, subst (FailsBy old new body) (sym heard.3) (mid, sends, heard.0))
 heard_by old mid new body faults NoMemory sends heard = (tried_whole old mid new body sends heard.0 heard.1, heard.2)
+
+pub refuses_tries : (old new : Wire) (body : List ℕ) (status : ℕ) → Refuses old new body status → Tries old new body
+refuses_tries old new body status r = tried_whole old r.asked new body r.sends r.given (r.responds.0, r.responds.1)

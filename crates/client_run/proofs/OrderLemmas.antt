@@ -9,6 +9,8 @@ use Rattle.parked_gate.specs.Histories.{StartsWith}
 use Rattle.parked_gate.specs.Passes.{Known}
 use Rattle.server_ports.specs.Counts.{Counts}
 use Rattle.client_run.specs.declared.call.Call.TheVariants as calls
+use Rattle.client_run.specs.declared.attending.Attended.{Attended}
+use Rattle.client_run.specs.declared.attending.Attended.TheVariants as attended
 use Rattle.client_run.specs.declared.entry.Entry.{Entry}
 use Rattle.client_run.specs.declared.gathering.Gathered.{Gathered}
 use Rattle.client_run.specs.declared.gathering.Gathered.TheVariants as gathered
@@ -18,8 +20,9 @@ use Rattle.client_run.specs.declared.talking.Talked.{Talked}
 use Rattle.client_run.specs.declared.talking.Talked.TheVariants as talked
 use Rattle.client_run.specs.Handed.{Handed, Hands, goes_on, hands_out, none}
 use Rattle.client_run.specs.Handing.{Out}
+use Rattle.client_run.specs.Input.{PutsAll, TakesNoMore, WasFull}
 use Rattle.client_run.specs.Queueing.{AsksLast, AsksToEnd, GoesFurther, QueuesBy}
-use Rattle.client_run.specs.Ran.{ConversesBy, FinishesBy, HasTalked, InOrder, IsUnhired, Scene, scene_of}
+use Rattle.client_run.specs.Ran.{ConversesBy, FinishesBy, HasTalked, InOrder, IsUnhired, Scene, scene_of, well}
 use Rattle.client_run.specs.Running.{Gathers, TakesBoth}
 use Rattle.client_run.specs.Talking.{Talk, Talks}
 use Rattle.client_run.proofs.HandedLemmas.{talks_handed}
@@ -109,7 +112,7 @@ ordered_spawn input s t reads writes asks = (reads, writes, asks)
 
 -- The whole.
 
-module _ (input : Option (List ℕ)) (s : Scene) (mid all new : Known Entry) (reads writes last_writes : ℕ) (refusals : ℕ) (counts : Counts) (t : Result Talked AllocError) (g : Gathered)
+module _ (input : Option (List ℕ)) (s : Scene) (mid all new : Known Entry) (reads writes last_writes : ℕ) (refusals : ℕ) (counts : Counts) (t : Result Attended AllocError) (g : Gathered)
     (converses : ConversesBy input s.known mid s.reads reads s.writes writes t) (gathers : Gathers mid all s.counts counts g) (takes : TakesBoth all.seen s.counts counts g) (goes : GoesFurther all new) (refused : refusals ≡ s.refusals) where
   abbrev later : Scene
   later = scene_of new counts refusals reads last_writes
@@ -117,23 +120,29 @@ module _ (input : Option (List ℕ)) (s : Scene) (mid all new : Known Entry) (re
   on : GoesFurther mid new
   on = further_both mid all new (further_seen mid all gathers.begins gathers.mine) goes
 
-  done_tells : t ≡ Ok talked.Done → HasTalked input s.known new × (reads ≡ s.reads) × (writes ≡ s.writes)
-  unfolding ConversesBy
-  done_tells is =
-      let done = subst (ConversesBy input s.known mid s.reads reads s.writes writes) is converses in
-      (record { mid = mid; adds = done.0; done = done.1; later = on }, done.2, done.3)
+  talked_by : PutsAll input s.known mid ⊎ TakesNoMore mid → PutsAll input s.known mid ⊎ TakesNoMore mid ⊎ WasFull s.known.seen mid.seen
+  talked_by (inl puts) = inl puts
+  talked_by (inr takes) = inr (inl takes)
 
-  bad_tells : (n : ℕ) → t ≡ Ok (talked.Bad n) → AsksToEnd s.known new × (reads ≡ s.reads)
+  well_talked : (stuck : Bool) → ConversesBy input s.known mid s.reads reads s.writes writes (Ok (well stuck)) → HasTalked input s.known new × (reads ≡ s.reads) × (writes ≡ s.writes)
+  unfolding ConversesBy
+  well_talked true so = (record { mid = mid; adds = so.0; done = inr (inr so.1); later = on }, so.2, so.3)
+  well_talked false so = (record { mid = mid; adds = so.0; done = talked_by so.1; later = on }, so.2, so.3)
+
+  done_tells : (stuck : Bool) → t ≡ Ok (well stuck) → HasTalked input s.known new × (reads ≡ s.reads) × (writes ≡ s.writes)
+  done_tells stuck is = well_talked stuck (subst (ConversesBy input s.known mid s.reads reads s.writes writes) is converses)
+
+  bad_tells : (n : ℕ) → t ≡ Ok (attended.Bad n) → AsksToEnd s.known new × (reads ≡ s.reads)
   unfolding ConversesBy
   bad_tells n is =
       let bad = subst (ConversesBy input s.known mid s.reads reads s.writes writes) is converses in
       (asks_later s.known mid new bad.1.asks on, bad.2)
 
-  read_tells : t ≡ Ok talked.ReadFault → AsksToEnd s.known new
+  read_tells : t ≡ Ok attended.ReadFault → AsksToEnd s.known new
   unfolding ConversesBy
   read_tells is = asks_later s.known mid new (subst (ConversesBy input s.known mid s.reads reads s.writes writes) is converses).1.asks on
 
-  write_tells : t ≡ Ok talked.WriteFault → new ≡ all → AsksLast s.known new × (reads ≡ s.reads)
+  write_tells : t ≡ Ok attended.WriteFault → new ≡ all → AsksLast s.known new × (reads ≡ s.reads)
   unfolding ConversesBy asks_later
   write_tells is same =
       let failed = subst (ConversesBy input s.known mid s.reads reads s.writes writes) is converses in
@@ -143,8 +152,11 @@ module _ (input : Option (List ℕ)) (s : Scene) (mid all new : Known Entry) (re
   unfolding InOrder FinishesBy
   ordered_finished (Ok ran.SpawnFault) f = absurd f
   ordered_finished (Ok ran.NetFault) f =
-      let done = done_tells f.0 in
-      (refused, inr (done.1, done.0, subst (TakesBoth new.seen s.counts counts) f.1 (takes_later all.seen new.seen s.counts counts g goes.begins takes)))
+      let done = done_tells f.0 f.1 in
+      (refused, inr (done.1, done.0, subst (TakesBoth new.seen s.counts counts) f.2 (takes_later all.seen new.seen s.counts counts g goes.begins takes)))
+  ordered_finished (Ok (ran.Refused status)) f =
+      let done = done_tells f.0 f.1 in
+      (refused, done.1, done.0, subst (TakesBoth new.seen s.counts counts) f.2 (takes_later all.seen new.seen s.counts counts g goes.begins takes))
   ordered_finished (Ok (ran.Bad n)) f =
       let bad = bad_tells n f in
       (refused, bad.1, bad.0)
@@ -153,12 +165,15 @@ module _ (input : Option (List ℕ)) (s : Scene) (mid all new : Known Entry) (re
       let failed = write_tells f.0 f.1 in
       (refused, failed.1, inl failed.0)
   ordered_finished (Ok ran.WriteFault) (inr f) =
-      let done = done_tells f.0 in
-      (refused, done.1, inr (done.0, finished_later all.seen new.seen s.counts counts f.3 (both_finished all.seen s.counts counts g f.1 takes)))
+      let done = done_tells f.0 f.1 in
+      (refused, done.1, inr (done.0, finished_later all.seen new.seen s.counts counts f.4 (both_finished all.seen s.counts counts g f.2 takes)))
+  ordered_finished (Ok ran.Stuck) f =
+      let done = done_tells f.0 f.1 in
+      (refused, done.1, f.4 ∙ done.2, done.0)
   ordered_finished (Ok (ran.Ended condition)) f =
-      let done = done_tells f.0 in
-      (refused, done.1, f.3 ∙ done.2, done.0)
+      let done = done_tells f.0 f.1 in
+      (refused, done.1, f.4 ∙ done.2, done.0)
   ordered_finished (Ok ran.Done) f =
-      let done = done_tells f.0 in
-      (refused, done.1, f.3 ∙ done.2, done.0)
+      let done = done_tells f.0 f.1 in
+      (refused, done.1, f.4 ∙ done.2, done.0)
   ordered_finished (Err error) f = tt

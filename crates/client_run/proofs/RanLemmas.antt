@@ -22,15 +22,16 @@ use Rattle.client_run.specs.declared.gathering.Gathered.{Gathered}
 use Rattle.client_run.specs.declared.gathering.Gathered.TheVariants as gathered
 use Rattle.client_run.specs.declared.running.ClientRan.{ClientRan}
 use Rattle.client_run.specs.declared.running.ClientRan.TheVariants as ran
-use Rattle.client_run.specs.declared.talking.Talked.{Talked}
-use Rattle.client_run.specs.declared.talking.Talked.TheVariants as talked
+use Rattle.client_run.specs.declared.attending.Attended.{Attended}
+use Rattle.client_run.specs.declared.attending.Attended.TheVariants as attended
 use Rattle.client_run.specs.Adding.{Adds, AddsOnly, IsTalk, by_call, is_entry, is_hand_out, is_of_talk, is_terminate, stanza_of, stanzas_in}
 use Rattle.client_run.specs.Asking.{LooksBy}
+use Rattle.client_run.specs.Attending.{AttendsBy}
 use Rattle.client_run.specs.Handing.{Drains, Out, Writes, WritesLast, line, nothing}
 use Rattle.client_run.specs.History.{After}
-use Rattle.client_run.specs.Input.{IsFirstBad, PutsAll, TakesNoMore}
+use Rattle.client_run.specs.Input.{IsFirstBad, PutsAll, TakesNoMore, WasFull}
 use Rattle.client_run.specs.Queueing.{AsksLast}
-use Rattle.client_run.specs.Ran.{Closes, Concludes, ConversesBy, EndsWith, FinishesBy, Ran, RanBy, Scene, WasEmptied, ran_by, scene_of}
+use Rattle.client_run.specs.Ran.{Closes, Concludes, ConversesBy, EndsWith, FinishesBy, IsSpent, Ran, RanBy, Scene, WasEmptied, ran_by, ran_spent, scene_of, well}
 use Rattle.client_run.specs.Running.{Gathers, GatheredTells, IsOver, TakesBoth, WasOver, is_done}
 use Rattle.client_run.specs.Worked.{IsDone}
 use Rattle.client_run.proofs.RiseLemmas.{calls_begin, starts_by, starts_later, starts_same}
@@ -47,60 +48,81 @@ done_by : (c : PlainClient) → None ≡ end_of c → IsOver c → IsDone c
 done_by c none (inl ended) = absurd (no_end (end_of c) none ended)
 done_by c none (inr left) = inr (sym none, left)
 
-pub concluded_none : (old new : Known Entry) → LooksBy old new None → Concludes old new ran.Done
+spent_by : (c : PlainClient) → None ≡ end_of c → IsOver c → IsSpent c
+spent_by c none (inl ended) = absurd (no_end (end_of c) none ended)
+spent_by c none (inr left) = (sym none, left)
+
+none_by : (stuck : Bool) (old new : Known Entry) → LooksBy old new None → Concludes stuck old new (ran_spent stuck)
 unfolding Concludes
-concluded_none old new looks = λ was. record {
+none_by true old new looks = (
+  refl,
+  λ was. record {
+    plain = looks.says.plain;
+    is = looks.says.is;
+    holds = spent_by looks.says.plain looks.says.holds (still_over new.seen looks.says.plain (was_later old.seen new.seen was looks.begins) looks.says.is);
+  },
+)
+none_by false old new looks = λ was. record {
   plain = looks.says.plain;
   is = looks.says.is;
   holds = done_by looks.says.plain looks.says.holds (still_over new.seen looks.says.plain (was_later old.seen new.seen was looks.begins) looks.says.is);
 }
 
-concluded_by : (old new : Known Entry) (condition : Option Condition) → After new.seen (λ c. Some (record { condition = condition }) ≡ end_of c) → Concludes old new (ran_by condition)
-unfolding Concludes
-concluded_by old new None after = λ was. record { plain = after.plain; is = after.is; holds = inl (sym after.holds) }
-concluded_by old new (Some condition) after = record { plain = after.plain; is = after.is; holds = sym after.holds }
+pub concluded_none : (stuck : Bool) (old new : Known Entry) (result : ClientRan) → LooksBy old new None → result ≡ ran_spent stuck → Concludes stuck old new result
+concluded_none stuck old new result looks is = subst (Concludes stuck old new) (sym is) (none_by stuck old new looks)
 
-pub concluded_some : (old new : Known Entry) (end : ClientEnd) (result : ClientRan) → LooksBy old new (Some end) → result ≡ ran_by end.condition → Concludes old new result
-concluded_some old new end result looks is = subst (Concludes old new) (sym is) (concluded_by old new end.condition looks.says)
+concluded_by : (stuck : Bool) (old new : Known Entry) (condition : Option Condition) → After new.seen (λ c. Some (record { condition = condition }) ≡ end_of c) → Concludes stuck old new (ran_by condition)
+unfolding Concludes
+concluded_by stuck old new None after = λ was. record { plain = after.plain; is = after.is; holds = inl (sym after.holds) }
+concluded_by stuck old new (Some condition) after = record { plain = after.plain; is = after.is; holds = sym after.holds }
+
+pub concluded_some : (stuck : Bool) (old new : Known Entry) (end : ClientEnd) (result : ClientRan) → LooksBy old new (Some end) → result ≡ ran_by end.condition → Concludes stuck old new result
+concluded_some stuck old new end result looks is = subst (Concludes stuck old new) (sym is) (concluded_by stuck old new end.condition looks.says)
 
 -- How it is finished.
 
-pub finish_failed : (t : Result Talked AllocError) (g : Gathered) (old new : Known Entry) (writes later : ℕ) (n : ℕ) → t ≡ Ok (talked.Bad n) → FinishesBy t g old new writes later (Ok (ran.Bad n))
+pub finish_failed : (t : Result Attended AllocError) (g : Gathered) (old new : Known Entry) (writes later : ℕ) (n : ℕ) → t ≡ Ok (attended.Bad n) → FinishesBy t g old new writes later (Ok (ran.Bad n))
 unfolding FinishesBy
 finish_failed t g old new writes later n is = is
 
-pub finish_read : (t : Result Talked AllocError) (g : Gathered) (old new : Known Entry) (writes later : ℕ) → t ≡ Ok talked.ReadFault → FinishesBy t g old new writes later (Ok ran.ReadFault)
+pub finish_read : (t : Result Attended AllocError) (g : Gathered) (old new : Known Entry) (writes later : ℕ) → t ≡ Ok attended.ReadFault → FinishesBy t g old new writes later (Ok ran.ReadFault)
 unfolding FinishesBy
 finish_read t g old new writes later is = is
 
-pub finish_written : (t : Result Talked AllocError) (g : Gathered) (old new : Known Entry) (writes later : ℕ) → t ≡ Ok talked.WriteFault → new ≡ old → FinishesBy t g old new writes later (Ok ran.WriteFault)
+pub finish_written : (t : Result Attended AllocError) (g : Gathered) (old new : Known Entry) (writes later : ℕ) → t ≡ Ok attended.WriteFault → new ≡ old → FinishesBy t g old new writes later (Ok ran.WriteFault)
 unfolding FinishesBy
 finish_written t g old new writes later is same = inl (is, same)
 
-pub finish_wanting : (t : Result Talked AllocError) (g : Gathered) (old new : Known Entry) (writes later : ℕ) (error : AllocError) → FinishesBy t g old new writes later (Err error)
+pub finish_wanting : (t : Result Attended AllocError) (g : Gathered) (old new : Known Entry) (writes later : ℕ) (error : AllocError) → FinishesBy t g old new writes later (Err error)
 unfolding FinishesBy
 finish_wanting t g old new writes later error = tt
 
-pub finish_net : (g : Gathered) (old new : Known Entry) (writes later : ℕ) → g ≡ gathered.NetFault → FinishesBy (Ok talked.Done) g old new writes later (Ok ran.NetFault)
+pub finish_net : (stuck : Bool) (g : Gathered) (old new : Known Entry) (writes later : ℕ) → g ≡ gathered.NetFault → FinishesBy (Ok (well stuck)) g old new writes later (Ok ran.NetFault)
 unfolding FinishesBy
-finish_net g old new writes later is = (refl, is)
+finish_net stuck g old new writes later is = (stuck, refl, is)
 
-pub finish_risen : (g : Gathered) (old new : Known Entry) (writes later : ℕ) → g ≡ gathered.Over → HasRisen writes later → StartsWith new.seen old.seen → FinishesBy (Ok talked.Done) g old new writes later (Ok ran.WriteFault)
+pub finish_refused : (stuck : Bool) (g : Gathered) (old new : Known Entry) (writes later : ℕ) (status : ℕ) → g ≡ gathered.Refused status → FinishesBy (Ok (well stuck)) g old new writes later (Ok (ran.Refused status))
 unfolding FinishesBy
-finish_risen g old new writes later is risen seen = inr (refl, is, risen, seen)
+finish_refused stuck g old new writes later status is = (stuck, refl, is)
 
-pub finish_over : (g : Gathered) (old last new : Known Entry) (writes later : ℕ) (r : ClientRan) → g ≡ gathered.Over → later ≡ writes → StartsWith new.seen old.seen → AddsOnly is_hand_out old last → (WasOver old.seen → WasOver last.seen) → (WasOver old.seen → WasEmptied new.seen) → new.mine ≡ last.mine → Concludes last new r
-    → FinishesBy (Ok talked.Done) g old new writes later (Ok r)
+pub finish_risen : (stuck : Bool) (g : Gathered) (old new : Known Entry) (writes later : ℕ) → g ≡ gathered.Over → HasRisen writes later → StartsWith new.seen old.seen → FinishesBy (Ok (well stuck)) g old new writes later (Ok ran.WriteFault)
+unfolding FinishesBy
+finish_risen stuck g old new writes later is risen seen = inr (stuck, refl, is, risen, seen)
+
+pub finish_over : (stuck : Bool) (g : Gathered) (old last new : Known Entry) (writes later : ℕ) (r : ClientRan) → g ≡ gathered.Over → later ≡ writes → StartsWith new.seen old.seen → AddsOnly is_hand_out old last → (WasOver old.seen → WasOver last.seen) → (WasOver old.seen → WasEmptied new.seen) → new.mine ≡ last.mine → Concludes stuck last new r
+    → FinishesBy (Ok (well stuck)) g old new writes later (Ok r)
 unfolding FinishesBy Concludes
-finish_over g old last new writes later ran.SpawnFault is still seen handed begins emptied mine concludes = absurd concludes
-finish_over g old last new writes later ran.NetFault is still seen handed begins emptied mine concludes = absurd concludes
-finish_over g old last new writes later (ran.Bad n) is still seen handed begins emptied mine concludes = absurd concludes
-finish_over g old last new writes later ran.ReadFault is still seen handed begins emptied mine concludes = absurd concludes
-finish_over g old last new writes later ran.WriteFault is still seen handed begins emptied mine concludes = absurd concludes
-finish_over g old last new writes later (ran.Ended condition) is still seen handed begins emptied mine concludes = (refl, is, record { last = last; seen = seen; handed = handed; mine = mine; begins = begins; emptied = emptied; concludes = concludes }, still)
-finish_over g old last new writes later ran.Done is still seen handed begins emptied mine concludes = (refl, is, record { last = last; seen = seen; handed = handed; mine = mine; begins = begins; emptied = emptied; concludes = concludes }, still)
+finish_over stuck g old last new writes later ran.SpawnFault is still seen handed begins emptied mine concludes = absurd concludes
+finish_over stuck g old last new writes later ran.NetFault is still seen handed begins emptied mine concludes = absurd concludes
+finish_over stuck g old last new writes later (ran.Refused status) is still seen handed begins emptied mine concludes = absurd concludes
+finish_over stuck g old last new writes later (ran.Bad n) is still seen handed begins emptied mine concludes = absurd concludes
+finish_over stuck g old last new writes later ran.ReadFault is still seen handed begins emptied mine concludes = absurd concludes
+finish_over stuck g old last new writes later ran.WriteFault is still seen handed begins emptied mine concludes = absurd concludes
+finish_over stuck g old last new writes later ran.Stuck is still seen handed begins emptied mine concludes = (stuck, refl, is, record { last = last; seen = seen; handed = handed; mine = mine; begins = begins; emptied = emptied; concludes = concludes }, still)
+finish_over stuck g old last new writes later (ran.Ended condition) is still seen handed begins emptied mine concludes = (stuck, refl, is, record { last = last; seen = seen; handed = handed; mine = mine; begins = begins; emptied = emptied; concludes = concludes }, still)
+finish_over stuck g old last new writes later ran.Done is still seen handed begins emptied mine concludes = (stuck, refl, is, record { last = last; seen = seen; handed = handed; mine = mine; begins = begins; emptied = emptied; concludes = concludes }, still)
 
-pub finish_as : (t t' : Result Talked AllocError) (g : Gathered) (old new : Known Entry) (writes later : ℕ) (result : Result ClientRan AllocError) → t ≡ t' → FinishesBy t' g old new writes later result → FinishesBy t g old new writes later result
+pub finish_as : (t t' : Result Attended AllocError) (g : Gathered) (old new : Known Entry) (writes later : ℕ) (result : Result ClientRan AllocError) → t ≡ t' → FinishesBy t' g old new writes later result → FinishesBy t g old new writes later result
 finish_as t t' g old new writes later result is f = subst (λ t. FinishesBy t g old new writes later result) (sym is) f
 
 -- What was seen goes on while stanzas are written.
@@ -182,7 +204,7 @@ pub ran_spawn : (input : Option (List ℕ)) (s t : Scene) → HasRisen s.refusal
 unfolding RanBy
 ran_spawn input s t risen = risen
 
-module _ (input : Option (List ℕ)) (s : Scene) (mid all new : Known Entry) (reads writes last_writes : ℕ) (refusals : ℕ) (counts : Counts) (t : Result Talked AllocError) (g : Gathered)
+module _ (input : Option (List ℕ)) (s : Scene) (mid all new : Known Entry) (reads writes last_writes : ℕ) (refusals : ℕ) (counts : Counts) (t : Result Attended AllocError) (g : Gathered)
     (converses : ConversesBy input s.known mid s.reads reads s.writes writes t) (gathers : Gathers mid all s.counts counts g) (takes : TakesBoth all.seen s.counts counts g) (falls : s.writes ≤ writes) (last_falls : writes ≤ last_writes) where
   abbrev pub later : Scene
   later = scene_of new counts refusals reads last_writes
@@ -193,32 +215,47 @@ module _ (input : Option (List ℕ)) (s : Scene) (mid all new : Known Entry) (re
   over_tells : g ≡ gathered.Over → WasOver all.seen × HasRisen s.counts.dialled counts.dialled
   over_tells is = subst (GatheredTells all.seen s.counts counts) is gathers.tells
 
-  bad_tells : (n : ℕ) → t ≡ Ok (talked.Bad n) → IfSome input (λ bytes. IsFirstBad (lines_of bytes) n)
+  bad_tells : (n : ℕ) → t ≡ Ok (attended.Bad n) → IfSome input (λ bytes. IsFirstBad (lines_of bytes) n)
   unfolding ConversesBy
   bad_tells n is = (subst (ConversesBy input s.known mid s.reads reads s.writes writes) is converses).0
 
-  read_tells : t ≡ Ok talked.ReadFault → HasRisen s.reads reads
+  read_tells : t ≡ Ok attended.ReadFault → HasRisen s.reads reads
   unfolding ConversesBy
   read_tells is = (subst (ConversesBy input s.known mid s.reads reads s.writes writes) is converses).0
 
-  write_tells : t ≡ Ok talked.WriteFault → HasRisen s.writes writes
+  write_tells : t ≡ Ok attended.WriteFault → HasRisen s.writes writes
   unfolding ConversesBy
   write_tells is = (subst (ConversesBy input s.known mid s.reads reads s.writes writes) is converses).0
 
-  done_tells : t ≡ Ok talked.Done → Adds s.known mid (IsTalk input)
-  unfolding ConversesBy
-  done_tells is = (subst (ConversesBy input s.known mid s.reads reads s.writes writes) is converses).0
+  refused_tells : (status : ℕ) → g ≡ gathered.Refused status → (status ≢ 200) × HasRisen s.counts.dialled counts.dialled
+  refused_tells status is = subst (GatheredTells all.seen s.counts counts) is gathers.tells
 
-  ran_to : (r : ClientRan) (P : PlainClient → Type 0) → t ≡ Ok talked.Done → g ≡ gathered.Over → (closes : Closes all new r) → After new.seen P → Ran input s later P
-  ran_to r P done over closes after = record {
+  well_adds : (stuck : Bool) → ConversesBy input s.known mid s.reads reads s.writes writes (Ok (well stuck)) → Adds s.known mid (IsTalk input)
+  unfolding ConversesBy
+  well_adds true so = so.0
+  well_adds false so = so.0
+
+  done_tells : (stuck : Bool) → t ≡ Ok (well stuck) → Adds s.known mid (IsTalk input)
+  done_tells stuck is = well_adds stuck (subst (ConversesBy input s.known mid s.reads reads s.writes writes) is converses)
+
+  full_tells : (stuck : Bool) → stuck ≡ true → t ≡ Ok (well stuck) → WasFull s.known.seen mid.seen
+  unfolding ConversesBy
+  full_tells true was is = (subst (ConversesBy input s.known mid s.reads reads s.writes writes) is converses).1
+  full_tells false was is = absurd (cc)
+
+  full_later : StartsWith new.seen mid.seen → WasFull s.known.seen mid.seen → WasFull s.known.seen new.seen
+  full_later begins full = record { log = full.log; since = full.since; until = starts_later full.log mid.seen new.seen full.until begins; full = full.full }
+
+  ran_to : (stuck : Bool) (r : ClientRan) (P : PlainClient → Type 0) → t ≡ Ok (well stuck) → g ≡ gathered.Over → (closes : Closes stuck all new r) → After new.seen P → Ran input s later P
+  ran_to stuck r P done over closes after = record {
     after = after;
     emptied = closes.emptied (over_tells over).0;
     dialled = (over_tells over).1;
-    adds = adds_last input s.known mid all closes.last new (done_tells done) gathers.mine closes.handed closes.mine;
+    adds = adds_last input s.known mid all closes.last new (done_tells stuck done) gathers.mine closes.handed closes.mine;
     workers = finished_later all.seen new.seen s.counts counts closes.seen (both_finished all.seen s.counts counts g over takes);
   }
 
-  written_after : t ≡ Ok talked.WriteFault → HasRisen s.writes last_writes
+  written_after : t ≡ Ok attended.WriteFault → HasRisen s.writes last_writes
   written_after is = HasRisen-after s.writes writes last_writes (write_tells is) last_falls
 
   written_then : HasRisen writes last_writes → HasRisen s.writes last_writes
@@ -227,28 +264,33 @@ module _ (input : Option (List ℕ)) (s : Scene) (mid all new : Known Entry) (re
   pub ran_finished : (result : Result ClientRan AllocError) → FinishesBy t g all new writes last_writes result → RanBy input s later result
   unfolding RanBy FinishesBy Concludes
   ran_finished (Ok ran.SpawnFault) f = absurd f
-  ran_finished (Ok ran.NetFault) f = fault_tells f.1
+  ran_finished (Ok ran.NetFault) f = fault_tells f.2
+  ran_finished (Ok (ran.Refused status)) f = refused_tells status f.2
   ran_finished (Ok (ran.Bad n)) f = bad_tells n f
   ran_finished (Ok ran.ReadFault) f = read_tells f
   ran_finished (Ok ran.WriteFault) (inl f) = written_after f.0
-  ran_finished (Ok ran.WriteFault) (inr f) = written_then f.2
-  ran_finished (Ok (ran.Ended condition)) f = ran_to (ran.Ended condition) (EndsWith condition) f.0 f.1 f.2 f.2.concludes
-  ran_finished (Ok ran.Done) f = ran_to ran.Done IsDone f.0 f.1 f.2 (f.2.concludes (f.2.begins (over_tells f.1).0))
+  ran_finished (Ok ran.WriteFault) (inr f) = written_then f.3
+  ran_finished (Ok ran.Stuck) f =
+      (ran_to f.0 ran.Stuck IsSpent f.1 f.2 f.3 (f.3.concludes.1 (f.3.begins (over_tells f.2).0)), full_later (starts_later mid.seen all.seen new.seen gathers.begins f.3.seen) (full_tells f.0 f.3.concludes.0 f.1))
+  ran_finished (Ok (ran.Ended condition)) f = ran_to f.0 (ran.Ended condition) (EndsWith condition) f.1 f.2 f.3 f.3.concludes
+  ran_finished (Ok ran.Done) f = ran_to f.0 ran.Done IsDone f.1 f.2 f.3 (f.3.concludes (f.3.begins (over_tells f.2).0))
   ran_finished (Err error) f = tt
 
 -- talking, by its clauses
-pub conversed : (input : Option (List ℕ)) (old mid new : Known Entry) (reads later_reads writes later_writes : ℕ) (t : Talked)
-    → (is_done t ≡ true → new ≡ mid) → Adds old mid (IsTalk input) → (t ≡ talked.Done → PutsAll input old mid ⊎ TakesNoMore mid) → ((n : ℕ) → t ≡ talked.Bad n → IfSome input (λ bytes. IsFirstBad (lines_of bytes) n))
-    → (t ≡ talked.ReadFault → HasRisen reads later_reads) → (t ≡ talked.WriteFault → HasRisen writes later_writes)
-    → (◌≢◌ {A = Result Talked AllocError} (Ok t) (Ok talked.ReadFault) → later_reads ≡ reads) → (◌≢◌ {A = Result Talked AllocError} (Ok t) (Ok talked.WriteFault) → later_writes ≡ writes)
+pub conversed : (input : Option (List ℕ)) (old mid new : Known Entry) (reads later_reads writes later_writes : ℕ) (t : Attended)
+    → (is_done t ≡ true → new ≡ mid) → AttendsBy input old mid (Ok t)
+    → (t ≡ attended.ReadFault → HasRisen reads later_reads) → (t ≡ attended.WriteFault → HasRisen writes later_writes)
+    → (◌≢◌ {A = Result Attended AllocError} (Ok t) (Ok attended.ReadFault) → later_reads ≡ reads) → (◌≢◌ {A = Result Attended AllocError} (Ok t) (Ok attended.WriteFault) → later_writes ≡ writes)
     → (is_done t ≡ false → AsksLast old new)
     → ConversesBy input old new reads later_reads writes later_writes (Ok t)
-unfolding ConversesBy
-conversed input old mid new reads later_reads writes later_writes talked.Done same adds done bad read write no_read no_write asks =
-    (subst (λ known. Adds old known (IsTalk input)) (sym (same refl)) adds, subst (λ known. PutsAll input old known ⊎ TakesNoMore known) (sym (same refl)) (done refl), no_read (λ is. absurd (cc)), no_write (λ is. absurd (cc)))
-conversed input old mid new reads later_reads writes later_writes (talked.Bad n) same adds done bad read write no_read no_write asks = (bad n refl, asks refl, no_read (λ is. absurd (cc)))
-conversed input old mid new reads later_reads writes later_writes talked.ReadFault same adds done bad read write no_read no_write asks = (read refl, asks refl)
-conversed input old mid new reads later_reads writes later_writes talked.WriteFault same adds done bad read write no_read no_write asks = (write refl, asks refl, no_read (λ is. absurd (cc)))
+unfolding AttendsBy ConversesBy
+conversed input old mid new reads later_reads writes later_writes attended.Done same attends read write no_read no_write asks =
+    (subst (λ known. Adds old known (IsTalk input)) (sym (same refl)) attends.0, subst (λ known. PutsAll input old known ⊎ TakesNoMore known) (sym (same refl)) attends.1, no_read (λ is. absurd (cc)), no_write (λ is. absurd (cc)))
+conversed input old mid new reads later_reads writes later_writes attended.Stuck same attends read write no_read no_write asks =
+    (subst (λ known. Adds old known (IsTalk input)) (sym (same refl)) attends.0, subst (λ known. WasFull old.seen known.seen) (sym (same refl)) attends.1, no_read (λ is. absurd (cc)), no_write (λ is. absurd (cc)))
+conversed input old mid new reads later_reads writes later_writes (attended.Bad n) same attends read write no_read no_write asks = (attends, asks refl, no_read (λ is. absurd (cc)))
+conversed input old mid new reads later_reads writes later_writes attended.ReadFault same attends read write no_read no_write asks = (read refl, asks refl)
+conversed input old mid new reads later_reads writes later_writes attended.WriteFault same attends read write no_read no_write asks = (write refl, asks refl, no_read (λ is. absurd (cc)))
 
 pub conversed_not : (input : Option (List ℕ)) (old new : Known Entry) (reads later_reads writes later_writes : ℕ) (error : AllocError) → AsksLast old new → ConversesBy input old new reads later_reads writes later_writes (Err error)
 unfolding ConversesBy

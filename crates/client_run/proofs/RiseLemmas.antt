@@ -1,13 +1,13 @@
 -- What moves of a worker do to what it has seen, and to the counts of its network.
 use Rattle.std.proofs.Common.{◌≡◌, ℕ, ◌<◌, ◌≤◌, inl, inr, List, [], ◌∷◌, ◌++◌, Some, None, refl, sym, ◌∙◌, ap, subst, arith, append_assoc, append-nil}
-use Rattle.std.specs.Prelude.{Option}
+use Rattle.std.specs.Prelude.{◌≢◌, Option}
 use Rattle.bosh_ports.specs.Faults.{HasRisen}
 use Rattle.bosh_ports.proofs.FaultLemmas.{HasRisen-before}
 use Rattle.parked_gate.specs.Histories.{Appends, StartsWith}
 use Rattle.parked_gate.specs.Passes.{Calls, Known}
 use Rattle.server_ports.specs.Counts.{Counts, HasFailed, added}
 use Rattle.client_run.specs.declared.entry.Entry.{Entry}
-use Rattle.client_run.specs.Working.{CountsFault, Move, Moves, Side, Wire, answers, asks, dials, fails_to_dial, looks, loses, more, none, retires, wants_memory}
+use Rattle.client_run.specs.Working.{CountsFault, Move, Moves, Row, Side, Wire, answers, asks, dials, fails_to_dial, looks, loses, more, none, refuses, retires, row_passed, wants_memory}
 
 -- What was seen goes on.
 
@@ -32,6 +32,7 @@ begins_moved moment s t (looks new question answer asked) = asked.begins
 begins_moved moment s t (wants_memory new call error called) = calls_begin s.known new called
 begins_moved moment s t (answers new rid body answer old wire now answered hand out exchanges at called) = calls_begin s.known new called
 begins_moved moment s t (loses rid body old wire events counts row hand out tries retired counted) = starts_same s.known.seen
+begins_moved moment s t (refuses rid body old wire events status hand out was retired) = starts_same s.known.seen
 begins_moved moment s t (retires old events out retired) = starts_same s.known.seen
 
 pub moves_begin : (moment : Option ℕ) (s t : Side) → Moves moment s t → StartsWith t.known.seen s.known.seen
@@ -53,7 +54,7 @@ failed_counts old new failed = record { faults = failed.never_falls; dialled = s
 dialled_counts : (old new : Counts) → new ≡ record old { dialled = added old.dialled 1 } → NeverFalls old new
 dialled_counts old new is = subst (NeverFalls old) (sym is) (record { faults = omega arith; dialled = omega arith })
 
-fault_counts : (old new : Counts) (row later : ℕ) → CountsFault old row new later → NeverFalls old new
+fault_counts : (old new : Counts) (row later : Row) → CountsFault old row new later → NeverFalls old new
 fault_counts old new row later (inl fault) = failed_counts old new fault.0
 fault_counts old new row later (inr same) = subst (NeverFalls old) (sym same.0) (same_counts old)
 
@@ -65,6 +66,7 @@ counts_moved moment s t (looks new question answer asked) = same_counts s.counts
 counts_moved moment s t (wants_memory new call error called) = same_counts s.counts
 counts_moved moment s t (answers new rid body answer old wire now answered hand out exchanges at called) = same_counts s.counts
 counts_moved moment s t (loses rid body old wire events counts row hand out tries retired counted) = fault_counts s.counts counts s.row row counted
+counts_moved moment s t (refuses rid body old wire events status hand out was retired) = same_counts s.counts
 counts_moved moment s t (retires old events out retired) = same_counts s.counts
 
 falls_later : (a b c : Counts) → NeverFalls a b → NeverFalls b c → NeverFalls a c
@@ -76,11 +78,14 @@ moves_count moment s t (more {t = mid} moves move) = falls_later s.counts mid.co
 
 -- Faults in a row were counted.
 
-risen_by : (first old new : Counts) (row later : ℕ) → NeverFalls first old → (0 < row → HasRisen first.faults old.faults) → CountsFault old row new later → 0 < later → HasRisen first.faults new.faults
-risen_by first old new row later falls before (inl fault) some = HasRisen-before first.faults old.faults new.faults falls.faults fault.0.never_falls fault.0.risen
-risen_by first old new row later falls before (inr same) some = absurd (omega (arith, same.1, some))
+no_fault : (later row : Row) → later ≡ row_passed row → 0 < later.faults → ⊥
+no_fault later row is some = omega (arith, some, ap (λ r. r.faults) is)
 
-risen_moved : (moment : Option ℕ) (s mid t : Side) → Moves moment s mid → Move moment mid t → (0 < mid.row → HasRisen s.counts.faults mid.counts.faults) → 0 < t.row → HasRisen s.counts.faults t.counts.faults
+risen_by : (first old new : Counts) (row later : Row) → NeverFalls first old → (0 < row.faults → HasRisen first.faults old.faults) → CountsFault old row new later → 0 < later.faults → HasRisen first.faults new.faults
+risen_by first old new row later falls before (inl fault) some = HasRisen-before first.faults old.faults new.faults falls.faults fault.0.never_falls fault.0.risen
+risen_by first old new row later falls before (inr same) some = absurd (no_fault later row same.1 some)
+
+risen_moved : (moment : Option ℕ) (s mid t : Side) → Moves moment s mid → Move moment mid t → (0 < mid.row.faults → HasRisen s.counts.faults mid.counts.faults) → 0 < t.row.faults → HasRisen s.counts.faults t.counts.faults
 risen_moved moment s mid t moves (dials events counts wire out begins ungiven kept counted) before some = subst (λ c. HasRisen s.counts.faults c.faults) (sym counted) (before some)
 risen_moved moment s mid t moves (fails_to_dial counts out failed) before some = HasRisen-before s.counts.faults mid.counts.faults counts.faults (moves_count moment s mid moves).faults failed.never_falls failed.risen
 risen_moved moment s mid t moves (asks new next now hand at called) before some = absurd (omega (arith, some))
@@ -88,9 +93,10 @@ risen_moved moment s mid t moves (looks new question answer asked) before some =
 risen_moved moment s mid t moves (wants_memory new call error called) before some = before some
 risen_moved moment s mid t moves (answers new rid body answer old wire now answered hand out exchanges at called) before some = absurd (omega (arith, some))
 risen_moved moment s mid t moves (loses rid body old wire events counts row hand out tries retired counted) before some = risen_by s.counts mid.counts counts mid.row row (moves_count moment s mid moves) before counted some
+risen_moved moment s mid t moves (refuses rid body old wire events status hand out was retired) before some = absurd (omega (arith, some))
 risen_moved moment s mid t moves (retires old events out retired) before some = before some
 
-pub row_risen : (moment : Option ℕ) (s t : Side) → Moves moment s t → s.row ≡ 0 → 0 < t.row → HasRisen s.counts.faults t.counts.faults
+pub row_risen : (moment : Option ℕ) (s t : Side) → Moves moment s t → s.row.faults ≡ 0 → 0 < t.row.faults → HasRisen s.counts.faults t.counts.faults
 row_risen moment s t none zero some = absurd (omega (arith, zero, some))
 row_risen moment s t (more {t = mid} moves move) zero some = risen_moved moment s mid t moves move (λ before. row_risen moment s mid moves zero before) some
 
@@ -110,8 +116,34 @@ dialled_moved moment s mid t moves (looks new question answer asked) before w so
 dialled_moved moment s mid t moves (wants_memory new call error called) before w some = before w some
 dialled_moved moment s mid t moves (answers new rid body answer old wire now answered hand out exchanges at called) before w some = before old out
 dialled_moved moment s mid t moves (loses rid body old wire events counts row hand out tries retired counted) before w some = not_both None w refl some
+dialled_moved moment s mid t moves (refuses rid body old wire events status hand out was retired) before w some = not_both None w refl some
 dialled_moved moment s mid t moves (retires old events out retired) before w some = not_both None w refl some
 
 pub dialled_risen : (moment : Option ℕ) (s t : Side) → Moves moment s t → s.wire ≡ None → (wire : Wire) → t.wire ≡ Some wire → HasRisen s.counts.dialled t.counts.dialled
 dialled_risen moment s t none out w some = not_both s.wire w out some
 dialled_risen moment s t (more {t = mid} moves move) out w some = dialled_moved moment s mid t moves move (dialled_risen moment s mid moves out) w some
+
+-- What refused had another status than 200.
+
+-- where there is a refusal in a row
+abbrev pub IsOther : Row → Type 0
+IsOther row = 0 < row.refusals → row.status ≢ 200
+
+other_counted : (counts later : Counts) (row next : Row) → CountsFault counts row later next → IsOther row → IsOther next
+other_counted counts later row next (inl fault) other = subst IsOther (sym fault.1) other
+other_counted counts later row next (inr same) other = subst IsOther (sym same.1) other
+
+other_moved : (moment : Option ℕ) (s t : Side) → Move moment s t → IsOther s.row → IsOther t.row
+other_moved moment s t (dials events counts wire out begins ungiven kept counted) other = other
+other_moved moment s t (fails_to_dial counts out failed) other = other
+other_moved moment s t (asks new next now hand at called) other = λ some. absurd (omega (arith, some))
+other_moved moment s t (looks new question answer asked) other = other
+other_moved moment s t (wants_memory new call error called) other = other
+other_moved moment s t (answers new rid body answer old wire now answered hand out exchanges at called) other = λ some. absurd (omega (arith, some))
+other_moved moment s t (loses rid body old wire events counts row hand out tries retired counted) other = other_counted s.counts counts s.row row counted other
+other_moved moment s t (refuses rid body old wire events status hand out was retired) other = λ some. was.responds.2.0
+other_moved moment s t (retires old events out retired) other = other
+
+pub row_other : (moment : Option ℕ) (s t : Side) → Moves moment s t → IsOther s.row → IsOther t.row
+row_other moment s t none other = other
+row_other moment s t (more {t = mid} moves move) other = other_moved moment mid t move (row_other moment s mid moves other)

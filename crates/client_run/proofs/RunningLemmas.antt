@@ -1,6 +1,6 @@
 -- What the ends of workers tell, and that a client that is over stays so.
 use Rattle.std.proofs.Common.{◌≡◌, ℕ, zero, suc, ◌<◌, ◌≤◌, ◌⊎◌, Bool, true, false, ◌&&◌, ◌||◌, List, [], ◌∷◌, ◌++◌, Some, None, inl, inr, refl, sym, ◌∙◌, ap, subst, arith, length-append}
-use Rattle.std.specs.Prelude.{Option, Result, Ok, Err, is_some, nat_lt}
+use Rattle.std.specs.Prelude.{◌≢◌, ◌==◌, Option, Result, Ok, Err, is_some, nat_lt, not}
 use Rattle.std.proofs.lemmas.Bool.{ltb-true}
 use Rattle.std.proofs.lemmas.Bool.Decides.{nat_tests}
 use Rattle.std.specs.List.{list_all}
@@ -26,11 +26,12 @@ use Rattle.client_run.specs.declared.gathering.Gathered.{Gathered}
 use Rattle.client_run.specs.declared.gathering.Gathered.TheVariants as gathered
 use Rattle.client_run.specs.declared.worked.Worked.{Worked}
 use Rattle.client_run.specs.declared.worked.Worked.TheVariants as worked
+use Rattle.client_run.specs.declared.worked.Worked.TheVariants.{Refused}
 use Rattle.client_run.specs.Adding.{AddsOnly, is_entry, is_of_worker}
 use Rattle.client_run.specs.Calls.{call_in}
 use Rattle.client_run.specs.History.{After, client_begun, client_by, client_from, client_in}
-use Rattle.client_run.specs.Running.{BothFinished, EndTold, Finished, GatheredTells, Gathers, IsEndOf, IsOver, TakesBoth, TakesOne, WasOver, finishes, gathered_of, is_end_of, is_failed, is_over, is_over_by, worse_of}
-use Rattle.client_run.specs.Worked.{IsDone, Works, is_end, is_fault}
+use Rattle.client_run.specs.Running.{BothFinished, EndTold, Finished, GatheredTells, Gathers, IsEndOf, IsOver, IsToilOf, TakesBoth, TakesOne, WasOver, finishes, gathered_of, is_end_of, is_refusal, is_over, is_toil_of, is_over_by, worse_of}
+use Rattle.client_run.specs.Worked.{IsDone, Works, has_read, is_fault}
 use Rattle.client_run.specs.Working.{Side, side_of}
 use Rattle.client_run.proofs.RiseLemmas.{moves_count, starts_later}
 
@@ -157,39 +158,34 @@ module _ (moment : Option ℕ) (start : Side) (known : Known Entry) (events : Op
   some_test : (n : ℕ) → 0 < n → nat_lt 0 n ≡ true
   some_test n some = grind (arith, nat_tests, some)
 
+  other_test : (n : ℕ) → n ≢ 200 → not (n == 200) ≡ true
+  other_test n other = grind (arith, nat_tests, other)
+
   finishing : After known.seen IsOver → 0 < counts.dialled → list_all (is_entry is_of_worker) known.mine ≡ true → finishes known counts ≡ true
   finishing over dialled mine = and_both _ _ (to_test known.seen over) (and_both _ _ (some_test counts.dialled dialled) mine)
 
   -- a worker whose own entries were requests and answers alone before
   pub end_by : (worked : Worked) → Works moment start known events counts None (Ok worked)
-      → (is_fault worked ≡ true → HasRisen start.counts.faults counts.faults) → (is_end worked ≡ true → HasRisen start.counts.dialled counts.dialled)
-      → list_all (is_entry is_of_worker) known.mine ≡ true → IsEndOf (Ok worked) known counts
-  unfolding is_end_of
-  end_by worked.Done works fault dialled mine =
+      → (is_fault worked ≡ true → HasRisen start.counts.faults counts.faults) → (has_read worked ≡ true → HasRisen start.counts.dialled counts.dialled)
+      → ((status : ℕ) → worked ≡ Refused status → status ≢ 200) → list_all (is_entry is_of_worker) known.mine ≡ true → IsToilOf (Ok worked) known counts
+  unfolding is_toil_of
+  end_by worked.Done works fault dialled refused mine =
       finishing (record { plain = works.ends.plain; is = works.ends.is; holds = done_over works.ends.plain works.ends.holds })
       (some_risen start.counts.dialled counts.dialled (dialled refl) (moves_count moment start (side_of known events counts None works.hand works.row) works.moves).dialled) mine
-  end_by (worked.Ended condition) works fault dialled mine =
+  end_by (worked.Ended condition) works fault dialled refused mine =
       finishing (record { plain = works.ends.plain; is = works.ends.is; holds = inl (ended_is (end_of works.ends.plain) _ works.ends.holds) })
       (some_risen start.counts.dialled counts.dialled (dialled refl) (moves_count moment start (side_of known events counts None works.hand works.row) works.moves).dialled) mine
-  end_by worked.DialFault works fault dialled mine = some_test counts.faults (some_risen start.counts.faults counts.faults (fault refl) (moves_count moment start (side_of known events counts None works.hand works.row) works.moves).faults)
-  end_by worked.ReadFault works fault dialled mine = some_test counts.faults (some_risen start.counts.faults counts.faults (fault refl) (moves_count moment start (side_of known events counts None works.hand works.row) works.moves).faults)
-  end_by worked.WriteFault works fault dialled mine = some_test counts.faults (some_risen start.counts.faults counts.faults (fault refl) (moves_count moment start (side_of known events counts None works.hand works.row) works.moves).faults)
-  end_by worked.Silent works fault dialled mine = refl
+  end_by worked.DialFault works fault dialled refused mine = some_test counts.faults (some_risen start.counts.faults counts.faults (fault refl) (moves_count moment start (side_of known events counts None works.hand works.row) works.moves).faults)
+  end_by worked.ReadFault works fault dialled refused mine = some_test counts.faults (some_risen start.counts.faults counts.faults (fault refl) (moves_count moment start (side_of known events counts None works.hand works.row) works.moves).faults)
+  end_by worked.WriteFault works fault dialled refused mine = some_test counts.faults (some_risen start.counts.faults counts.faults (fault refl) (moves_count moment start (side_of known events counts None works.hand works.row) works.moves).faults)
+  end_by (worked.Refused status) works fault dialled refused mine =
+      and_both (not (status == 200)) (nat_lt 0 counts.dialled) (other_test status (refused status refl))
+      (some_test counts.dialled (some_risen start.counts.dialled counts.dialled (dialled refl) (moves_count moment start (side_of known events counts None works.hand works.row) works.moves).dialled))
+  end_by worked.Silent works fault dialled refused mine = refl
 
-pub end_wanting : (error : AllocError) (known : Known Entry) (counts : Counts) → IsEndOf (Err error) known counts
-unfolding is_end_of
+pub end_wanting : (error : AllocError) (known : Known Entry) (counts : Counts) → IsToilOf (Err error) known counts
+unfolding is_toil_of
 end_wanting error known counts = refl
-
--- what a pass has seen besides is nothing to a fault
-pub end_failed : (worked : Result Worked AllocError) (old new : Known Entry) (counts : Counts) → is_failed worked ≡ true → IsEndOf worked old counts → IsEndOf worked new counts
-unfolding is_end_of
-end_failed (Ok worked.Done) old new counts failed end = absurd (cc)
-end_failed (Ok (worked.Ended condition)) old new counts failed end = absurd (cc)
-end_failed (Ok worked.DialFault) old new counts failed end = end
-end_failed (Ok worked.ReadFault) old new counts failed end = end
-end_failed (Ok worked.WriteFault) old new counts failed end = end
-end_failed (Ok worked.Silent) old new counts failed end = absurd (cc)
-end_failed (Err error) old new counts failed end = refl
 
 -- Ends that are taken.
 
@@ -204,6 +200,9 @@ module _ (old new other : Known Entry) (counts later theirs : Counts) (begins : 
   dialled_is : later.dialled ≡ added counts.dialled theirs.dialled
   dialled_is = ap (λ c. c.dialled) back
 
+  other_is : (n : ℕ) → not (n == 200) ≡ true → n ≢ 200
+  other_is n other = λ is. absurd (grind (arith, nat_tests, other, is))
+
   finished_tells : finishes other theirs ≡ true → GatheredTells new.seen counts later gathered.Over
   finished_tells is =
       let parts = from_and (is_over_by (client_in other.seen)) _ is in (
@@ -215,9 +214,12 @@ module _ (old new other : Known Entry) (counts later theirs : Counts) (begins : 
   unfolding is_end_of
   tells_by (Ok worked.Done) end = finished_tells end
   tells_by (Ok (worked.Ended condition)) end = finished_tells end
-  tells_by (Ok worked.DialFault) end = faults.risen (ltb-true 0 theirs.faults end)
-  tells_by (Ok worked.ReadFault) end = faults.risen (ltb-true 0 theirs.faults end)
-  tells_by (Ok worked.WriteFault) end = faults.risen (ltb-true 0 theirs.faults end)
+  tells_by (Ok worked.DialFault) end = faults.risen (ltb-true 0 theirs.faults (from_and (nat_lt 0 theirs.faults) _ end).0)
+  tells_by (Ok worked.ReadFault) end = faults.risen (ltb-true 0 theirs.faults (from_and (nat_lt 0 theirs.faults) _ end).0)
+  tells_by (Ok worked.WriteFault) end = faults.risen (ltb-true 0 theirs.faults (from_and (nat_lt 0 theirs.faults) _ end).0)
+  tells_by (Ok (worked.Refused status)) end =
+      let parts = from_and (not (status == 200)) _ (from_and (is_refusal status theirs) _ end).0 in
+      (other_is status parts.0, subst (HasRisen counts.dialled) (sym dialled_is) (risen_added counts.dialled theirs.dialled (ltb-true 0 theirs.dialled parts.1)))
   tells_by (Ok worked.Silent) end = tt
   tells_by (Err error) end = tt
 
@@ -237,6 +239,12 @@ module _ (old new other : Known Entry) (counts later theirs : Counts) (begins : 
 both_tell : (seen last : List Entry) (a b c : Counts) (first second : Gathered) → StartsWith last seen → a.faults ≤ b.faults → b.faults ≤ c.faults → a.dialled ≤ b.dialled → b.dialled ≤ c.dialled
     → GatheredTells seen a b first → GatheredTells last b c second → GatheredTells last a c (worse_of first second)
 both_tell seen last a b c gathered.NetFault second begins f1 f2 d1 d2 one two = HasRisen-after a.faults b.faults c.faults one f2
+both_tell seen last a b c (gathered.Refused status) gathered.NetFault begins f1 f2 d1 d2 one two = HasRisen-before a.faults b.faults c.faults f1 f2 two
+both_tell seen last a b c (gathered.Refused status) (gathered.Refused other) begins f1 f2 d1 d2 one two = (one.0, HasRisen-after a.dialled b.dialled c.dialled one.1 d2)
+both_tell seen last a b c (gathered.Refused status) gathered.Over begins f1 f2 d1 d2 one two = (one.0, HasRisen-after a.dialled b.dialled c.dialled one.1 d2)
+both_tell seen last a b c (gathered.Refused status) gathered.NoMemory begins f1 f2 d1 d2 one two = (one.0, HasRisen-after a.dialled b.dialled c.dialled one.1 d2)
+both_tell seen last a b c gathered.Over (gathered.Refused status) begins f1 f2 d1 d2 one two = (two.0, HasRisen-before a.dialled b.dialled c.dialled d1 d2 two.1)
+both_tell seen last a b c gathered.NoMemory (gathered.Refused status) begins f1 f2 d1 d2 one two = (two.0, HasRisen-before a.dialled b.dialled c.dialled d1 d2 two.1)
 both_tell seen last a b c gathered.Over gathered.NetFault begins f1 f2 d1 d2 one two = HasRisen-before a.faults b.faults c.faults f1 f2 two
 both_tell seen last a b c gathered.Over gathered.Over begins f1 f2 d1 d2 one two = (two.0, HasRisen-before a.dialled b.dialled c.dialled d1 d2 two.1)
 both_tell seen last a b c gathered.Over gathered.NoMemory begins f1 f2 d1 d2 one two = tt
@@ -281,6 +289,11 @@ takes_later seen last old new result later both = record {
 both_over : (one other : Gathered) → worse_of one other ≡ gathered.Over → (one ≡ gathered.Over) × (other ≡ gathered.Over)
 both_over gathered.Over other is = (refl, is)
 both_over gathered.NetFault other is = absurd (cc)
+both_over (gathered.Refused status) gathered.Over is = absurd (cc)
+both_over (gathered.Refused status) gathered.NetFault is = absurd (cc)
+both_over (gathered.Refused status) (gathered.Refused more) is = absurd (cc)
+both_over (gathered.Refused status) gathered.NoMemory is = absurd (cc)
+both_over gathered.NoMemory (gathered.Refused status) is = absurd (cc)
 both_over gathered.NoMemory gathered.Over is = absurd (cc)
 both_over gathered.NoMemory gathered.NetFault is = absurd (cc)
 both_over gathered.NoMemory gathered.NoMemory is = absurd (cc)
@@ -301,6 +314,7 @@ finished_by seen (Ok (worked.Ended condition)) known share begins tells is = fin
 finished_by seen (Ok worked.DialFault) known share begins tells is = absurd (cc)
 finished_by seen (Ok worked.ReadFault) known share begins tells is = absurd (cc)
 finished_by seen (Ok worked.WriteFault) known share begins tells is = absurd (cc)
+finished_by seen (Ok (worked.Refused status)) known share begins tells is = absurd (cc)
 finished_by seen (Ok worked.Silent) known share begins tells is = absurd (cc)
 finished_by seen (Err error) known share begins tells is = absurd (cc)
 

@@ -23,15 +23,10 @@ use Rattle.client_run.specs.declared.talking.Said.TheVariants as said
 use Rattle.client_run.specs.declared.talking.Talked.{Talked}
 use Rattle.client_run.specs.declared.talking.Talked.TheVariants as talked
 use Rattle.client_run.specs.Adding.{Adds, IsTalk, by_call, is_entry, is_hand_out, is_of_talk, is_terminate, stanza_of, stanzas_in}
+use Rattle.client_run.specs.Attending.{IsSpoken, Speaking}
 use Rattle.client_run.specs.Handing.{Drains, Out, out_of}
 use Rattle.client_run.specs.Talking.{EndsTalk, Says, Speaks, Stops, SaysBy, Takes, Talk, Talks, none, spoke, talk_of}
 use Rattle.client_run.proofs.AddingLemmas.{Makes, called_makes, called_wants, drains_adds, offers_same, put_none, put_one}
-
--- entries of talking without a terminate, and the stanzas that they put
-pub record IsSpoken (stanzas : List (List ℕ)) (es : List Entry) : Type 0 where
-  pub only : list_all (is_entry is_of_talk) es ≡ true
-  pub open_yet : list_any (is_entry is_terminate) es ≡ false
-  pub put : stanzas_in es ≡ stanzas
 
 -- the bytes of these lines were read, and these are left
 abbrev pub HasLines : Option (List ℕ) → List (List ℕ) → Option (List ℕ) → Type 0
@@ -76,31 +71,27 @@ handed_spoken (e ∷ es) is =
       put = ap (λ xs. xs ++ stanzas_in es) first.2 ∙ rest.put;
     }
 
-put_spoken : (stanza : List ℕ) (e : Entry) → e.entered ≡ IsCalled (calls.Put stanza) → IsSpoken (stanza ∷ []) (e ∷ [])
+pub put_spoken : (stanza : List ℕ) (e : Entry) → e.entered ≡ IsCalled (calls.Put stanza) → IsSpoken (stanza ∷ []) (e ∷ [])
 put_spoken stanza e is = record {
   only = ap (λ x. by_call false is_of_talk x && true) is;
   open_yet = ap (λ x. by_call false is_terminate x || false) is;
   put = ap (λ x. by_call [] stanza_of x ++ []) is;
 }
 
--- a caller's entries grew by such ones
-abbrev pub Speaking : Known Entry → Known Entry → List (List ℕ) → Type 0
-Speaking old new stanzas = Adds old new (IsSpoken stanzas)
-
-nothing_said : (known : Known Entry) → Speaking known known []
+pub nothing_said : (known : Known Entry) → Speaking known known []
 nothing_said known = record { added = []; mine = sym (append-nil known.mine); holds = record { only = refl; open_yet = refl; put = refl } }
 
-same_said : (old new : Known Entry) → new.mine ≡ old.mine → Speaking old new []
+pub same_said : (old new : Known Entry) → new.mine ≡ old.mine → Speaking old new []
 same_said old new same = record { added = []; mine = same ∙ sym (append-nil old.mine); holds = record { only = refl; open_yet = refl; put = refl } }
 
-said_both : (a b c : Known Entry) (xs ys : List (List ℕ)) → Speaking a b xs → Speaking b c ys → Speaking a c (xs ++ ys)
+pub said_both : (a b c : Known Entry) (xs ys : List (List ℕ)) → Speaking a b xs → Speaking b c ys → Speaking a c (xs ++ ys)
 said_both a b c xs ys one two = record {
   added = one.added ++ two.added;
   mine = two.mine ∙ ap (λ front. front ++ two.added) one.mine ∙ append_assoc a.mine one.added two.added;
   holds = spoken_both xs ys one.added two.added one.holds two.holds;
 }
 
-drains_said : (s t : Out) (result : Result Written AllocError) → Drains s t result → Speaking s.known t.known []
+pub drains_said : (s t : Out) (result : Result Written AllocError) → Drains s t result → Speaking s.known t.known []
 drains_said s t result d =
     let adds = drains_adds s t result d in
     record { added = adds.added; mine = adds.mine; holds = handed_spoken adds.added adds.holds }
@@ -112,14 +103,14 @@ says_said stanza s t result says =
     (drains_said (out_of says.put s.given) t result says.drains)
 
 -- one more line was read
-has_line : (input left later : Option (List ℕ)) (stanzas : List (List ℕ)) (stanza : List ℕ) → HasLines input stanzas left → Reads left later (lines.Line stanza) → HasLines input (stanzas ++ stanza ∷ []) later
+pub has_line : (input left later : Option (List ℕ)) (stanzas : List (List ℕ)) (stanza : List ℕ) → HasLines input stanzas left → Reads left later (lines.Line stanza) → HasLines input (stanzas ++ stanza ∷ []) later
 has_line None left later stanzas stanza has reads = tt
 has_line (Some bytes) None later stanzas stanza has reads = absurd has
 has_line (Some bytes) (Some rest) None stanzas stanza has reads = absurd reads
 has_line (Some bytes) (Some rest) (Some rest') stanzas stanza has reads =
     has ∙ ap (λ ls. stanzas ++ ls) reads.0 ∙ sym (append_assoc stanzas (stanza ∷ []) (lines_of rest'))
 
-no_lines : (input : Option (List ℕ)) → HasLines input [] input
+pub no_lines : (input : Option (List ℕ)) → HasLines input [] input
 no_lines None = tt
 no_lines (Some bytes) = refl
 
@@ -190,7 +181,7 @@ closed_talk input left later stanzas es e spoken good has end is = record {
 abbrev pub TalkAdds : Talk → Known Entry → Type 0
 TalkAdds s known = Adds s.out.known known (IsTalk s.left)
 
-open_adds : (s t : Talk) (known : Known Entry) (left : Option (List ℕ)) (more : List (List ℕ)) → (spoken : Spoken s t) → Speaking t.out.known known more
+pub open_adds : (s t : Talk) (known : Known Entry) (left : Option (List ℕ)) (more : List (List ℕ)) → (spoken : Spoken s t) → Speaking t.out.known known more
     → list_all is_stanza (spoken.more ++ more) ≡ true → HasLines s.left (spoken.more ++ more) left → TalkAdds s known
 open_adds s t known left more spoken speaking good has =
     let both = said_both s.out.known t.out.known known spoken.more more spoken.said speaking in
@@ -218,7 +209,7 @@ stop_adds s t u (Ok said.WriteFault) spoken stops = more_adds s t u.out u.left s
 stop_adds s t u (Err error) spoken (stanza, takes, inl says) = more_adds s t u.out u.left stanza (Err error) spoken takes says
 stop_adds s t u (Err error) spoken (stanza, takes, inr offers) = still_adds s t u.out.known spoken (offers_same stanza t.out.known u.out.known offers.0)
 
-close_adds : (s t u : Talk) (changed : Bool) → Spoken s t → Takes t.left u.left inputs.End → Makes calls.Terminate changed t.out.known.mine u.out.known.mine → TalkAdds s u.out.known
+pub close_adds : (s t u : Talk) (changed : Bool) → Spoken s t → Takes t.left u.left inputs.End → Makes calls.Terminate changed t.out.known.mine u.out.known.mine → TalkAdds s u.out.known
 unfolding Takes
 close_adds s t u true spoken end made = record {
   added = spoken.said.added ++ made.0 ∷ [];

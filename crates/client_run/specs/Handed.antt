@@ -47,9 +47,11 @@ pub record Handed (whole : Bool) (s t : Out) (faults later : ℕ) : Type 0 where
 abbrev pub is_whole : Result ClientRan AllocError → Bool
 is_whole (Ok ran.SpawnFault) = false
 is_whole (Ok ran.NetFault) = false
+is_whole (Ok (ran.Refused status)) = false
 is_whole (Ok (ran.Bad n)) = false
 is_whole (Ok ran.ReadFault) = false
 is_whole (Ok ran.WriteFault) = false
+is_whole (Ok ran.Stuck) = true
 is_whole (Ok (ran.Ended condition)) = true
 is_whole (Ok ran.Done) = true
 is_whole (Err error) = false

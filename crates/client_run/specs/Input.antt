@@ -3,8 +3,9 @@ use Rattle.std.specs.Prelude.{◌≡◌, ◌⊎◌, ℕ, ◌+◌, ◌≤◌, tru
 use Rattle.std.specs.List.{list_all}
 use Rattle.bosh_types.specs.Limits.{most_lines}
 use Rattle.body_cutter.specs.Cutting.{is_stanza}
-use Rattle.bosh_client.specs.Machine.{is_over}
+use Rattle.bosh_client.specs.Machine.{is_full, is_over}
 use Rattle.line_reader.specs.Lines.{lines_of}
+use Rattle.parked_gate.specs.Histories.{StartsWith}
 use Rattle.parked_gate.specs.Passes.{Known}
 use Rattle.client_run.specs.declared.entry.Entry.{Entry}
 use Rattle.client_run.specs.Adding.{Adds, stanzas_in}
@@ -28,3 +29,10 @@ PutsAll input old new = Adds old new (λ added. IfSome input (λ bytes. (lines_o
 -- the client takes no more: it ended, or a terminate was queued
 abbrev pub TakesNoMore : Known Entry → Type 0
 TakesNoMore known = After known.seen (λ c. is_over c ≡ true)
+
+-- at some time meanwhile its queue was full
+pub record WasFull (first last : List Entry) : Type 0 where
+  pub log : List Entry
+  pub since : StartsWith log first
+  pub until : StartsWith last log
+  pub full : After log (λ c. is_full c ≡ true)

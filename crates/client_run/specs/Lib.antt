@@ -1,5 +1,6 @@
 pub mod Adding
 pub mod Asking
+pub mod Attending
 pub mod Calls
 pub mod Carried
 pub mod Handed

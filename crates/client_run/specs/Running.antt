@@ -1,7 +1,8 @@
 -- How workers come back to who started them.
-use Rattle.std.specs.Prelude.{◌≡◌, ◌⊎◌, ◌<◌, ◌≤◌, ◌&&◌, ◌||◌, nat_lt, Bool, true, false, IsTrue, List, Option, Some, None, Result, Ok, Err}
-use Rattle.std.specs.List.{list_all}
+use Rattle.std.specs.Prelude.{◌≡◌, ◌≢◌, ◌⊎◌, ◌<◌, ◌≤◌, ◌&&◌, ◌||◌, ◌==◌, ℕ, nat_lt, not, Bool, true, false, IsTrue, List, Option, Some, None, Result, Ok, Err}
+use Rattle.std.specs.List.{list_all, list_any}
 use Rattle.std.specs.declared.alloc.AllocError.{AllocError}
+use Rattle.bosh_client.specs.Machine as machine
 use Rattle.bosh_client.specs.PlainClient.{PlainClient, has_ended, next_id}
 use Rattle.bosh_ports.specs.Faults.{HasRisen}
 use Rattle.bosh_types.specs.Rid.{greatest_rid}
@@ -11,11 +12,11 @@ use Rattle.server_ports.specs.Counts.{Counts, added}
 use Rattle.client_run.specs.declared.entry.Entry.{Entry}
 use Rattle.client_run.specs.declared.gathering.Gathered.{Gathered}
 use Rattle.client_run.specs.declared.gathering.Gathered.TheVariants as gathered
-use Rattle.client_run.specs.declared.talking.Talked.{Talked}
-use Rattle.client_run.specs.declared.talking.Talked.TheVariants as talked
+use Rattle.client_run.specs.declared.attending.Attended.{Attended}
+use Rattle.client_run.specs.declared.attending.Attended.TheVariants as attended
 use Rattle.client_run.specs.declared.worked.Worked.{Worked}
 use Rattle.client_run.specs.declared.worked.Worked.TheVariants as worked
-use Rattle.client_run.specs.Adding.{is_entry, is_of_worker}
+use Rattle.client_run.specs.Adding.{is_entry, is_of_worker, is_terminate}
 use Rattle.client_run.specs.History.{After, client_in}
 
 -- no more comes of a client: it ended, or no request id is left
@@ -34,24 +35,52 @@ is_over_by (Some c) = is_over c
 abbrev pub finishes : Known Entry → Counts → Bool
 finishes known counts = is_over_by (client_in known.seen) && (nat_lt 0 counts.dialled && list_all (is_entry is_of_worker) known.mine)
 
--- what the end of a worker tells of its pass and its share: this, or that the share failed
+-- a terminate was queued: it is among the pass's own entries, or the client took no more
+abbrev pub takes_no_more : Option PlainClient → Bool
+takes_no_more None = false
+takes_no_more (Some c) = machine.is_over c
+
+abbrev pub has_closed : Known Entry → Bool
+has_closed known = list_any (is_entry is_terminate) known.mine || takes_no_more (client_in known.seen)
+
+-- a response with another status than 200 was read on a link that was dialled
+abbrev pub is_refusal : ℕ → Counts → Bool
+is_refusal status counts = not (status == 200) && nat_lt 0 counts.dialled
+
+-- what a worker tells of its pass and its share where it leaves its work: this, or that the share failed
+unfoldable pub is_toil_of : Result Worked AllocError → Known Entry → Counts → Bool
+is_toil_of (Ok worked.Done) known counts = finishes known counts
+is_toil_of (Ok (worked.Ended condition)) known counts = finishes known counts
+is_toil_of (Ok worked.DialFault) known counts = nat_lt 0 counts.faults
+is_toil_of (Ok worked.ReadFault) known counts = nat_lt 0 counts.faults
+is_toil_of (Ok worked.WriteFault) known counts = nat_lt 0 counts.faults
+is_toil_of (Ok (worked.Refused status)) known counts = is_refusal status counts
+is_toil_of (Ok worked.Silent) known counts = true
+is_toil_of (Err error) known counts = true
+
+abbrev pub IsToilOf : Result Worked AllocError → Known Entry → Counts → Type 0
+IsToilOf worked known counts = IsTrue (is_toil_of worked known counts)
+
+-- what its end tells: the same, and that a terminate was queued where the share failed
 unfoldable pub is_end_of : Result Worked AllocError → Known Entry → Counts → Bool
 is_end_of (Ok worked.Done) known counts = finishes known counts
 is_end_of (Ok (worked.Ended condition)) known counts = finishes known counts
-is_end_of (Ok worked.DialFault) known counts = nat_lt 0 counts.faults
-is_end_of (Ok worked.ReadFault) known counts = nat_lt 0 counts.faults
-is_end_of (Ok worked.WriteFault) known counts = nat_lt 0 counts.faults
+is_end_of (Ok worked.DialFault) known counts = nat_lt 0 counts.faults && has_closed known
+is_end_of (Ok worked.ReadFault) known counts = nat_lt 0 counts.faults && has_closed known
+is_end_of (Ok worked.WriteFault) known counts = nat_lt 0 counts.faults && has_closed known
+is_end_of (Ok (worked.Refused status)) known counts = is_refusal status counts && has_closed known
 is_end_of (Ok worked.Silent) known counts = true
 is_end_of (Err error) known counts = true
 
 abbrev pub IsEndOf : Result Worked AllocError → Known Entry → Counts → Type 0
 IsEndOf worked known counts = IsTrue (is_end_of worked known counts)
 
-abbrev pub is_done : Talked → Bool
-is_done talked.Done = true
-is_done (talked.Bad n) = false
-is_done talked.ReadFault = false
-is_done talked.WriteFault = false
+abbrev pub is_done : Attended → Bool
+is_done attended.Done = true
+is_done (attended.Bad n) = false
+is_done attended.ReadFault = false
+is_done attended.WriteFault = false
+is_done attended.Stuck = true
 
 abbrev pub is_silent : Worked → Bool
 is_silent worked.Done = false
@@ -59,6 +88,7 @@ is_silent (worked.Ended condition) = false
 is_silent worked.DialFault = false
 is_silent worked.ReadFault = false
 is_silent worked.WriteFault = false
+is_silent (worked.Refused status) = false
 is_silent worked.Silent = true
 
 abbrev pub is_failed : Result Worked AllocError → Bool
@@ -67,6 +97,7 @@ is_failed (Ok (worked.Ended condition)) = false
 is_failed (Ok worked.DialFault) = true
 is_failed (Ok worked.ReadFault) = true
 is_failed (Ok worked.WriteFault) = true
+is_failed (Ok (worked.Refused status)) = true
 is_failed (Ok worked.Silent) = false
 is_failed (Err error) = true
 
@@ -83,14 +114,20 @@ gathered_of (Ok (worked.Ended condition)) = gathered.Over
 gathered_of (Ok worked.DialFault) = gathered.NetFault
 gathered_of (Ok worked.ReadFault) = gathered.NetFault
 gathered_of (Ok worked.WriteFault) = gathered.NetFault
+gathered_of (Ok (worked.Refused status)) = gathered.Refused status
 gathered_of (Ok worked.Silent) = gathered.NoMemory
 gathered_of (Err error) = gathered.NoMemory
 
--- a fault goes before want of memory
+-- a fault goes first, then refusals, then want of memory
 abbrev pub worse_of : Gathered → Gathered → Gathered
 worse_of gathered.NetFault second = gathered.NetFault
+worse_of (gathered.Refused status) gathered.NetFault = gathered.NetFault
+worse_of (gathered.Refused status) (gathered.Refused other) = gathered.Refused status
+worse_of (gathered.Refused status) gathered.Over = gathered.Refused status
+worse_of (gathered.Refused status) gathered.NoMemory = gathered.Refused status
 worse_of gathered.Over second = second
 worse_of gathered.NoMemory gathered.NetFault = gathered.NetFault
+worse_of gathered.NoMemory (gathered.Refused status) = gathered.Refused status
 worse_of gathered.NoMemory gathered.Over = gathered.NoMemory
 worse_of gathered.NoMemory gathered.NoMemory = gathered.NoMemory
 
@@ -137,6 +174,7 @@ pub record BothFinished (seen : List Entry) (old new : Counts) : Type 0 where
 abbrev pub GatheredTells : List Entry → Counts → Counts → Gathered → Type 0
 GatheredTells seen old new gathered.Over = WasOver seen × HasRisen old.dialled new.dialled
 GatheredTells seen old new gathered.NetFault = HasRisen old.faults new.faults
+GatheredTells seen old new (gathered.Refused status) = (status ≢ 200) × HasRisen old.dialled new.dialled
 GatheredTells seen old new gathered.NoMemory = Unit {0}
 
 -- ends were taken: the pass has seen more, no entry is its own besides, and no count falls

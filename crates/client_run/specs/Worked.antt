@@ -10,6 +10,8 @@ use Rattle.parked_gate.specs.Histories.{StartsWith}
 use Rattle.parked_gate.specs.Passes.{Known}
 use Rattle.server_ports.specs.Counts.{Counts}
 use Rattle.server_ports.specs.Events.{Event}
+use Rattle.client_run.specs.declared.carrying.Halt.{Halt}
+use Rattle.client_run.specs.declared.carrying.Halt.TheVariants as halts
 use Rattle.client_run.specs.declared.carrying.Tried.{Tried}
 use Rattle.client_run.specs.declared.carrying.Tried.TheVariants as tried
 use Rattle.client_run.specs.declared.entry.Entry.{Entry}
@@ -19,36 +21,45 @@ use Rattle.client_run.specs.declared.line.Line.{Line}
 use Rattle.client_run.specs.declared.worked.Worked.{Worked}
 use Rattle.client_run.specs.declared.worked.Worked.TheVariants as worked
 use Rattle.client_run.specs.History.{After}
-use Rattle.client_run.specs.Working.{IsAt, Moves, Side, Wire, side_of}
+use Rattle.client_run.specs.Working.{IsAt, Moves, Row, Side, Wire, no_row, row_failed, row_of, row_passed, row_refused, side_of}
 
 -- a dial that failed is one fault more in a row
-abbrev pub row_after : {X : Type 0} → Option X → ℕ → ℕ
-row_after None row = row + 1
+abbrev pub row_after : {X : Type 0} → Option X → Row → Row
+row_after None row = row_failed row
 row_after (Some x) row = row
 
 -- of a link that goes on
 abbrev pub IfSettled : {L : Type 0} → Tried L → (Line L → Type 0) → Type 0
 IfSettled (tried.Settled line) P = P line
+IfSettled tried.Broken P = Unit {0}
 IfSettled tried.Nothing P = Unit {0}
+IfSettled (tried.Refused status) P = Unit {0}
 IfSettled (tried.Fault fault) P = Unit {0}
 
 -- what one try came to, from moves up to it: the answer was taken, and the link goes on; or there is no link any more
 abbrev pub TriesBy : {L : Type 0} → (Line L → Wire) → Option ℕ → Side → Side → Result (Tried L) AllocError → Type 0
-TriesBy wire moment start s (Ok (tried.Settled line)) = Moves moment start (record s { wire = Some (wire line); hand = None; row = 0 })
-TriesBy wire moment start s (Ok tried.Nothing) = Moves moment start (record s { wire = None; row = 0 })
-TriesBy wire moment start s (Ok (tried.Fault fault)) = Moves moment start (record s { wire = None; row = s.row + 1 })
-TriesBy wire moment start s (Err error) = (row : ℕ) × Moves moment start (record s { wire = None; row = row })
+TriesBy wire moment start s (Ok (tried.Settled line)) = Moves moment start (record s { wire = Some (wire line); hand = None; row = no_row })
+TriesBy wire moment start s (Ok tried.Broken) = Moves moment start (record s { wire = None; row = no_row })
+TriesBy wire moment start s (Ok tried.Nothing) = Moves moment start (record s { wire = None; row = row_passed s.row })
+TriesBy wire moment start s (Ok (tried.Refused status)) = Moves moment start (record s { wire = None; row = row_refused s.row status })
+TriesBy wire moment start s (Ok (tried.Fault fault)) = Moves moment start (record s { wire = None; row = row_failed s.row })
+TriesBy wire moment start s (Err error) = (row : Row) × Moves moment start (record s { wire = None; row = row })
 
--- what all tries for one request came to: its answer was taken, or there were three faults in a row
-abbrev pub CarriesBy : Option ℕ → Side → Side → Result (Option Fault) AllocError → Type 0
-CarriesBy moment start s (Ok None) = Moves moment start (record s { hand = None; row = 0 })
-CarriesBy moment start s (Ok (Some fault)) = Moves moment start (record s { row = 3 })
-CarriesBy moment start s (Err error) = (row : ℕ) × Moves moment start (record s { row = row })
+-- three faults came in a row, or three responses to one request with another status than 200, the last of which is this one
+abbrev pub IsHalt : Row → Halt → Type 0
+IsHalt row (halts.Fault fault) = row.faults ≡ 3
+IsHalt row (halts.Refused status) = (row.refusals ≡ 3) × (row.status ≡ status)
+
+-- what all tries for one request came to: its answer was taken, or there was one of these rows
+abbrev pub CarriesBy : Option ℕ → Side → Side → Result (Option Halt) AllocError → Type 0
+CarriesBy moment start s (Ok None) = Moves moment start (record s { hand = None; row = no_row })
+CarriesBy moment start s (Ok (Some halt)) = (row : Row) × IsHalt row halt × Moves moment start (record s { row = row })
+CarriesBy moment start s (Err error) = (row : Row) × Moves moment start (record s { row = row })
 
 -- the first link was dialled, or three dials failed in a row
 abbrev pub FirstBy : {L : Type 0} → (Line L → Wire) → Option ℕ → Side → Side → Option (Line L) → Type 0
-FirstBy wire moment start s None = Moves moment start (record s { row = 3 })
-FirstBy wire moment start s (Some line) = (row : ℕ) × Moves moment start (record s { wire = Some (wire line); row = row })
+FirstBy wire moment start s None = Moves moment start (record s { row = row_of 3 0 0 })
+FirstBy wire moment start s (Some line) = (row : Row) × Moves moment start (record s { wire = Some (wire line); row = row })
 
 -- a fault of the network ended the worker
 abbrev pub is_fault : Worked → Bool
@@ -57,6 +68,7 @@ is_fault (worked.Ended condition) = false
 is_fault worked.DialFault = true
 is_fault worked.ReadFault = true
 is_fault worked.WriteFault = true
+is_fault (worked.Refused status) = false
 is_fault worked.Silent = false
 
 -- the client's end did
@@ -66,7 +78,18 @@ is_end (worked.Ended condition) = true
 is_end worked.DialFault = false
 is_end worked.ReadFault = false
 is_end worked.WriteFault = false
+is_end (worked.Refused status) = false
 is_end worked.Silent = false
+
+-- and it ended by what it read on a link
+abbrev pub has_read : Worked → Bool
+has_read worked.Done = true
+has_read (worked.Ended condition) = true
+has_read worked.DialFault = false
+has_read worked.ReadFault = false
+has_read worked.WriteFault = false
+has_read (worked.Refused status) = true
+has_read worked.Silent = false
 
 -- the client ended without a condition, or no request id is left
 abbrev pub IsDone : PlainClient → Type 0
@@ -79,17 +102,18 @@ pub record WasIdle (moment : Option ℕ) (first last : List Entry) : Type 0 wher
   pub until : StartsWith last log
   pub idle : After log (λ c. (now : ℕ) × IsAt moment now × ((next_request c now).1 ≡ nexts.Nothing))
 
--- why a worker ended, by what it knew at first and knows at last, and by how many faults came in a row
-abbrev pub EndsBy : Option ℕ → List Entry → List Entry → ℕ → Worked → Type 0
+-- why a worker ended, by what it knew at first and knows at last, and by what came in a row
+abbrev pub EndsBy : Option ℕ → List Entry → List Entry → Row → Worked → Type 0
 EndsBy moment first last row worked.Done = After last IsDone
 EndsBy moment first last row (worked.Ended condition) = After last (λ c. end_of c ≡ Some (record { condition = Some condition }))
-EndsBy moment first last row worked.DialFault = row ≡ 3
-EndsBy moment first last row worked.ReadFault = row ≡ 3
-EndsBy moment first last row worked.WriteFault = row ≡ 3
+EndsBy moment first last row worked.DialFault = row.faults ≡ 3
+EndsBy moment first last row worked.ReadFault = row.faults ≡ 3
+EndsBy moment first last row worked.WriteFault = row.faults ≡ 3
+EndsBy moment first last row (worked.Refused status) = (row.refusals ≡ 3) × (row.status ≡ status)
 EndsBy moment first last row worked.Silent = WasIdle moment first last
 
 -- the same, unless there was no memory
-abbrev pub EndsOr : Option ℕ → List Entry → List Entry → ℕ → Result Worked AllocError → Type 0
+abbrev pub EndsOr : Option ℕ → List Entry → List Entry → Row → Result Worked AllocError → Type 0
 EndsOr moment first last row (Ok ended) = EndsBy moment first last row ended
 EndsOr moment first last row (Err error) = Unit {0}
 
@@ -98,15 +122,19 @@ abbrev pub ended_by : Option Condition → Worked
 ended_by None = worked.Done
 ended_by (Some condition) = worked.Ended condition
 
--- and a fault
+-- and a row of faults, or of refusals
 abbrev pub failed_by : Fault → Worked
 failed_by faults.Dial = worked.DialFault
 failed_by faults.Read = worked.ReadFault
 failed_by faults.Write = worked.WriteFault
 
+abbrev pub halted_by : Halt → Worked
+halted_by (halts.Fault fault) = failed_by fault
+halted_by (halts.Refused status) = worked.Refused status
+
 -- a worker made these moves, and ended so
 pub record Works (moment : Option ℕ) (start : Side) (known : Known Entry) (events : Option (List Event)) (counts : Counts) (wire : Option Wire) (result : Result Worked AllocError) : Type 0 where
   pub hand : Option (ℕ × List ℕ)
-  pub row : ℕ
+  pub row : Row
   pub moves : Moves moment start (side_of known events counts wire hand row)
   pub ends : EndsOr moment start.known.seen known.seen row result

@@ -7,7 +7,7 @@ use Rattle.bosh_client.specs.declared.replies.Answered.TheVariants as answerings
 use Rattle.bosh_client.specs.declared.replies.Next.{Next}
 use Rattle.bosh_client.specs.declared.replies.Next.TheVariants as nexts
 use Rattle.bosh_http.specs.Responding.{Responds}
-use Rattle.bosh_http.specs.declared.responding.ResponseIn.TheVariants.{Body}
+use Rattle.bosh_http.specs.declared.responding.ResponseIn.TheVariants.{Body, Status}
 use Rattle.bosh_http.specs.Texts.{post_text}
 use Rattle.bosh_ports.specs.Sink.{AppendsFront}
 use Rattle.parked_gate.specs.Passes.{Calls, Known, Looks}
@@ -28,20 +28,42 @@ pub record Wire : Type 0 where
   pub given : Option (List ℕ)
   pub kept : List ℕ
 
+-- how many faults came in a row, and how many responses to one request with another status than 200, the last of which is this one
+pub record Row : Type 0 where
+  pub faults : ℕ
+  pub refusals : ℕ
+  pub status : ℕ
+
+abbrev pub row_of : ℕ → ℕ → ℕ → Row
+row_of faults refusals status = record { faults = faults; refusals = refusals; status = status }
+
+abbrev pub no_row : Row
+no_row = row_of 0 0 0
+
+-- one fault more; no fault, which ends their row; one response more with this status
+abbrev pub row_failed : Row → Row
+row_failed row = row_of (row.faults + 1) row.refusals row.status
+
+abbrev pub row_passed : Row → Row
+row_passed row = row_of 0 row.refusals row.status
+
+abbrev pub row_refused : Row → ℕ → Row
+row_refused row status = row_of 0 (row.refusals + 1) status
+
 -- what the worker's pass knows of the client; what became of the network's links, and its counts; the link that is out; the
--- request that has no answer yet; and how many faults came in a row
+-- request that has no answer yet; and what came in a row
 pub record Side : Type 0 where
   pub known : Known Entry
   pub events : Option (List Event)
   pub counts : Counts
   pub wire : Option Wire
   pub hand : Option (ℕ × List ℕ)
-  pub row : ℕ
+  pub row : Row
 
 abbrev pub wire_of : Option (List ℕ) → Option (List ℕ) → List ℕ → Wire
 wire_of left given kept = record { left = left; given = given; kept = kept }
 
-abbrev pub side_of : Known Entry → Option (List Event) → Counts → Option Wire → Option (ℕ × List ℕ) → ℕ → Side
+abbrev pub side_of : Known Entry → Option (List Event) → Counts → Option Wire → Option (ℕ × List ℕ) → Row → Side
 side_of known events counts wire hand row =
     record { known = known; events = events; counts = counts; wire = wire; hand = hand; row = row }
 
@@ -104,9 +126,16 @@ pub record Tries (old new : Wire) (body : List ℕ) : Type 0 where
   pub given : Keeps asked new.given
   pub left : TakesSome old.left new.left
 
+-- the request with this body was given whole, and the response to it has this status, which is not 200
+pub record Refuses (old new : Wire) (body : List ℕ) (status : ℕ) : Type 0 where
+  pub asked : Wire
+  pub sends : Sends old asked body
+  pub responds : Responds asked.left new.left asked.kept new.kept (Status status)
+  pub given : Keeps asked.given new.given
+
 -- a fault is one more in its row; what is no fault ends the row
-abbrev pub CountsFault : Counts → ℕ → Counts → ℕ → Type 0
-CountsFault counts row later later_row = (HasFailed counts later × (later_row ≡ row + 1)) ⊎ ((later ≡ counts) × (later_row ≡ 0))
+abbrev pub CountsFault : Counts → Row → Counts → Row → Type 0
+CountsFault counts row later later_row = (HasFailed counts later × (later_row ≡ row_failed row)) ⊎ ((later ≡ counts) × (later_row ≡ row_passed row))
 
 -- One move of a worker. A request is asked for only where none is at hand, and it stays at hand until its answer was given to
 -- the client; what is sent is the request at hand, and what is given to the client was read in answer to it. No move is made but
@@ -116,10 +145,10 @@ pub data Move (moment : Option ℕ) : Side → Side → Type 0 where
       → Begins s.events events wire.left → IsUngiven events wire.given → wire.kept ≡ [] → counts ≡ record s.counts { dialled = added s.counts.dialled 1 }
       → Move moment s (record s { events = events; counts = counts; wire = Some wire })
   fails_to_dial : {s : Side} (counts : Counts) → s.wire ≡ None → HasFailed s.counts counts
-      → Move moment s (record s { counts = counts; row = s.row + 1 })
+      → Move moment s (record s { counts = counts; row = row_failed s.row })
   asks : {s : Side} (new : Known Entry) (next : Next) (now : ℕ) → s.hand ≡ None → IsAt moment now
       → Called (calls.Next now) (Ok (replies.Next next)) s.known new
-      → Move moment s (record s { known = new; hand = request_in next; row = 0 })
+      → Move moment s (record s { known = new; hand = request_in next; row = no_row })
   looks : {s : Side} (new : Known Entry) (question : Question) (answer : Result Answer AllocError) → Asked question answer s.known new
       → Move moment s (record s { known = new })
   wants_memory : {s : Side} (new : Known Entry) (call : Call) (error : AllocError) → Called call (Err error) s.known new
@@ -127,11 +156,14 @@ pub data Move (moment : Option ℕ) : Side → Side → Type 0 where
   answers : {s : Side} (new : Known Entry) (rid : ℕ) (body answer : List ℕ) (old wire : Wire) (now : ℕ) (answered : Answered)
       → s.hand ≡ Some (rid, body) → s.wire ≡ Some old → Exchanges old wire body answer → IsAt moment now
       → Called (calls.Answer rid answer now) (Ok (replies.Answered answered)) s.known new
-      → Move moment s (record s { known = new; wire = Some wire; hand = hand_after answered s.hand; row = 0 })
-  loses : {s : Side} (rid : ℕ) (body : List ℕ) (old wire : Wire) (events : Option (List Event)) (counts : Counts) (row : ℕ)
+      → Move moment s (record s { known = new; wire = Some wire; hand = hand_after answered s.hand; row = no_row })
+  loses : {s : Side} (rid : ℕ) (body : List ℕ) (old wire : Wire) (events : Option (List Event)) (counts : Counts) (row : Row)
       → s.hand ≡ Some (rid, body) → s.wire ≡ Some old → Tries old wire body
       → Retires s.events events wire.left wire.given → CountsFault s.counts s.row counts row
       → Move moment s (record s { events = events; counts = counts; wire = None; row = row })
+  refuses : {s : Side} (rid : ℕ) (body : List ℕ) (old wire : Wire) (events : Option (List Event)) (status : ℕ)
+      → s.hand ≡ Some (rid, body) → s.wire ≡ Some old → Refuses old wire body status → Retires s.events events wire.left wire.given
+      → Move moment s (record s { events = events; wire = None; row = row_refused s.row status })
   retires : {s : Side} (old : Wire) (events : Option (List Event)) → s.wire ≡ Some old → Retires s.events events old.left old.given
       → Move moment s (record s { events = events; wire = None })
 

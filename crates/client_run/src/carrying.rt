@@ -4,7 +4,7 @@ ghost use Rattle.std.specs.Option.{option_map};
 ghost use Rattle.parked_gate.specs.Passes.{IsPassOf, Known, known};
 ghost use Rattle.client_run.specs.declared.entry.Entry.{Entry};
 ghost use Rattle.client_run.specs.Worked.{CarriesBy, IfSettled, TriesBy, row_after};
-ghost use Rattle.client_run.specs.Working.{Exchanges, Moves, Side, Wire, is_broken, side_of, wire_of};
+ghost use Rattle.client_run.specs.Working.{Exchanges, Moves, Row, Side, Wire, is_broken, no_row, side_of, wire_of};
 
 use crate::asking::give;
 use crate::fault::Fault;
@@ -19,7 +19,7 @@ use server_ports::{Clock, Dialled, Network};
 use std::alloc::{AllocError, Global};
 use std::sync::Wait;
 
-/// How many faults in a row are one too many.
+/// How many faults in a row are one too many, and how many responses with another status than 200.
 pub(crate) const TRIES: u32 = 3;
 
 /// What came of one try.
@@ -27,14 +27,27 @@ pub(crate) const TRIES: u32 = 3;
 pub(crate) enum Tried<L> {
     /// The answer was taken, and the link can go on.
     Settled(Line<L>),
-    /// No answer came, and nothing failed.
+    /// A response with status 200 came whose body is no answer.
+    Broken,
+    /// No response came, and nothing failed.
     Nothing,
+    /// A response with this other status came.
+    Refused(u16),
     Fault(Fault),
+}
+
+/// Why a request is given up.
+#[derive(Clone, Copy, Debug, PartialEq, Eq)]
+pub(crate) enum Halt {
+    /// The third fault in a row.
+    Fault(Fault),
+    /// The third response in a row with another status than 200.
+    Refused(u16),
 }
 
 /// Dials a link.
 pub(crate) fn dial<N: Network>(alloc: Global, network: &mut N, port: u16) -> Option<Line<N::Link>>
-    ensures dials { (moment : Option ℕ) (start : Side) (known : Known Entry) (hand : Option (ℕ × List ℕ)) (row : ℕ)
+    ensures dials { (moment : Option ℕ) (start : Side) (known : Known Entry) (hand : Option (ℕ × List ℕ)) (row : Row)
         → Moves moment start (side_of known (N.events network.old) (N.counts network.old) None hand row)
         → Moves moment start (side_of known (N.events network.new) (N.counts network.new)
         (option_map (λ line. wire_of (N.Link.left line.link) (N.Link.given line.link) line.reader) result) hand (row_after result row)) }
@@ -56,7 +69,7 @@ fn open<N: Network>(
 where
     N::Link: Drop,
     requires { IfSome line (λ line. N.Link.faults line.link ≡ 0) }
-    ensures opens { (moment : Option ℕ) (start : Side) (known : Known Entry) (hand : Option (ℕ × List ℕ)) (row : ℕ)
+    ensures opens { (moment : Option ℕ) (start : Side) (known : Known Entry) (hand : Option (ℕ × List ℕ)) (row : Row)
         → Moves moment start (side_of known (N.events network.old) (N.counts network.old)
         (option_map (λ line. wire_of (N.Link.left line.link) (N.Link.given line.link) line.reader) line) hand row)
         → Moves moment start (side_of known (N.events network.new) (N.counts network.new)
@@ -85,7 +98,7 @@ where
     requires pass { IsPassOf site.now.gate.now pass.old }
     requires faultless { IfSome line (λ line. N.Link.faults line.link ≡ 0) }
     ensures pass { IsPassOf site.now.gate.now pass.new }
-    ensures tries { (start : Side) (row : ℕ)
+    ensures tries { (start : Side) (row : Row)
         → Moves (C.moment site.now.clock.now) start (side_of (known pass.old) (N.events network.old) (N.counts network.old)
         (option_map (λ line. wire_of (N.Link.left line.link) (N.Link.given line.link) line.reader) line) (Some (rid, body.now)) row)
         → TriesBy (λ line. wire_of (N.Link.left line.link) (N.Link.given line.link) line.reader) (C.moment site.now.clock.now) start
@@ -98,6 +111,10 @@ where
     let mut line = line;
     match line.exchange(site.alloc, body.as_slice()) {
         Heard::Body(answer) => take(rt, site, pass, network, line, rid, answer),
+        Heard::Refused(status) => {
+            network.retire(line.into_link());
+            Ok(Tried::Refused(status))
+        }
         Heard::Nothing => {
             network.retire(line.into_link());
             Ok(Tried::Nothing)
@@ -128,7 +145,7 @@ where
     requires pass { IsPassOf site.now.gate.now pass.old }
     requires faultless { N.Link.faults line.link ≡ 0 }
     ensures pass { IsPassOf site.now.gate.now pass.new }
-    ensures tries { (start : Side) (old : Wire) (body : List ℕ) (row : ℕ)
+    ensures tries { (start : Side) (old : Wire) (body : List ℕ) (row : Row)
         → Exchanges old (wire_of (N.Link.left line.link) (N.Link.given line.link) line.reader) body answer
         → Moves (C.moment site.now.clock.now) start (side_of (known pass.old) (N.events network.old) (N.counts network.old) (Some old) (Some (rid, body)) row)
         → TriesBy (λ line. wire_of (N.Link.left line.link) (N.Link.given line.link) line.reader) (C.moment site.now.clock.now) start
@@ -139,7 +156,7 @@ where
         Ok(answered) => {
             if is_broken(answered) {
                 network.retire(line.into_link());
-                return Ok(Tried::Nothing);
+                return Ok(Tried::Broken);
             }
             Ok(Tried::Settled(line))
         }
@@ -161,9 +178,9 @@ fn is_broken(answered: Answered) -> bool
     }
 }
 
-/// Sends the request at hand until its answer was given to the client. Each copy is the same bytes, on a new link. The fault is
-/// answered after three in a row. Where no answer came and nothing failed, the next copy waits for the bell. The only error
-/// is want of memory.
+/// Sends the request at hand until its answer was given to the client. Each copy is the same bytes, on a new link. It is given up at
+/// the third fault in a row, and at the third response in a row with another status than 200; a response with status 200 begins that
+/// row anew. Where no answer came and nothing failed, the next copy waits for the bell. The only error is want of memory.
 pub(crate) fn carry<R: Wait, N: Network, C: Clock, B: Bell>(
     rt: &R,
     site: &Site<'_, C>,
@@ -173,7 +190,7 @@ pub(crate) fn carry<R: Wait, N: Network, C: Clock, B: Bell>(
     line: &mut Option<Line<N::Link>>,
     rid: Rid,
     body: &SharedText,
-) -> Result<Option<Fault>, AllocError>
+) -> Result<Option<Halt>, AllocError>
 where
     N::Link: Drop,
     requires pass { IsPassOf site.now.gate.now pass.old }
@@ -181,14 +198,16 @@ where
     ensures pass { IsPassOf site.now.gate.now pass.new }
     ensures carries { (start : Side)
         → Moves (C.moment site.now.clock.now) start (side_of (known pass.old) (N.events network.old) (N.counts network.old)
-        (option_map (λ line. wire_of (N.Link.left line.link) (N.Link.given line.link) line.reader) line.old) (Some (rid, body.now)) 0)
+        (option_map (λ line. wire_of (N.Link.left line.link) (N.Link.given line.link) line.reader) line.old) (Some (rid, body.now)) no_row)
         → CarriesBy (C.moment site.now.clock.now) start
         (side_of (known pass.new) (N.events network.new) (N.counts network.new)
-        (option_map (λ line. wire_of (N.Link.left line.link) (N.Link.given line.link) line.reader) line.new) (Some (rid, body.now)) 0) result }
+        (option_map (λ line. wire_of (N.Link.left line.link) (N.Link.given line.link) line.reader) line.new) (Some (rid, body.now)) no_row) result }
     ensures faultless { IfSome line.new (λ line. N.Link.faults line.link ≡ 0) }
     ensures silences { B.silences bell.old ≤ B.silences bell.new }
 {
     let mut row: u32 = 0;
+    let mut refusals: u32 = 0;
+    let mut last: u16 = 0;
     for _ in rt.forever() {
         let tried = match try_once(rt, site, pass, network, line.take(), rid, body) {
             Ok(tried) => tried,
@@ -199,18 +218,40 @@ where
                 *line = Some(open);
                 return Ok(None);
             }
+            Tried::Broken => {
+                row = 0;
+                refusals = 0;
+                last = 0;
+                pause(bell);
+            }
             Tried::Nothing => {
                 row = 0;
-                bell.tune(BellKey::PUMP);
-                bell.wait();
+                pause(bell);
+            }
+            Tried::Refused(status) => {
+                row = 0;
+                refusals += 1;
+                last = status;
+                if refusals == TRIES {
+                    return Ok(Some(Halt::Refused(status)));
+                }
+                pause(bell);
             }
             Tried::Fault(fault) => {
                 row += 1;
                 if row == TRIES {
-                    return Ok(Some(fault));
+                    return Ok(Some(Halt::Fault(fault)));
                 }
             }
         }
     }
     unreachable!()
+}
+
+// Waits before the next copy.
+fn pause<B: Bell>(bell: &mut B)
+    ensures { B.silences bell.old ≤ B.silences bell.new }
+{
+    bell.tune(BellKey::PUMP);
+    bell.wait();
 }

@@ -1,5 +1,5 @@
 // The workers of a client are made and started.
-ghost use Rattle.std.specs.Prelude.{◌≡◌, ◌≢◌, ◌≤◌, IfNone, IfOk, IfSome};
+ghost use Rattle.std.specs.Prelude.{◌≡◌, ◌≢◌, ◌≤◌, ℕ, IfNone, IfOk, IfSome};
 ghost use Rattle.std.specs.Arc.{arc_value};
 ghost use Rattle.bosh_ports.specs.Faults.{HasRisen};
 ghost use Rattle.parked_gate.specs.Passes.{IsPassOf, gate_of, known};
@@ -139,6 +139,9 @@ where
     P: Spawner,
     ensures refused { result ≢ 2 → HasRisen (P.refusals spawner.old) (P.refusals spawner.new) }
     ensures all { result ≡ 2 → P.refusals spawner.new ≡ P.refusals spawner.old }
+
+    // Where both were started, the spawner gave leave twice.
+    ensures started { result ≡ 2 → (mid : ℕ) × HasRisen (P.leaves spawner.old) mid × HasRisen mid (P.leaves spawner.new) }
     ensures never_falls { P.refusals spawner.old ≤ P.refusals spawner.new }
 {
     match start_worker(rt, spawner, first) {
@@ -164,6 +167,7 @@ where
     ensures refused { result ≡ Started.Refused → HasRisen (P.refusals spawner.old) (P.refusals spawner.new) }
     ensures running { result ≡ Started.Running → P.refusals spawner.new ≡ P.refusals spawner.old }
     ensures never_falls { P.refusals spawner.old ≤ P.refusals spawner.new }
+    ensures leave { result ≡ Started.Running → HasRisen (P.leaves spawner.old) (P.leaves spawner.new) }
 {
     start(rt, spawner, job)
 }

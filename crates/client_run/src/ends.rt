@@ -71,6 +71,11 @@ impl<J: Naming, N: Network + Drop> Ends<J, N> {
         self.came.notify_all();
     }
 
+    /// Whether an end stands here.
+    pub(crate) fn has_one<R: Wait>(&self, rt: &R) -> bool {
+        !self.list.lock(rt).is_empty()
+    }
+
     /// Takes an end, once there is one.
     pub(crate) fn take<R: Wait>(&self, rt: &R) -> End<J, N> {
         let mut list = self.list.lock(rt);

@@ -18,6 +18,8 @@ pub(crate) enum Gathered {
     Over,
     /// A fault of the network ended one.
     NetFault,
+    /// Three responses in a row with another status than 200 ended one; the last had this one.
+    Refused { status: u16 },
     /// Want of memory ended one, or one left since the other had failed.
     NoMemory,
 }
@@ -75,22 +77,30 @@ fn gathered_of(worked: Result<Worked, AllocError>) -> Gathered
         Ok(Worked::DialFault) => Gathered::NetFault,
         Ok(Worked::ReadFault) => Gathered::NetFault,
         Ok(Worked::WriteFault) => Gathered::NetFault,
+        Ok(Worked::Refused { status }) => Gathered::Refused { status },
         Ok(Worked::Silent) => Gathered::NoMemory,
         Err(AllocError) => Gathered::NoMemory,
     }
 }
 
-// A fault goes before want of memory.
+// A fault goes first, then refusals, then want of memory.
 fn worse_of(first: Gathered, second: Gathered) -> Gathered
     ensures { result ≡ worse_of first second }
 {
     match first {
-        Gathered::NetFault => Gathered::NetFault,
+        Gathered::NetFault => first,
+        Gathered::Refused { .. } => match second {
+            Gathered::NetFault => second,
+            Gathered::Refused { .. } => first,
+            Gathered::Over => first,
+            Gathered::NoMemory => first,
+        },
         Gathered::Over => second,
         Gathered::NoMemory => match second {
-            Gathered::NetFault => Gathered::NetFault,
-            Gathered::Over => Gathered::NoMemory,
-            Gathered::NoMemory => Gathered::NoMemory,
+            Gathered::NetFault => second,
+            Gathered::Refused { .. } => second,
+            Gathered::Over => first,
+            Gathered::NoMemory => first,
         },
     }
 }

@@ -3,7 +3,7 @@ ghost use Rattle.std.specs.Prelude.{◌≡◌, [], true};
 ghost use Rattle.std.specs.Arc.{arc_value};
 ghost use Rattle.parked_gate.specs.Passes.{IsPassOf, gate_of, known};
 ghost use Rattle.client_run.specs.Queueing.{AsksToEnd};
-ghost use Rattle.client_run.specs.Running.{IsEndOf, is_failed, is_silent};
+ghost use Rattle.client_run.specs.Running.{IsEndOf, IsToilOf, is_failed, is_silent};
 ghost use Rattle.server_ports.specs.Counts.{Counts};
 
 use crate::ends::{End, Ends, Naming};
@@ -13,12 +13,15 @@ use crate::site::Site;
 use crate::watch::Watch;
 use crate::worked::Worked;
 use crate::working::work;
-use bosh_ports::{Bell, Link};
+use bosh_ports::{Bell, BellKey, Link};
 use parked_gate::{Gate, Pass};
 use server_ports::{Clock, Job, Leave, Network};
 use std::alloc::{AllocError, Global};
 use std::marker::PhantomData;
 use std::sync::{Arc, Wait};
+
+/// The key of the ring by which a worker tells that it has ended, so that nothing more is taken or will be sent.
+pub const OVER: BellKey = BellKey(1);
 
 /// A place of its own at the gate of a client.
 #[derive(Drop)]
@@ -87,7 +90,7 @@ where
             port,
         };
         let worked = toil(&rt, &site, &mut pass, &mut share, &mut watch);
-        close_failed(&rt, &gate, &mut pass, &mut watch, &worked);
+        let worked = close_failed(&rt, &gate, &mut pass, &mut watch, worked);
         watch.ends.put(
             &rt,
             End {
@@ -97,6 +100,8 @@ where
                 of,
             },
         );
+        watch.ring(BellKey::PUMP);
+        watch.ring(OVER);
     }
 }
 
@@ -118,7 +123,7 @@ where
     requires pass { IsPassOf site.now.gate.now pass.old }
     requires fresh { (known pass.old).mine ≡ [] }
     ensures pass { IsPassOf site.now.gate.now pass.new }
-    ensures tells { IsEndOf result (known pass.new) (N.counts share.new) }
+    ensures tells { IsToilOf result (known pass.new) (N.counts share.new) }
 {
     for _ in rt.forever() {
         let worked = match work(rt, site, pass, share, watch) {
@@ -145,10 +150,11 @@ fn is_silent(worked: &Worked) -> bool
         Worked::DialFault => false,
         Worked::ReadFault => false,
         Worked::WriteFault => false,
+        Worked::Refused { .. } => false,
     }
 }
 
-// Whether a fault of the network ended it, or want of memory.
+// Whether a fault of the network ended it, refusals, or want of memory.
 pub(crate) fn is_failed(worked: &Result<Worked, AllocError>) -> bool
     ensures { result ≡ is_failed worked.now }
 {
@@ -160,17 +166,19 @@ pub(crate) fn is_failed(worked: &Result<Worked, AllocError>) -> bool
         Ok(Worked::DialFault) => true,
         Ok(Worked::ReadFault) => true,
         Ok(Worked::WriteFault) => true,
+        Ok(Worked::Refused { .. }) => true,
     }
 }
 
-// Where a worker failed, the other one is to end the session, or to end where it can't.
+// Where a worker failed, the other one is to end the session, or to end where it can't: what it came to, or want of memory where no
+// terminate could be queued.
 fn close_failed<J, R, N, B>(
     rt: &R,
     gate: &Gate<ClientObject>,
     pass: &mut Pass<ClientObject>,
     watch: &mut Watch<J, R, N, B>,
-    worked: &Result<Worked, AllocError>,
-)
+    worked: Result<Worked, AllocError>,
+) -> Result<Worked, AllocError>
 where
     J: Naming,
     R: Wait + Copy + Drop,
@@ -178,12 +186,31 @@ where
     B: Bell + Drop,
     requires { IsPassOf gate.now pass.old }
     ensures pass { IsPassOf gate.now pass.new }
-    ensures tells { (counts : Counts) → IsEndOf worked.now (known pass.old) counts → IsEndOf worked.now (known pass.new) counts }
-    ensures asks { is_failed worked.now ≡ true → AsksToEnd (known pass.old) (known pass.new) }
+    ensures tells { (counts : Counts) → IsToilOf worked (known pass.old) counts → IsEndOf result (known pass.new) counts }
+    ensures asks { is_failed worked ≡ true → AsksToEnd (known pass.old) (known pass.new) }
 {
-    if is_failed(worked) {
+    if is_failed(&worked) {
         watch.ends.fail(rt);
-        let _ = terminate(rt, gate, pass, watch);
-        return;
+        return close(rt, gate, pass, watch, worked);
+    }
+    worked
+}
+
+// The session is to end.
+fn close<R: Wait, B: Bell>(
+    rt: &R,
+    gate: &Gate<ClientObject>,
+    pass: &mut Pass<ClientObject>,
+    bell: &mut B,
+    worked: Result<Worked, AllocError>,
+) -> Result<Worked, AllocError>
+    requires { IsPassOf gate.now pass.old }
+    ensures pass { IsPassOf gate.now pass.new }
+    ensures tells { (counts : Counts) → is_failed worked ≡ true → IsToilOf worked (known pass.old) counts → IsEndOf result (known pass.new) counts }
+    ensures asks { AsksToEnd (known pass.old) (known pass.new) }
+{
+    match terminate(rt, gate, pass, bell) {
+        Ok(_) => worked,
+        Err(AllocError) => Err(AllocError),
     }
 }

@@ -3,6 +3,7 @@
 #![tactic(auto)]
 
 mod asking;
+mod attending;
 mod call;
 mod carrying;
 mod crew;
@@ -15,6 +16,7 @@ mod job;
 mod line;
 mod object;
 mod queueing;
+mod ready;
 mod running;
 mod site;
 mod talking;
@@ -25,7 +27,9 @@ mod working;
 pub use call::{Answer, Call, Question, Reply};
 pub use draining::{Written, drain};
 pub use entry::{Entered, Entry};
+pub use job::OVER;
 pub use object::ClientObject;
+pub use ready::Ready;
 pub use running::{ClientRan, Outside, Place, run_client};
 pub use site::Site;
 pub use talking::{Talked, talk};

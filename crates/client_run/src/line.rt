@@ -1,5 +1,6 @@
 // A link to the manager, with what was read of it.
-ghost use Rattle.std.specs.Prelude.{◌≡◌, []};
+ghost use Rattle.std.specs.Prelude.{◌≡◌, ℕ, []};
+ghost use Rattle.bosh_http.specs.declared.responding.ResponseIn.TheVariants.{Status};
 ghost use Rattle.client_run.specs.Lines.{HearsBy, IsHeard};
 ghost use Rattle.client_run.specs.Working.{wire_of};
 
@@ -22,7 +23,9 @@ pub(crate) struct Line<L> {
 pub(crate) enum Heard {
     /// The content of a response with status 200.
     Body(Text),
-    /// Another status, no response, or the end of the stream.
+    /// A response with this other status.
+    Refused(u16),
+    /// No response, or the end of the stream.
     Nothing,
     Fault(Fault),
     NoMemory,
@@ -58,13 +61,17 @@ impl<L: Link> Line<L> {
         ensures { IsHeard (wire_of (L.left self.old.link) (L.given self.old.link) self.old.reader)
             (wire_of (L.left self.new.link) (L.given self.new.link) self.new.reader) (L.faults self.new.link) result }
     {
-        match self.reader.next(alloc, &mut self.link) {
-            Ok(ResponseIn::Body(text)) => Heard::Body(text),
-            Ok(ResponseIn::Status(_)) => Heard::Nothing,
-            Ok(ResponseIn::Bad) => Heard::Nothing,
-            Ok(ResponseIn::End) => Heard::Nothing,
-            Ok(ResponseIn::ReadFault) => Heard::Fault(Fault::Read),
-            Err(AllocError) => Heard::NoMemory,
+        let response = match self.reader.next(alloc, &mut self.link) {
+            Ok(response) => response,
+            Err(AllocError) => return Heard::NoMemory,
+        };
+        let status = status_of(&response);
+        match response {
+            ResponseIn::Body(text) => Heard::Body(text),
+            ResponseIn::Status(_) => Heard::Refused(status),
+            ResponseIn::Bad => Heard::Nothing,
+            ResponseIn::End => Heard::Nothing,
+            ResponseIn::ReadFault => Heard::Fault(Fault::Read),
         }
     }
 
@@ -78,5 +85,18 @@ impl<L: Link> Line<L> {
             writer: _,
         } = self;
         link
+    }
+}
+
+// The status of a response that has another one than 200.
+fn status_of(response: &ResponseIn) -> u16
+    ensures { (status : ℕ) → response.now ≡ Status status → result ≡ status }
+{
+    match response {
+        ResponseIn::Status(status) => status.as_u16(),
+        ResponseIn::Body(_) => 0,
+        ResponseIn::Bad => 0,
+        ResponseIn::End => 0,
+        ResponseIn::ReadFault => 0,
     }
 }

@@ -50,8 +50,8 @@ pub(crate) fn put<R: Wait, B: Bell>(
     unreachable!()
 }
 
-// Offers a copy of the stanza once. The only error is want of memory.
-fn offer<R: Wait>(
+/// Offers a copy of the stanza once. The only error is want of memory.
+pub(crate) fn offer<R: Wait>(
     rt: &R,
     alloc: Global,
     gate: &Gate<ClientObject>,

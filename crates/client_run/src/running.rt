@@ -2,20 +2,22 @@
 ghost use Rattle.std.specs.Prelude.{◌≡◌, ◌≤◌, ℕ, Ok, true, false};
 ghost use Rattle.std.specs.Arc.{arc_value};
 ghost use Rattle.parked_gate.specs.Passes.{IsPassOf, gate_of, known};
-ghost use Rattle.client_run.specs.Handed.{GoesOn, Handed, is_talk_whole, is_whole};
+ghost use Rattle.client_run.specs.Attending.{is_attend_whole};
+ghost use Rattle.client_run.specs.Handed.{GoesOn, Handed, is_whole};
 ghost use Rattle.client_run.specs.Handing.{Out, out_of};
 ghost use Rattle.client_run.specs.Queueing.{AsksToEnd};
-ghost use Rattle.client_run.specs.Ran.{Concludes, ConversesBy, FinishesBy, InOrder, RanBy, ran_by, scene_of};
+ghost use Rattle.client_run.specs.Ran.{Concludes, ConversesBy, FinishesBy, InOrder, RanBy, ran_by, ran_spent, scene_of, well};
 ghost use Rattle.client_run.specs.Running.{is_done};
 
 use crate::asking::look;
+use crate::attending::{Attended, attend};
 use crate::crew::{Both, Crew, hire_both, start_both};
 use crate::draining::{Written, drain};
 use crate::ends::{Ends, Naming};
 use crate::gathering::{Gathered, gather_one, gather_two};
 use crate::object::ClientObject;
 use crate::queueing::terminate;
-use crate::talking::{Talked, talk};
+use crate::ready::Ready;
 use bosh_ports::{Bell, Link, Sink, Source};
 use bosh_types::Condition;
 use parked_gate::{Gate, Pass};
@@ -32,12 +34,17 @@ pub enum ClientRan {
     SpawnFault,
     /// The network gave no share at the start; or talking ended well, and then a worker by a fault.
     NetFault,
+    /// Talking ended well, and then a worker at the third response in a row to one request with another status than 200, the last
+    /// with this one.
+    Refused { status: u16 },
     /// This line of the input is the first that is no stanza, or it is the 1,000,001st.
     Bad { line: u64 },
     /// The source failed.
     ReadFault,
     /// The sink failed while talking, or at what was handed out last where no worker ended by a fault.
     WriteFault,
+    /// A line found the queue full, and no request id is left, so that nobody empties it.
+    Stuck,
     /// The first terminal answer that the client took has this condition.
     Ended(Condition),
     /// It has none, or no request id is left.
@@ -62,9 +69,10 @@ pub struct Outside<N, C, B, P> {
 }
 
 /// Runs a client over an input: two workers send what it has to send, and take its answers, while this thread puts the lines of
-/// the input and writes what is handed out. Before the answer both workers ended, and what was handed out last is written. Where
-/// anything fails, a terminate is queued. The only error is want of memory. The jobs wait for this thread, so the spawner has to
-/// give threads.
+/// the input and writes what is handed out, as soon as either comes. Whatever wakes the source rings the bell for the pump too.
+/// Before the answer both workers ended, and what was handed out last is written. A worker that ends rings the bell with the key
+/// `OVER`. Where anything fails, a terminate is queued. The only error is want of memory. The jobs wait for this thread, so the
+/// spawner has to give threads.
 pub fn run_client<R, S, K, N, C, B, P>(
     rt: &R,
     place: &Place<'_>,
@@ -75,7 +83,7 @@ pub fn run_client<R, S, K, N, C, B, P>(
 ) -> Result<ClientRan, AllocError>
 where
     R: Wait + Threads + Copy + Send + Drop + 'static,
-    S: Source,
+    S: Source + Ready,
     K: Sink,
     N: Network + Send + Drop + 'static,
     N::Link: Send + Drop + 'static,
@@ -113,7 +121,7 @@ fn run_named<J, R, S, K, N, C, B, P>(
 where
     J: Naming + Send + Sync + 'static,
     R: Wait + Threads + Copy + Send + Drop + 'static,
-    S: Source,
+    S: Source + Ready,
     K: Sink,
     N: Network + Send + Drop + 'static,
     N::Link: Send + Drop + 'static,
@@ -167,7 +175,16 @@ where
         );
         return Ok(ClientRan::SpawnFault);
     }
-    let talked = converse(rt, alloc, gate, pass, source, sink, &mut outside.bell);
+    let talked = converse(
+        rt,
+        alloc,
+        gate,
+        pass,
+        source,
+        sink,
+        &mut outside.bell,
+        &ends,
+    );
     let gathered = gather_two(rt, gate, pass, &mut outside.net, &ends);
     finish(rt, gate, pass, sink, talked, gathered)
 }
@@ -202,8 +219,8 @@ fn new_ends<J: Naming, N: Network + Drop>(alloc: Global) -> Result<Arc<Ends<J, N
     }
 }
 
-// Talks, and queues a terminate where that doesn't end well. The only error is want of memory.
-fn converse<R: Wait, S: Source, K: Sink, B: Bell>(
+// Attends to the input and the output, and queues a terminate where that doesn't end well. The only error is want of memory.
+fn converse<J, R, S, K, N, B>(
     rt: &R,
     alloc: Global,
     gate: &Gate<ClientObject>,
@@ -211,14 +228,22 @@ fn converse<R: Wait, S: Source, K: Sink, B: Bell>(
     source: &mut S,
     sink: &mut K,
     bell: &mut B,
-) -> Result<Talked, AllocError>
+    ends: &Ends<J, N>,
+) -> Result<Attended, AllocError>
+where
+    J: Naming,
+    R: Wait,
+    S: Source + Ready,
+    K: Sink,
+    N: Network + Drop,
+    B: Bell,
     requires { IsPassOf gate.now pass.old }
     ensures pass { IsPassOf gate.now pass.new }
     ensures converses { ConversesBy (S.left source.old) (known pass.old) (known pass.new) (S.faults source.old) (S.faults source.new) (K.faults sink.old) (K.faults sink.new) result }
-    ensures written { Handed (is_talk_whole result) (out_of (known pass.old) (K.given sink.old)) (out_of (known pass.new) (K.given sink.new)) (K.faults sink.old) (K.faults sink.new) }
+    ensures written { Handed (is_attend_whole result) (out_of (known pass.old) (K.given sink.old)) (out_of (known pass.new) (K.given sink.new)) (K.faults sink.old) (K.faults sink.new) }
     ensures sink_faults { K.faults sink.old ≤ K.faults sink.new }
 {
-    let talked = match talk(rt, alloc, gate, pass, source, sink, bell) {
+    let talked = match attend(rt, alloc, gate, pass, source, sink, bell, ends) {
         Ok(talked) => talked,
         Err(AllocError) => {
             let _ = terminate(rt, gate, pass, bell);
@@ -232,14 +257,16 @@ fn converse<R: Wait, S: Source, K: Sink, B: Bell>(
     Ok(talked)
 }
 
-fn is_done(talked: Talked) -> bool
+// Whether it ended well. Where no request id is left a terminate would be of no use.
+fn is_done(talked: Attended) -> bool
     ensures { result ≡ is_done talked }
 {
     match talked {
-        Talked::Done => true,
-        Talked::Bad { .. } => false,
-        Talked::ReadFault => false,
-        Talked::WriteFault => false,
+        Attended::Done => true,
+        Attended::Bad { .. } => false,
+        Attended::ReadFault => false,
+        Attended::WriteFault => false,
+        Attended::Stuck => true,
     }
 }
 
@@ -249,14 +276,14 @@ fn finish<R: Wait, K: Sink>(
     gate: &Gate<ClientObject>,
     pass: &mut Pass<ClientObject>,
     sink: &mut K,
-    talked: Result<Talked, AllocError>,
+    talked: Result<Attended, AllocError>,
     gathered: Gathered,
 ) -> Result<ClientRan, AllocError>
     requires { IsPassOf gate.now pass.old }
     ensures pass { IsPassOf gate.now pass.new }
     ensures finishes { FinishesBy talked gathered (known pass.old) (known pass.new) (K.faults sink.old) (K.faults sink.new) result }
     ensures written { (start : Out) (faults : ℕ) → faults ≤ K.faults sink.old
-        → Handed (is_talk_whole talked) start (out_of (known pass.old) (K.given sink.old)) faults (K.faults sink.old)
+        → Handed (is_attend_whole talked) start (out_of (known pass.old) (K.given sink.old)) faults (K.faults sink.old)
         → Handed (is_whole result) start (out_of (known pass.new) (K.given sink.new)) faults (K.faults sink.new) }
     ensures sink_faults { K.faults sink.old ≤ K.faults sink.new }
 {
@@ -265,30 +292,32 @@ fn finish<R: Wait, K: Sink>(
         Err(AllocError) => return Err(AllocError),
     };
     match talked {
-        Talked::Done => end(rt, gate, pass, sink, gathered),
-        Talked::Bad { line } => {
+        Attended::Done => end(rt, gate, pass, sink, gathered, false),
+        Attended::Stuck => end(rt, gate, pass, sink, gathered, true),
+        Attended::Bad { line } => {
             let _ = drain(rt, gate, pass, sink);
             Ok(ClientRan::Bad { line })
         }
-        Talked::ReadFault => {
+        Attended::ReadFault => {
             let _ = drain(rt, gate, pass, sink);
             Ok(ClientRan::ReadFault)
         }
-        Talked::WriteFault => Ok(ClientRan::WriteFault),
+        Attended::WriteFault => Ok(ClientRan::WriteFault),
     }
 }
 
-// The same where the talk ended well.
+// The same where the talk ended well, or was stuck.
 fn end<R: Wait, K: Sink>(
     rt: &R,
     gate: &Gate<ClientObject>,
     pass: &mut Pass<ClientObject>,
     sink: &mut K,
     gathered: Gathered,
+    stuck: bool,
 ) -> Result<ClientRan, AllocError>
     requires { IsPassOf gate.now pass.old }
     ensures pass { IsPassOf gate.now pass.new }
-    ensures finishes { FinishesBy (Ok Talked.Done) gathered (known pass.old) (known pass.new) (K.faults sink.old) (K.faults sink.new) result }
+    ensures finishes { FinishesBy (Ok (well stuck)) gathered (known pass.old) (known pass.new) (K.faults sink.old) (K.faults sink.new) result }
     ensures written { (start : Out) (faults : ℕ) → faults ≤ K.faults sink.old
         → Handed true start (out_of (known pass.old) (K.given sink.old)) faults (K.faults sink.old)
         → Handed (is_whole result) start (out_of (known pass.new) (K.given sink.new)) faults (K.faults sink.new) }
@@ -300,26 +329,42 @@ fn end<R: Wait, K: Sink>(
     };
     match gathered {
         Gathered::NetFault => return Ok(ClientRan::NetFault),
+        Gathered::Refused { status } => return Ok(ClientRan::Refused { status }),
         Gathered::NoMemory => return Err(AllocError),
         Gathered::Over => {}
     }
     match written {
         Written::WriteFault => Ok(ClientRan::WriteFault),
-        Written::Done => Ok(conclude(rt, gate, pass)),
+        Written::Done => Ok(conclude(rt, gate, pass, stuck)),
     }
 }
 
 // How the client ended.
-fn conclude<R: Wait>(rt: &R, gate: &Gate<ClientObject>, pass: &mut Pass<ClientObject>) -> ClientRan
+fn conclude<R: Wait>(
+    rt: &R,
+    gate: &Gate<ClientObject>,
+    pass: &mut Pass<ClientObject>,
+    stuck: bool,
+) -> ClientRan
     requires { IsPassOf gate.now pass.old }
     ensures pass { IsPassOf gate.now pass.new }
     ensures mine { (known pass.new).mine ≡ (known pass.old).mine }
     ensures goes_on { GoesOn (known pass.old) (known pass.new) }
-    ensures concludes { Concludes (known pass.old) (known pass.new) result }
+    ensures concludes { Concludes stuck (known pass.old) (known pass.new) result }
 {
     match look(rt, gate, pass) {
         Some(end) => ran_by(end.condition),
-        None => ClientRan::Done,
+        None => spent(stuck),
+    }
+}
+
+// How a client ran that has no request id left.
+fn spent(stuck: bool) -> ClientRan
+    ensures { result ≡ ran_spent stuck }
+{
+    match stuck {
+        true => ClientRan::Stuck,
+        false => ClientRan::Done,
     }
 }
 

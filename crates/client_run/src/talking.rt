@@ -233,8 +233,9 @@ pub(crate) enum Input {
     End,
 }
 
+/// Takes the next line. An error is a fault of the source, or want of memory.
 #[tactic(auto, unfolding(crate::specs::Talking::Takes))]
-fn next_input<S: Source>(
+pub(crate) fn next_input<S: Source>(
     alloc: Global,
     reader: &mut LineReader,
     source: &mut S,

@@ -13,6 +13,8 @@ pub enum Worked {
     ReadFault,
     /// The same while it was written.
     WriteFault,
+    /// The third response in a row to one request had this status, as the two before it had others than 200.
+    Refused { status: u16 },
     /// The bell was silent, and nothing was due.
     Silent,
 }

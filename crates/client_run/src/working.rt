@@ -1,16 +1,16 @@
 // A worker of a client, from its first dial to its end.
-ghost use Rattle.std.specs.Prelude.{◌≡◌, ◌≤◌, ℕ, List, true, None, Option, Some, IfOk, IfSome, Ok};
+ghost use Rattle.std.specs.Prelude.{◌≡◌, ◌≢◌, ◌≤◌, ℕ, List, true, None, Option, Some, IfOk, IfSome, Ok};
 ghost use Rattle.std.specs.Option.{option_map};
 ghost use Rattle.bosh_ports.specs.Faults.{HasRisen};
 ghost use Rattle.parked_gate.specs.Passes.{IsPassOf, Known, known};
 ghost use Rattle.client_run.specs.declared.entry.Entry.{Entry};
 ghost use Rattle.client_run.specs.Adding.{AddsOnly, is_of_worker};
 ghost use Rattle.client_run.specs.Carried.{CarriesTold};
-ghost use Rattle.client_run.specs.Worked.{FirstBy, Works, ended_by, failed_by, is_end, is_fault};
-ghost use Rattle.client_run.specs.Working.{Moves, Side, side_of, wire_of};
+ghost use Rattle.client_run.specs.Worked.{FirstBy, Works, ended_by, failed_by, halted_by, has_read, is_fault};
+ghost use Rattle.client_run.specs.Working.{Moves, Row, Side, no_row, side_of, wire_of};
 
 use crate::asking::{ask, look};
-use crate::carrying::{TRIES, carry, dial};
+use crate::carrying::{Halt, TRIES, carry, dial};
 use crate::fault::Fault;
 use crate::line::Line;
 use crate::object::ClientObject;
@@ -25,8 +25,9 @@ use std::sync::Wait;
 
 /// Sends what the client has to send, and gives it the answers, until it ended. It dials until it has a link, at most three
 /// times, and a new one for the next body after a link ended or failed; each of its links is retired. A link that failed or
-/// gave no answer is followed by a copy of the same bytes on a new one, and a fault is answered once three came in a row for one
-/// request. Where nothing is due it waits at the bell. The only error is want of memory.
+/// gave no answer is followed by a copy of the same bytes on a new one. A fault is answered once three came in a row for one
+/// request, and `Refused` once three responses to one had another status than 200. Where nothing is due it waits at the bell. The only
+/// error is want of memory.
 pub fn work<R: Wait, N: Network, C: Clock, B: Bell>(
     rt: &R,
     site: &Site<'_, C>,
@@ -40,10 +41,11 @@ where
     ensures pass { IsPassOf site.now.gate.now pass.new }
 
     // It made moves one after the other, with no link out in the end, and ended so.
-    ensures works { Works (C.moment site.now.clock.now) (side_of (known pass.old) (N.events network.old) (N.counts network.old) None None 0)
+    ensures works { Works (C.moment site.now.clock.now) (side_of (known pass.old) (N.events network.old) (N.counts network.old) None None no_row)
         (known pass.new) (N.events network.new) (N.counts network.new) None result }
     ensures fault { IfOk result (λ worked. is_fault worked ≡ true → HasRisen (N.counts network.old).faults (N.counts network.new).faults) }
-    ensures dialled { IfOk result (λ worked. is_end worked ≡ true → HasRisen (N.counts network.old).dialled (N.counts network.new).dialled) }
+    ensures dialled { IfOk result (λ worked. has_read worked ≡ true → HasRisen (N.counts network.old).dialled (N.counts network.new).dialled) }
+    ensures refused { (status : ℕ) → result ≡ Ok (Worked.Refused status) → status ≢ 200 }
     ensures silent { IfOk result (λ worked. worked ≡ Worked.Silent → HasRisen (B.silences bell.old) (B.silences bell.new)) }
     ensures silences { B.silences bell.old ≤ B.silences bell.new }
 
@@ -69,9 +71,9 @@ fn first_line<N: Network>(alloc: Global, network: &mut N, port: u16) -> Option<L
 where
     N::Link: Drop,
     ensures dials { (moment : Option ℕ) (start : Side) (known : Known Entry) (hand : Option (ℕ × List ℕ))
-        → Moves moment start (side_of known (N.events network.old) (N.counts network.old) None hand 0)
+        → Moves moment start (side_of known (N.events network.old) (N.counts network.old) None hand no_row)
         → FirstBy (λ line. wire_of (N.Link.left line.link) (N.Link.given line.link) line.reader) moment start
-        (side_of known (N.events network.new) (N.counts network.new) None hand 0) result }
+        (side_of known (N.events network.new) (N.counts network.new) None hand no_row) result }
     ensures faultless { IfSome result (λ line. N.Link.faults line.link ≡ 0) }
 {
     let mut row: u32 = 0;
@@ -89,7 +91,7 @@ fn close<N: Network>(network: &mut N, line: Option<Line<N::Link>>)
 where
     N::Link: Drop,
     requires { IfSome line (λ line. N.Link.faults line.link ≡ 0) }
-    ensures closes { (moment : Option ℕ) (start : Side) (known : Known Entry) (hand : Option (ℕ × List ℕ)) (row : ℕ)
+    ensures closes { (moment : Option ℕ) (start : Side) (known : Known Entry) (hand : Option (ℕ × List ℕ)) (row : Row)
         → Moves moment start (side_of known (N.events network.old) (N.counts network.old) (option_map (λ line. wire_of (N.Link.left line.link) (N.Link.given line.link) line.reader) line) hand row)
         → Moves moment start (side_of known (N.events network.new) (N.counts network.new) None hand row) }
 {
@@ -113,7 +115,7 @@ where
     requires pass { IsPassOf site.now.gate.now pass.old }
     requires faultless { IfSome line.old (λ line. N.Link.faults line.link ≡ 0) }
     ensures pass { IsPassOf site.now.gate.now pass.new }
-    ensures works { (start : Side) (row : ℕ)
+    ensures works { (start : Side) (row : Row)
         → Moves (C.moment site.now.clock.now) start (side_of (known pass.old) (N.events network.old) (N.counts network.old) (option_map (λ line. wire_of (N.Link.left line.link) (N.Link.given line.link) line.reader) line.old) None row)
         → Works (C.moment site.now.clock.now) start (known pass.new) (N.events network.new) (N.counts network.new) (option_map (λ line. wire_of (N.Link.left line.link) (N.Link.given line.link) line.reader) line.new) result }
     ensures faultless { IfSome line.new (λ line. N.Link.faults line.link ≡ 0) }
@@ -130,7 +132,7 @@ where
             Next::Request { rid, body } => {
                 match carry(rt, site, pass, network, bell, line, rid, &body) {
                     Ok(None) => bell.ring(BellKey::PUMP),
-                    Ok(Some(fault)) => return Ok(failed_by(fault)),
+                    Ok(Some(halt)) => return Ok(halted_by(halt)),
                     Err(AllocError) => return Err(AllocError),
                 }
             }
@@ -146,6 +148,15 @@ where
         }
     }
     unreachable!()
+}
+
+fn halted_by(halt: Halt) -> Worked
+    ensures { result ≡ halted_by halt }
+{
+    match halt {
+        Halt::Fault(fault) => failed_by(fault),
+        Halt::Refused(status) => Worked::Refused { status },
+    }
 }
 
 fn failed_by(fault: Fault) -> Worked

@@ -21,7 +21,14 @@ mod talks;
 fn object(alloc: Global, wait: u32) -> Result<ClientObject, &'static str>
     ensures { IfOk result (λ object. (setup : ClientSetup) × (object ≡ first_entry setup ∷ [])) }
 {
-    let Some(first) = Rid::new(1000) else {
+    object_from(alloc, 1000, wait)
+}
+
+/// A client that begins with this id.
+fn object_from(alloc: Global, first: u64, wait: u32) -> Result<ClientObject, &'static str>
+    ensures { IfOk result (λ object. (setup : ClientSetup) × (object ≡ first_entry setup ∷ [])) }
+{
+    let Some(first) = Rid::new(first) else {
         return Err("no id");
     };
     let Ok(to) = Vec::from_slice(alloc, b"h") else {
@@ -55,6 +62,11 @@ const GONE: &[u8] =
     b"HTTP/1.1 200 OK\r\nContent-Length: 95\r\n\r\n<body xmlns='http://jabber.org/protocol/httpbind' type='terminate' condition='item-not-found'/>";
 
 const MISSING: &[u8] = b"HTTP/1.1 404 Not Found\r\nContent-Length: 0\r\n\r\n";
+
+const BUSY: &[u8] = b"HTTP/1.1 503 Service Unavailable\r\nContent-Length: 0\r\n\r\n";
+
+/// A response with status 200 whose content is no answer.
+const NO_BODY: &[u8] = b"HTTP/1.1 200 OK\r\nContent-Length: 0\r\n\r\n";
 
 /// A link that gives these responses and fails at these takes and gives.
 fn plan(
@@ -179,6 +191,29 @@ fn what_failed_is_sent_again(rt: HostRuntime) -> Result<(), Fail> {
     let lengths = given(alloc, &network)?;
     assert_eq!(rt; lengths.len(), 3);
     assert!(rt; lengths.as_slice().first() == lengths.as_slice().get(1));
+    Ok(())
+}
+
+#[test]
+fn the_third_refusal_in_a_row_is_one_too_many(rt: HostRuntime) -> Result<(), Fail> {
+    let alloc = rt.alloc();
+    // What the links give, and how the worker ends.
+    let rows: [(&[&[u8]], Worked); 3] = [
+        (&[MISSING, BUSY, MISSING], Worked::Refused { status: 404 }),
+        (&[MISSING, MISSING, BUSY], Worked::Refused { status: 503 }),
+        (
+            &[MISSING, MISSING, NO_BODY, MISSING, BUSY, CREATED],
+            Worked::Done,
+        ),
+    ];
+    for (responses, worked) in rows {
+        let mut plans = Vec::new(alloc);
+        for response in responses {
+            plans.push(plan(alloc, &[*response, ENDED], &[], &[])?)?;
+        }
+        let mut network = MemoryNetwork::new(alloc, plans, Vec::new(alloc));
+        assert_eq!(rt; ends(&rt, alloc, &mut network, true)?, worked);
+    }
     Ok(())
 }
 

@@ -1,10 +1,12 @@
 // A whole client over a network in memory, whose workers run one after the other before it talks.
-use crate::workers::{CREATED, ENDED, GONE, object, plan};
+ghost use Rattle.parked_gate.specs.Passes.{IsPassOf};
+
+use crate::workers::{CREATED, ENDED, GONE, MISSING, object, object_from, plan};
 use bosh_client::Queued;
 use bosh_ports::{MemorySink, MemorySource, SteadyBell};
 use bosh_types::{Condition, Moment};
-use client_run::{Call, ClientRan, Outside, Place, Reply, run_client};
-use parked_gate::Gate;
+use client_run::{Call, ClientObject, ClientRan, Outside, Place, Reply, run_client};
+use parked_gate::{Gate, Pass};
 use server_ports::{
     Accepted, Dialled, LinkPlan, ListedSpawner, MemoryNetwork, Network, Opened, PlannedLink,
     Shared, SteadySpawner, StillClock,
@@ -72,13 +74,14 @@ impl Network for Shares {
     }
 }
 
-/// How a client runs that has a terminate queued, over this input and the links of the two workers. The listed questions to the
-/// spawner are refused.
+/// How a client runs that has a terminate queued, over this input. Its first worker's link gives `CREATED` and the last response, and
+/// `missing` more links say that there is no such page. The listed questions to the spawner are refused.
 fn runs<R: Wait + Threads + Copy + Send + Drop + 'static>(
     rt: &R,
     alloc: Global,
     input: &[u8],
     last: &[u8],
+    missing: usize,
     refused: &[u64],
 ) -> Result<ClientRan, Fail> {
     let Ok((gate, pass)) = Gate::new(alloc, object(alloc, 60)?) else {
@@ -89,10 +92,29 @@ fn runs<R: Wait + Threads + Copy + Send + Drop + 'static>(
     if !matches!(&queued, Ok(Reply::Queued(Queued::Done))) {
         return Err("not queued".into());
     }
+    let mut first = vec![in alloc; plan(alloc, &[CREATED, last], &[], &[])?]?;
+    for _ in 0..missing {
+        first.push(plan(alloc, &[MISSING], &[], &[])?)?;
+    }
+    runs_at(rt, alloc, gate, pass, first, input, refused)
+}
+
+// The same of this client, whose first worker has these links.
+fn runs_at<R: Wait + Threads + Copy + Send + Drop + 'static>(
+    rt: &R,
+    alloc: Global,
+    gate: Gate<ClientObject>,
+    pass: Pass<ClientObject>,
+    first: Vec<LinkPlan>,
+    input: &[u8],
+    refused: &[u64],
+) -> Result<ClientRan, Fail>
+    requires { IsPassOf gate pass }
+{
+    let mut pass = pass;
     let Ok(gate) = Arc::new(alloc, gate) else {
         return Err("no memory".into());
     };
-    let first = vec![in alloc; plan(alloc, &[CREATED, last], &[], &[])?]?;
     let second = vec![in alloc; plan(alloc, &[], &[], &[])?]?;
     let net = Shares {
         alloc,
@@ -128,21 +150,45 @@ fn runs<R: Wait + Threads + Copy + Send + Drop + 'static>(
 
 #[test]
 fn the_first_cause_is_answered(rt: HostRuntime) -> Result<(), Fail> {
-    // The input, the last answer, the refused questions, and how the client ran.
-    let rows: [(&[u8], &[u8], &[u64], ClientRan); 7] = [
-        (b"", ENDED, &[], ClientRan::Done),
-        (b"<m/>\n", ENDED, &[], ClientRan::Done),
-        (b"", GONE, &[], ClientRan::Ended(Condition::ItemNotFound)),
-        (b"<m>\n", GONE, &[], ClientRan::Bad { line: 1 }),
-        (b"", b"HTTP/1.1", &[], ClientRan::NetFault),
-        (b"", ENDED, &[1], ClientRan::SpawnFault),
-        (b"<m>\n", ENDED, &[2], ClientRan::SpawnFault),
+    // The input, the last answer, how many further links say that there is no such page, the refused questions, and how the client ran.
+    let rows: [(&[u8], &[u8], usize, &[u64], ClientRan); 8] = [
+        (b"", ENDED, 0, &[], ClientRan::Done),
+        (b"<m/>\n", ENDED, 0, &[], ClientRan::Done),
+        (b"", GONE, 0, &[], ClientRan::Ended(Condition::ItemNotFound)),
+        (b"<m>\n", GONE, 0, &[], ClientRan::Bad { line: 1 }),
+        (b"", b"HTTP/1.1", 0, &[], ClientRan::NetFault),
+        (b"", ENDED, 0, &[1], ClientRan::SpawnFault),
+        (b"<m>\n", ENDED, 0, &[2], ClientRan::SpawnFault),
+        (b"", MISSING, 2, &[], ClientRan::Refused { status: 404 }),
     ];
-    for (input, last, refused, ran) in rows {
+    for (input, last, missing, refused, ran) in rows {
         assert_eq!(rt;
-            runs(&rt, rt.alloc(), input, last, refused)?,
+            runs(&rt, rt.alloc(), input, last, missing, refused)?,
             ran,
             "of {input:?}"
+        );
+    }
+    Ok(())
+}
+
+// With the last id used, lines are put while there is room for them, and one more is stuck.
+#[test]
+fn a_full_queue_that_nobody_empties_ends_it(rt: HostRuntime) -> Result<(), Fail> {
+    let rows: [(usize, ClientRan); 2] = [(1024, ClientRan::Done), (1025, ClientRan::Stuck)];
+    for (lines, ran) in rows {
+        let alloc = rt.alloc();
+        let mut input = Vec::new(alloc);
+        for _ in 0..lines {
+            input.extend_from_slice(b"<m/>\n")?;
+        }
+        let Ok((gate, pass)) = Gate::new(alloc, object_from(alloc, 9007199254740991, 60)?) else {
+            return Err("no memory".into());
+        };
+        let first = vec![in alloc; plan(alloc, &[CREATED], &[], &[])?]?;
+        assert_eq!(rt;
+            runs_at(&rt, alloc, gate, pass, first, &input, &[])?,
+            ran,
+            "of {lines}"
         );
     }
     Ok(())

@@ -2,7 +2,7 @@ use Rattle.std.proofs.Common.{◌≡◌, ◌≤◌, ◌<◌, Some}
 use Rattle.std.specs.Prelude.{IfSome}
 use Rattle.std.specs.Option.{option_map}
 use Rattle.parked_gate.specs.Passes.{IsPassOf, known}
-use Rattle.client_run.specs.Working.{Moves, Side, side_of, wire_of}
+use Rattle.client_run.specs.Working.{Moves, Side, no_row, row_of, side_of, wire_of}
 use Rattle.client_run.proofs.carrying.carry.Given as goal
 
 abbrev pub invariant-loop : goal.invariant-loop
@@ -12,10 +12,11 @@ invariant-loop g l = record {
   pass : IsPassOf l.site.gate.now l.pass;
   faultless : IfSome l.line (λ line. g.N.Link.Link.faults line.link ≡ 0);
   few : l.row < 3;
+  refused : l.refusals < 3;
   silences : g.B.Bell.silences l.fn.bell ≤ g.B.Bell.silences l.bell;
   moves : (start : Side)
       → Moves (g.C.Clock.moment l.site.clock.now) start (side_of (known l.fn.pass) (g.N.Network.events l.fn.network) (g.N.Network.counts l.fn.network)
-      (option_map (λ line. wire_of (g.N.Link.Link.left line.link) (g.N.Link.Link.given line.link) line.reader) l.fn.line) (Some (l.rid, l.body)) 0)
+      (option_map (λ line. wire_of (g.N.Link.Link.left line.link) (g.N.Link.Link.given line.link) line.reader) l.fn.line) (Some (l.rid, l.body)) no_row)
       → Moves (g.C.Clock.moment l.site.clock.now) start (side_of (known l.pass) (g.N.Network.events l.network) (g.N.Network.counts l.network)
-      (option_map (λ line. wire_of (g.N.Link.Link.left line.link) (g.N.Link.Link.given line.link) line.reader) l.line) (Some (l.rid, l.body)) l.row);
+      (option_map (λ line. wire_of (g.N.Link.Link.left line.link) (g.N.Link.Link.given line.link) line.reader) l.line) (Some (l.rid, l.body)) (row_of l.row l.refusals l.last));
 }

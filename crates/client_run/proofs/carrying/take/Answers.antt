@@ -1,7 +1,7 @@
 use Rattle.std.proofs.Common.{subst, sym, ◌∙◌, ap}
 use Rattle.server_ports.specs.Events.{Retires}
 use Rattle.parked_gate.specs.Passes.{known}
-use Rattle.client_run.specs.Working.{wire_of}
+use Rattle.client_run.specs.Working.{row_passed, wire_of}
 use Rattle.client_run.proofs.MoveLemmas.{broken, counted_none, settled, wanted}
 use Rattle.client_run.proofs.carrying.take.Goals as goal
 
@@ -21,7 +21,7 @@ returns-else-is_broken-clause-tries g c = λ start old body row exchanges moves.
 
 pub returns-in-Err-clause-tries : goal.returns-in-Err-clause-tries
 returns-in-Err-clause-tries g c = λ start old body row exchanges moves. (
-  0,
+  row_passed row,
   wanted (g.C.Clock.moment c.args.site.now.clock.now) start (known c.args.pass.now) (known c.give.new.pass) (g.N.Network.events c.args.network.now) (g.N.Network.counts c.args.network.now) old
       (wire_of (g.N.Link.Link.left c.args.line.link) (g.N.Link.Link.given c.args.line.link) c.args.line.reader) c.args.rid body c.args.answer row exchanges moves
       (g.N.Network.events c.retire-in-Err.new.self) (g.N.Network.counts c.retire-in-Err.new.self) c.in-Err.field-0 c.in-Err.ensures.answers

@@ -7,7 +7,8 @@ use Rattle.client_run.specs.Ran.{ConversesBy, scene_of}
 use Rattle.client_run.specs.declared.call.Call.TheVariants as calls
 use Rattle.client_run.specs.Running.{Gathers, TakesBoth}
 use Rattle.client_run.proofs.RanLemmas.{ran_finished, ran_net, ran_spawn, ran_wanting}
-use Rattle.client_run.specs.Handed.{Handed, is_talk_whole}
+use Rattle.client_run.specs.Attending.{is_attend_whole}
+use Rattle.client_run.specs.Handed.{Handed}
 use Rattle.client_run.specs.Handing.{out_of}
 use Rattle.client_run.proofs.HandedLemmas.{falls_same, goes_both, goes_gathered, goes_queued, goes_same, handed_none, handed_then, still}
 use Rattle.client_run.proofs.OrderLemmas.{asks_since, further_handed, further_is, ordered_finished, ordered_spawn, ordered_unhired, ordered_wanting}
@@ -61,8 +62,8 @@ returns-clause-written g c =
     let start = out_of (known c.args.pass.now) (g.K.Sink.given c.args.sink.now) in
     let said = out_of (known c.converse-talked.new.pass) (g.K.Sink.given c.converse-talked.new.sink) in
     c.finish.ensures.written start (g.K.Sink.faults c.args.sink.now) c.converse-talked.ensures.sink_faults
-    (handed_then (is_talk_whole c.converse-talked.result) start said (known c.gather_two-gathered.new.pass) (g.K.Sink.faults c.args.sink.now) (g.K.Sink.faults c.converse-talked.new.sink) (g.K.Sink.faults c.converse-talked.new.sink) (falls_same _)
-    (subst (λ k. Handed (is_talk_whole c.converse-talked.result) (out_of k (g.K.Sink.given c.args.sink.now)) said (g.K.Sink.faults c.args.sink.now) (g.K.Sink.faults c.converse-talked.new.sink)) c.hire_both.ensures.known c.converse-talked.ensures.written)
+    (handed_then (is_attend_whole c.converse-talked.result) start said (known c.gather_two-gathered.new.pass) (g.K.Sink.faults c.args.sink.now) (g.K.Sink.faults c.converse-talked.new.sink) (g.K.Sink.faults c.converse-talked.new.sink) (falls_same _)
+    (subst (λ k. Handed (is_attend_whole c.converse-talked.result) (out_of k (g.K.Sink.given c.args.sink.now)) said (g.K.Sink.faults c.args.sink.now) (g.K.Sink.faults c.converse-talked.new.sink)) c.hire_both.ensures.known c.converse-talked.ensures.written)
     (goes_gathered (known c.converse-talked.new.pass) (known c.gather_two-gathered.new.pass) c.gather_two-gathered.ensures.gathers.begins c.gather_two-gathered.ensures.gathers.mine))
 
 pub returns-in-Err-clause-ordered : goal.returns-in-Err-clause-ordered
@@ -94,6 +95,6 @@ returns-clause-ordered g c =
     (subst (λ n. TakesBoth (known c.gather_two-gathered.new.pass).seen n (g.N.Network.counts c.gather_two-gathered.new.net) c.gather_two-gathered.result) hired c.gather_two-gathered.ensures.takes)
     (further_handed _ (out_of (known c.gather_two-gathered.new.pass) (g.K.Sink.given c.converse-talked.new.sink)) (out_of (known c.finish.new.pass) (g.K.Sink.given c.finish.new.sink)) _ _
     (c.finish.ensures.written (out_of (known c.gather_two-gathered.new.pass) (g.K.Sink.given c.converse-talked.new.sink)) (g.K.Sink.faults c.converse-talked.new.sink) (falls_same _)
-    (handed_none (is_talk_whole c.converse-talked.result) _ _ _ _ (still (known c.gather_two-gathered.new.pass)) refl)))
+    (handed_none (is_attend_whole c.converse-talked.result) _ _ _ _ (still (known c.gather_two-gathered.new.pass)) refl)))
     (c.start_both-started.ensures.all c.if-started-ne2.false)
     c.finish.result c.finish.ensures.finishes

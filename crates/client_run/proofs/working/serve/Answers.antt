@@ -5,8 +5,8 @@ use Rattle.bosh_client.specs.declared.replies.Next.TheVariants as nexts
 use Rattle.parked_gate.specs.Passes.{known}
 use Rattle.client_run.specs.Asking.{AsksBy}
 use Rattle.client_run.specs.Worked.{CarriesBy, EndsBy}
-use Rattle.client_run.specs.Working.{side_of, wire_of}
-use Rattle.client_run.proofs.EndLemmas.{ends_ended, ends_failed, ends_spent, was_idle}
+use Rattle.client_run.specs.Working.{no_row, side_of, wire_of}
+use Rattle.client_run.proofs.EndLemmas.{ends_ended, ends_halted, ends_spent, was_idle}
 use Rattle.client_run.proofs.MoveLemmas.{asked_for, asked_none, looked}
 use Rattle.client_run.proofs.RiseLemmas.{moves_begin}
 use Rattle.client_run.proofs.working.serve.Goals as goal
@@ -19,11 +19,13 @@ returns-in-Err-clause-works g c = λ start row moves.
 pub returns-in-Ok-Some-clause-works : goal.returns-in-Ok-Some-clause-works
 returns-in-Ok-Some-clause-works g c = λ start row moves.
     let so = c.loop.invariant.moves start row moves in
+    let carried = subst (λ fault. CarriesBy (g.C.Clock.moment c.args.site.now.clock.now) start (side_of (known c.carry.new.pass) (g.N.Network.events c.carry.new.network) (g.N.Network.counts c.carry.new.network) (option_map (λ line. wire_of (g.N.Link.Link.left line.link) (g.N.Link.Link.given line.link) line.reader) c.carry.new.line) (Some (c.in-Request.rid, c.in-Request.body)) no_row) (Ok fault)) c.in-Ok-Some.field-0-is (c.in-Ok-Some.ensures.carries start (asked_for (g.C.Clock.moment c.args.site.now.clock.now) start (known c.loop.pass) (known c.ask.new.pass) (g.N.Network.events c.loop.network) (g.N.Network.counts c.loop.network) (option_map (λ line. wire_of (g.N.Link.Link.left line.link) (g.N.Link.Link.given line.link) line.reader) c.loop.line) so.0 (nexts.Request c.in-Request.rid c.in-Request.body) (subst (λ next. AsksBy (g.C.Clock.moment c.args.site.now.clock.now) (known c.loop.pass) (known c.ask.new.pass) (Ok next)) c.in-Request.is c.in-Ok.ensures.asks) so.1)) in
     record {
       hand = Some (c.in-Request.rid, c.in-Request.body);
-      row = 3;
-      moves = subst (λ fault. CarriesBy (g.C.Clock.moment c.args.site.now.clock.now) start (side_of (known c.carry.new.pass) (g.N.Network.events c.carry.new.network) (g.N.Network.counts c.carry.new.network) (option_map (λ line. wire_of (g.N.Link.Link.left line.link) (g.N.Link.Link.given line.link) line.reader) c.carry.new.line) (Some (c.in-Request.rid, c.in-Request.body)) 0) (Ok fault)) c.in-Ok-Some.field-0-is (c.in-Ok-Some.ensures.carries start (asked_for (g.C.Clock.moment c.args.site.now.clock.now) start (known c.loop.pass) (known c.ask.new.pass) (g.N.Network.events c.loop.network) (g.N.Network.counts c.loop.network) (option_map (λ line. wire_of (g.N.Link.Link.left line.link) (g.N.Link.Link.given line.link) line.reader) c.loop.line) so.0 (nexts.Request c.in-Request.rid c.in-Request.body) (subst (λ next. AsksBy (g.C.Clock.moment c.args.site.now.clock.now) (known c.loop.pass) (known c.ask.new.pass) (Ok next)) c.in-Request.is c.in-Ok.ensures.asks) so.1));
-      ends = subst (EndsBy (g.C.Clock.moment c.args.site.now.clock.now) start.known.seen (known c.carry.new.pass).seen 3) (sym c.failed_by.ensures) (ends_failed (g.C.Clock.moment c.args.site.now.clock.now) start.known.seen (known c.carry.new.pass).seen c.in-Ok-Some.fault);
+      row = carried.0;
+      moves = carried.2;
+      ends = subst (EndsBy (g.C.Clock.moment c.args.site.now.clock.now) start.known.seen (known c.carry.new.pass).seen carried.0) (sym c.halted_by.ensures)
+          (ends_halted (g.C.Clock.moment c.args.site.now.clock.now) start.known.seen (known c.carry.new.pass).seen carried.0 c.in-Ok-Some.halt carried.1);
     }
 
 pub returns-in-Err-carry-clause-works : goal.returns-in-Err-carry-clause-works
@@ -41,22 +43,22 @@ loop-preserved-in-Request g c = record {
   silences = search rules;
   moves = λ start row moves.
       let so = c.loop.invariant.moves start row moves in
-      (0, subst (λ fault. CarriesBy (g.C.Clock.moment c.args.site.now.clock.now) start (side_of (known c.carry.new.pass) (g.N.Network.events c.carry.new.network) (g.N.Network.counts c.carry.new.network) (option_map (λ line. wire_of (g.N.Link.Link.left line.link) (g.N.Link.Link.given line.link) line.reader) c.carry.new.line) (Some (c.in-Request.rid, c.in-Request.body)) 0) (Ok fault)) c.in-Ok-None.field-0-is (c.in-Ok-None.ensures.carries start (asked_for (g.C.Clock.moment c.args.site.now.clock.now) start (known c.loop.pass) (known c.ask.new.pass) (g.N.Network.events c.loop.network) (g.N.Network.counts c.loop.network) (option_map (λ line. wire_of (g.N.Link.Link.left line.link) (g.N.Link.Link.given line.link) line.reader) c.loop.line) so.0 (nexts.Request c.in-Request.rid c.in-Request.body) (subst (λ next. AsksBy (g.C.Clock.moment c.args.site.now.clock.now) (known c.loop.pass) (known c.ask.new.pass) (Ok next)) c.in-Request.is c.in-Ok.ensures.asks) so.1)));
+      (no_row, subst (λ fault. CarriesBy (g.C.Clock.moment c.args.site.now.clock.now) start (side_of (known c.carry.new.pass) (g.N.Network.events c.carry.new.network) (g.N.Network.counts c.carry.new.network) (option_map (λ line. wire_of (g.N.Link.Link.left line.link) (g.N.Link.Link.given line.link) line.reader) c.carry.new.line) (Some (c.in-Request.rid, c.in-Request.body)) no_row) (Ok fault)) c.in-Ok-None.field-0-is (c.in-Ok-None.ensures.carries start (asked_for (g.C.Clock.moment c.args.site.now.clock.now) start (known c.loop.pass) (known c.ask.new.pass) (g.N.Network.events c.loop.network) (g.N.Network.counts c.loop.network) (option_map (λ line. wire_of (g.N.Link.Link.left line.link) (g.N.Link.Link.given line.link) line.reader) c.loop.line) so.0 (nexts.Request c.in-Request.rid c.in-Request.body) (subst (λ next. AsksBy (g.C.Clock.moment c.args.site.now.clock.now) (known c.loop.pass) (known c.ask.new.pass) (Ok next)) c.in-Request.is c.in-Ok.ensures.asks) so.1)));
 }
 
 pub returns-in-RidsSpent-clause-works : goal.returns-in-RidsSpent-clause-works
 returns-in-RidsSpent-clause-works g c = λ start row moves.
     let so = c.loop.invariant.moves start row moves in
-    record { hand = None; row = 0; moves = asked_for (g.C.Clock.moment c.args.site.now.clock.now) start (known c.loop.pass) (known c.ask.new.pass) (g.N.Network.events c.loop.network) (g.N.Network.counts c.loop.network) (option_map (λ line. wire_of (g.N.Link.Link.left line.link) (g.N.Link.Link.given line.link) line.reader) c.loop.line) so.0 nexts.RidsSpent (subst (λ next. AsksBy (g.C.Clock.moment c.args.site.now.clock.now) (known c.loop.pass) (known c.ask.new.pass) (Ok next)) c.in-RidsSpent.is c.in-Ok.ensures.asks) so.1; ends = ends_spent (g.C.Clock.moment c.args.site.now.clock.now) (known c.loop.pass) (known c.ask.new.pass) start.known.seen 0 (subst (λ next. AsksBy (g.C.Clock.moment c.args.site.now.clock.now) (known c.loop.pass) (known c.ask.new.pass) (Ok next)) c.in-RidsSpent.is c.in-Ok.ensures.asks) }
+    record { hand = None; row = no_row; moves = asked_for (g.C.Clock.moment c.args.site.now.clock.now) start (known c.loop.pass) (known c.ask.new.pass) (g.N.Network.events c.loop.network) (g.N.Network.counts c.loop.network) (option_map (λ line. wire_of (g.N.Link.Link.left line.link) (g.N.Link.Link.given line.link) line.reader) c.loop.line) so.0 nexts.RidsSpent (subst (λ next. AsksBy (g.C.Clock.moment c.args.site.now.clock.now) (known c.loop.pass) (known c.ask.new.pass) (Ok next)) c.in-RidsSpent.is c.in-Ok.ensures.asks) so.1; ends = ends_spent (g.C.Clock.moment c.args.site.now.clock.now) (known c.loop.pass) (known c.ask.new.pass) start.known.seen (subst (λ next. AsksBy (g.C.Clock.moment c.args.site.now.clock.now) (known c.loop.pass) (known c.ask.new.pass) (Ok next)) c.in-RidsSpent.is c.in-Ok.ensures.asks) }
 
 pub returns-in-Some-look-clause-works : goal.returns-in-Some-look-clause-works
 returns-in-Some-look-clause-works g c = λ start row moves.
     let so = c.loop.invariant.moves start row moves in
     record {
       hand = None;
-      row = 0;
-      moves = looked (g.C.Clock.moment c.args.site.now.clock.now) start (known c.ask.new.pass) (known c.look.new.pass) (g.N.Network.events c.loop.network) (g.N.Network.counts c.loop.network) (option_map (λ line. wire_of (g.N.Link.Link.left line.link) (g.N.Link.Link.given line.link) line.reader) c.loop.line) None 0 _ c.in-Some-look.ensures.looks (asked_for (g.C.Clock.moment c.args.site.now.clock.now) start (known c.loop.pass) (known c.ask.new.pass) (g.N.Network.events c.loop.network) (g.N.Network.counts c.loop.network) (option_map (λ line. wire_of (g.N.Link.Link.left line.link) (g.N.Link.Link.given line.link) line.reader) c.loop.line) so.0 nexts.Nothing (subst (λ next. AsksBy (g.C.Clock.moment c.args.site.now.clock.now) (known c.loop.pass) (known c.ask.new.pass) (Ok next)) c.in-Nothing.is c.in-Ok.ensures.asks) so.1);
-      ends = subst (EndsBy (g.C.Clock.moment c.args.site.now.clock.now) start.known.seen (known c.look.new.pass).seen 0) (sym c.ended_by.ensures) (ends_ended (g.C.Clock.moment c.args.site.now.clock.now) start.known.seen (known c.ask.new.pass) (known c.look.new.pass) 0 c.in-Some-look.end c.in-Some-look.ensures.looks);
+      row = no_row;
+      moves = looked (g.C.Clock.moment c.args.site.now.clock.now) start (known c.ask.new.pass) (known c.look.new.pass) (g.N.Network.events c.loop.network) (g.N.Network.counts c.loop.network) (option_map (λ line. wire_of (g.N.Link.Link.left line.link) (g.N.Link.Link.given line.link) line.reader) c.loop.line) None no_row _ c.in-Some-look.ensures.looks (asked_for (g.C.Clock.moment c.args.site.now.clock.now) start (known c.loop.pass) (known c.ask.new.pass) (g.N.Network.events c.loop.network) (g.N.Network.counts c.loop.network) (option_map (λ line. wire_of (g.N.Link.Link.left line.link) (g.N.Link.Link.given line.link) line.reader) c.loop.line) so.0 nexts.Nothing (subst (λ next. AsksBy (g.C.Clock.moment c.args.site.now.clock.now) (known c.loop.pass) (known c.ask.new.pass) (Ok next)) c.in-Nothing.is c.in-Ok.ensures.asks) so.1);
+      ends = subst (EndsBy (g.C.Clock.moment c.args.site.now.clock.now) start.known.seen (known c.look.new.pass).seen no_row) (sym c.ended_by.ensures) (ends_ended (g.C.Clock.moment c.args.site.now.clock.now) start.known.seen (known c.ask.new.pass) (known c.look.new.pass) no_row c.in-Some-look.end c.in-Some-look.ensures.looks);
     }
 
 pub returns-then-eq-clause-works : goal.returns-then-eq-clause-works
@@ -64,8 +66,8 @@ returns-then-eq-clause-works g c = λ start row moves.
     let so = c.loop.invariant.moves start row moves in
     record {
       hand = None;
-      row = 0;
-      moves = looked (g.C.Clock.moment c.args.site.now.clock.now) start (known c.ask.new.pass) (known c.look.new.pass) (g.N.Network.events c.loop.network) (g.N.Network.counts c.loop.network) (option_map (λ line. wire_of (g.N.Link.Link.left line.link) (g.N.Link.Link.given line.link) line.reader) c.loop.line) None 0 c.look.result c.look.ensures.looks (asked_for (g.C.Clock.moment c.args.site.now.clock.now) start (known c.loop.pass) (known c.ask.new.pass) (g.N.Network.events c.loop.network) (g.N.Network.counts c.loop.network) (option_map (λ line. wire_of (g.N.Link.Link.left line.link) (g.N.Link.Link.given line.link) line.reader) c.loop.line) so.0 nexts.Nothing (subst (λ next. AsksBy (g.C.Clock.moment c.args.site.now.clock.now) (known c.loop.pass) (known c.ask.new.pass) (Ok next)) c.in-Nothing.is c.in-Ok.ensures.asks) so.1);
+      row = no_row;
+      moves = looked (g.C.Clock.moment c.args.site.now.clock.now) start (known c.ask.new.pass) (known c.look.new.pass) (g.N.Network.events c.loop.network) (g.N.Network.counts c.loop.network) (option_map (λ line. wire_of (g.N.Link.Link.left line.link) (g.N.Link.Link.given line.link) line.reader) c.loop.line) None no_row c.look.result c.look.ensures.looks (asked_for (g.C.Clock.moment c.args.site.now.clock.now) start (known c.loop.pass) (known c.ask.new.pass) (g.N.Network.events c.loop.network) (g.N.Network.counts c.loop.network) (option_map (λ line. wire_of (g.N.Link.Link.left line.link) (g.N.Link.Link.given line.link) line.reader) c.loop.line) so.0 nexts.Nothing (subst (λ next. AsksBy (g.C.Clock.moment c.args.site.now.clock.now) (known c.loop.pass) (known c.ask.new.pass) (Ok next)) c.in-Nothing.is c.in-Ok.ensures.asks) so.1);
       ends = was_idle (g.C.Clock.moment c.args.site.now.clock.now) start.known.seen (known c.loop.pass) (known c.ask.new.pass) (known c.look.new.pass) c.look.result
           (moves_begin (g.C.Clock.moment c.args.site.now.clock.now) start (side_of (known c.loop.pass) (g.N.Network.events c.loop.network) (g.N.Network.counts c.loop.network) (option_map (λ line. wire_of (g.N.Link.Link.left line.link) (g.N.Link.Link.given line.link) line.reader) c.loop.line) None so.0) so.1) (subst (λ next. AsksBy (g.C.Clock.moment c.args.site.now.clock.now) (known c.loop.pass) (known c.ask.new.pass) (Ok next)) c.in-Nothing.is c.in-Ok.ensures.asks) c.look.ensures.looks;
     }
@@ -79,5 +81,5 @@ loop-preserved g c = record {
   silences = search rules;
   moves = λ start row moves.
       let so = c.loop.invariant.moves start row moves in
-      (0, looked (g.C.Clock.moment c.args.site.now.clock.now) start (known c.ask.new.pass) (known c.look.new.pass) (g.N.Network.events c.loop.network) (g.N.Network.counts c.loop.network) (option_map (λ line. wire_of (g.N.Link.Link.left line.link) (g.N.Link.Link.given line.link) line.reader) c.loop.line) None 0 c.look.result c.look.ensures.looks (asked_for (g.C.Clock.moment c.args.site.now.clock.now) start (known c.loop.pass) (known c.ask.new.pass) (g.N.Network.events c.loop.network) (g.N.Network.counts c.loop.network) (option_map (λ line. wire_of (g.N.Link.Link.left line.link) (g.N.Link.Link.given line.link) line.reader) c.loop.line) so.0 nexts.Nothing (subst (λ next. AsksBy (g.C.Clock.moment c.args.site.now.clock.now) (known c.loop.pass) (known c.ask.new.pass) (Ok next)) c.in-Nothing.is c.in-Ok.ensures.asks) so.1));
+      (no_row, looked (g.C.Clock.moment c.args.site.now.clock.now) start (known c.ask.new.pass) (known c.look.new.pass) (g.N.Network.events c.loop.network) (g.N.Network.counts c.loop.network) (option_map (λ line. wire_of (g.N.Link.Link.left line.link) (g.N.Link.Link.given line.link) line.reader) c.loop.line) None no_row c.look.result c.look.ensures.looks (asked_for (g.C.Clock.moment c.args.site.now.clock.now) start (known c.loop.pass) (known c.ask.new.pass) (g.N.Network.events c.loop.network) (g.N.Network.counts c.loop.network) (option_map (λ line. wire_of (g.N.Link.Link.left line.link) (g.N.Link.Link.given line.link) line.reader) c.loop.line) so.0 nexts.Nothing (subst (λ next. AsksBy (g.C.Clock.moment c.args.site.now.clock.now) (known c.loop.pass) (known c.ask.new.pass) (Ok next)) c.in-Nothing.is c.in-Ok.ensures.asks) so.1));
 }

@@ -1,8 +1,8 @@
-use Rattle.std.proofs.Common.{◌≡◌, ◌≤◌, ℕ, None}
+use Rattle.std.proofs.Common.{◌≡◌, ◌≤◌, None}
 use Rattle.std.specs.Prelude.{IfSome}
 use Rattle.std.specs.Option.{option_map}
 use Rattle.parked_gate.specs.Passes.{IsPassOf, known}
-use Rattle.client_run.specs.Working.{Moves, Side, side_of, wire_of}
+use Rattle.client_run.specs.Working.{Moves, Row, Side, side_of, wire_of}
 use Rattle.client_run.proofs.working.serve.Given as goal
 
 abbrev pub invariant-loop : goal.invariant-loop
@@ -12,7 +12,7 @@ invariant-loop g l = record {
   pass : IsPassOf l.site.gate.now l.pass;
   faultless : IfSome l.line (λ line. g.N.Link.Link.faults line.link ≡ 0);
   silences : g.B.Bell.silences l.fn.bell ≤ g.B.Bell.silences l.bell;
-  moves : (start : Side) (row : ℕ)
+  moves : (start : Side) (row : Row)
       → Moves (g.C.Clock.moment l.site.clock.now) start (side_of (known l.fn.pass) (g.N.Network.events l.fn.network) (g.N.Network.counts l.fn.network) (option_map (λ line. wire_of (g.N.Link.Link.left line.link) (g.N.Link.Link.given line.link) line.reader) l.fn.line) None row)
-      → (later : ℕ) × Moves (g.C.Clock.moment l.site.clock.now) start (side_of (known l.pass) (g.N.Network.events l.network) (g.N.Network.counts l.network) (option_map (λ line. wire_of (g.N.Link.Link.left line.link) (g.N.Link.Link.given line.link) line.reader) l.line) None later);
+      → (later : Row) × Moves (g.C.Clock.moment l.site.clock.now) start (side_of (known l.pass) (g.N.Network.events l.network) (g.N.Network.counts l.network) (option_map (λ line. wire_of (g.N.Link.Link.left line.link) (g.N.Link.Link.given line.link) line.reader) l.line) None later);
 }
