@@ -1,0 +1,9 @@
+pub mod PrefixLemmas
+pub mod KeepsLemmas
+pub mod PlaceLemmas
+pub mod IdLemmas
+pub mod OutcomeLemmas
+pub mod HeardLemmas
+pub mod StepLemmas
+pub mod GivenLemmas
+pub mod Rows

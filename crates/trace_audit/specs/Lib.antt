@@ -1,0 +1,11 @@
+pub mod Line
+pub mod Bodies
+pub mod Told
+pub mod Run
+pub mod Rules
+pub mod Prefixes
+pub mod Outcome
+pub mod Report
+pub mod Stands
+pub mod Ids
+pub mod Tally
