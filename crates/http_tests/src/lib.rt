@@ -1,5 +1,5 @@
-// Tests over the public calls of `bosh_http`.
+// Tests over the public calls of `bosh_http`, of what a fault leaves. `http_rows` has the tables of texts.
 #![tactic(auto)]
 
 #[cfg(test)]
-mod messages;
+mod faults;
