@@ -15,14 +15,17 @@ use Rattle.client_run.specs.Handing.{out_of}
 use Rattle.client_run.proofs.HandedLemmas.{handed_less}
 use Rattle.client_run.proofs.HandingLemmas.{appends_both}
 use Rattle.bosh_ports.specs.Faults.{HasRisen}
+use Rattle.bosh_ports.specs.Sink.{AppendsFront}
 use Rattle.bosh_ports.proofs.FaultLemmas.{HasRisen-after, HasRisen-before}
 use Rattle.client_run.specs.declared.running.ClientRan.{ClientRan}
 use Rattle.client_run.specs.declared.running.ClientRan.TheVariants as ran
-use Rattle.client_run.specs.Ran.{EndsWith, Ran, RanBy, Scene}
+use Rattle.client_run.specs.Input.{WasFull}
+use Rattle.client_run.specs.Ran.{EndsWith, IsSpent, Ran, RanBy, Scene}
 use Rattle.client_run.specs.Worked.{IsDone}
 use Rattle.bosh_commands.specs.ClientOptions.{Fits}
+use Rattle.bosh_commands.specs.Why.{why_line}
 use Rattle.bosh_commands.specs.declared.client_options.ClientOptions.{ClientOptions}
-use Rattle.bosh_commands.specs.ClientCommand.{Ended, EndedBadly, HasBad, IsSetupOf, Tells, Writes, bad_line, begun, ended_line, is_told, status_of, sunk_of}
+use Rattle.bosh_commands.specs.ClientCommand.{Ended, EndedBadly, EndedStuck, HasBad, IsRefused, IsSetupOf, Tells, Writes, bad_line, begun, ended_line, is_told, status_of, sunk_of}
 
 -- a status that is neither 5 nor 6 is that of how the client ran
 is_own : (own n r : ℕ) → Contains (own ∷ 5 ∷ 6 ∷ []) r → r ≡ n → (n ≡ 5 → ⊥) → (n ≡ 6 → ⊥) → own ≡ n
@@ -31,16 +34,18 @@ is_own own n r (suc zero, lt, e) is five six = absurd (five (sym is ∙ sym e))
 is_own own n r (suc (suc zero), lt, e) is five six = absurd (six (sym is ∙ sym e))
 is_own own n r (suc (suc (suc k)), lt, e) is five six = absurd (omega (arith, lt))
 
-own_listed : (how : ClientRan) (r : ℕ) → status_of how ≡ r → Contains (0 ∷ 3 ∷ 4 ∷ 5 ∷ 6 ∷ 7 ∷ 8 ∷ 9 ∷ []) r
+own_listed : (how : ClientRan) (r : ℕ) → status_of how ≡ r → Contains (0 ∷ 3 ∷ 4 ∷ 5 ∷ 6 ∷ 7 ∷ 8 ∷ 9 ∷ 13 ∷ 14 ∷ []) r
 own_listed ran.SpawnFault r e = (6, lit< tt, e)
 own_listed ran.NetFault r e = (5, lit< tt, e)
 own_listed (ran.Bad n) r e = (1, lit< tt, e)
 own_listed ran.ReadFault r e = (2, lit< tt, e)
 own_listed ran.WriteFault r e = (3, lit< tt, e)
 own_listed (ran.Ended condition) r e = (7, lit< tt, e)
+own_listed (ran.Refused status) r e = (8, lit< tt, e)
+own_listed ran.Stuck r e = (9, lit< tt, e)
 own_listed ran.Done r e = (0, lit< tt, e)
 
-pub asked_status : (how : ClientRan) (r : ℕ) → Contains (status_of how ∷ 5 ∷ 6 ∷ []) r → Contains (0 ∷ 3 ∷ 4 ∷ 5 ∷ 6 ∷ 7 ∷ 8 ∷ 9 ∷ []) r
+pub asked_status : (how : ClientRan) (r : ℕ) → Contains (status_of how ∷ 5 ∷ 6 ∷ []) r → Contains (0 ∷ 3 ∷ 4 ∷ 5 ∷ 6 ∷ 7 ∷ 8 ∷ 9 ∷ 13 ∷ 14 ∷ []) r
 asked_status how r (zero, lt, e) = own_listed how r e
 asked_status how r (suc zero, lt, e) = (3, lit< tt, e)
 asked_status how r (suc (suc zero), lt, e) = (4, lit< tt, e)
@@ -59,12 +64,12 @@ begins_with options first seed fits =
     both_are _ _ (both_are _ _ (both_are _ _ (both_are _ _ (le-leb options.wait 120 fits.wait) (le-leb options.hold 4 fits.hold)) refl) host.0) host.1
 
 -- the statuses of a text that is shown, and of a client that runs, are among those of the command
-pub of_shown : (r : ℕ) → Contains (0 ∷ 5 ∷ []) r → Contains (0 ∷ 2 ∷ 3 ∷ 4 ∷ 5 ∷ 6 ∷ 7 ∷ 8 ∷ 9 ∷ []) r
+pub of_shown : (r : ℕ) → Contains (0 ∷ 5 ∷ []) r → Contains (0 ∷ 2 ∷ 3 ∷ 4 ∷ 5 ∷ 6 ∷ 7 ∷ 8 ∷ 9 ∷ 13 ∷ 14 ∷ []) r
 of_shown r (zero, lt, e) = (0, lit< tt, e)
 of_shown r (suc zero, lt, e) = (4, lit< tt, e)
 of_shown r (suc (suc k), lt, e) = absurd (omega (arith, lt))
 
-pub of_ask : (r : ℕ) → Contains (0 ∷ 3 ∷ 4 ∷ 5 ∷ 6 ∷ 7 ∷ 8 ∷ 9 ∷ []) r → Contains (0 ∷ 2 ∷ 3 ∷ 4 ∷ 5 ∷ 6 ∷ 7 ∷ 8 ∷ 9 ∷ []) r
+pub of_ask : (r : ℕ) → Contains (0 ∷ 3 ∷ 4 ∷ 5 ∷ 6 ∷ 7 ∷ 8 ∷ 9 ∷ 13 ∷ 14 ∷ []) r → Contains (0 ∷ 2 ∷ 3 ∷ 4 ∷ 5 ∷ 6 ∷ 7 ∷ 8 ∷ 9 ∷ 13 ∷ 14 ∷ []) r
 of_ask r (zero, lt, e) = (0, lit< tt, e)
 of_ask r (suc k, lt, e) = (suc (suc k), omega (arith, lt), e)
 
@@ -77,6 +82,8 @@ module _ (input : Option (List ℕ)) (s t : Scene) where
   own_read ran.ReadFault by is = by
   own_read ran.WriteFault by is = absurd (omega (arith, is))
   own_read (ran.Ended condition) by is = absurd (omega (arith, is))
+  own_read (ran.Refused status) by is = absurd (omega (arith, is))
+  own_read ran.Stuck by is = absurd (omega (arith, is))
   own_read ran.Done by is = absurd (omega (arith, is))
 
   own_net : (how : ClientRan) → RanBy input s t (Ok how) → status_of how ≡ 7 → HasRisen s.counts.faults t.counts.faults
@@ -87,6 +94,8 @@ module _ (input : Option (List ℕ)) (s t : Scene) where
   own_net ran.ReadFault by is = absurd (omega (arith, is))
   own_net ran.WriteFault by is = absurd (omega (arith, is))
   own_net (ran.Ended condition) by is = absurd (omega (arith, is))
+  own_net (ran.Refused status) by is = absurd (omega (arith, is))
+  own_net ran.Stuck by is = absurd (omega (arith, is))
   own_net ran.Done by is = absurd (omega (arith, is))
 
   own_spawn : (how : ClientRan) → RanBy input s t (Ok how) → status_of how ≡ 8 → HasRisen s.refusals t.refusals
@@ -97,6 +106,8 @@ module _ (input : Option (List ℕ)) (s t : Scene) where
   own_spawn ran.ReadFault by is = absurd (omega (arith, is))
   own_spawn ran.WriteFault by is = absurd (omega (arith, is))
   own_spawn (ran.Ended condition) by is = absurd (omega (arith, is))
+  own_spawn (ran.Refused status) by is = absurd (omega (arith, is))
+  own_spawn ran.Stuck by is = absurd (omega (arith, is))
   own_spawn ran.Done by is = absurd (omega (arith, is))
 
   module _ (how : ClientRan) (r : ℕ) (by : RanBy input s t (Ok how)) (listed : Contains (status_of how ∷ 5 ∷ 6 ∷ []) r) where
@@ -119,6 +130,8 @@ module _ (input : Option (List ℕ)) (s t : Scene) where
     asked_write ran.ReadFault by told is = HasRisen-before s.writes t.writes last first_falls then_falls (told is (λ e. omega (arith, e)))
     asked_write ran.WriteFault by told is = HasRisen-after s.writes t.writes last by then_falls
     asked_write (ran.Ended condition) by told is = HasRisen-before s.writes t.writes last first_falls then_falls (told is (λ e. omega (arith, e)))
+    asked_write (ran.Refused status) by told is = HasRisen-before s.writes t.writes last first_falls then_falls (told is (λ e. omega (arith, e)))
+    asked_write ran.Stuck by told is = HasRisen-before s.writes t.writes last first_falls then_falls (told is (λ e. omega (arith, e)))
     asked_write ran.Done by told is = HasRisen-before s.writes t.writes last first_falls then_falls (told is (λ e. omega (arith, e)))
 
 -- What was written.
@@ -177,6 +190,8 @@ module _ (options : ClientOptions) (setup : ClientSetup) (is : IsSetupOf options
   own_bad ran.ReadFault r told is now = absurd (omega (arith, is))
   own_bad ran.WriteFault r told is now = absurd (omega (arith, is))
   own_bad (ran.Ended condition) r told is now = absurd (omega (arith, is))
+  own_bad (ran.Refused status) r told is now = absurd (omega (arith, is))
+  own_bad ran.Stuck r told is now = absurd (omega (arith, is))
   own_bad ran.Done r told is now = absurd (omega (arith, is))
 
   own_done : (how : ClientRan) (r : ℕ) → IsTold how r → status_of how ≡ 0 → Ended options input s.counts t.counts (sunk_of given s.writes) (sunk_of later last) [] IsDone
@@ -187,6 +202,8 @@ module _ (options : ClientOptions) (setup : ClientSetup) (is : IsSetupOf options
   own_done ran.ReadFault r told is = absurd (omega (arith, is))
   own_done ran.WriteFault r told is = absurd (omega (arith, is))
   own_done (ran.Ended condition) r told is = absurd (omega (arith, is))
+  own_done (ran.Refused status) r told is = absurd (omega (arith, is))
+  own_done ran.Stuck r told is = absurd (omega (arith, is))
   own_done ran.Done r told is = ended_by [] IsDone told.by told.handed (nothing_more mid later (told.quiet refl))
 
   own_ended : (how : ClientRan) (r : ℕ) → IsTold how r → status_of how ≡ 9 → r ≡ 9 → EndedBadly options input s.counts t.counts (sunk_of given s.writes) (sunk_of later last)
@@ -197,6 +214,8 @@ module _ (options : ClientOptions) (setup : ClientSetup) (is : IsSetupOf options
   own_ended ran.ReadFault r told is now = absurd (omega (arith, is))
   own_ended ran.WriteFault r told is now = absurd (omega (arith, is))
   own_ended (ran.Ended condition) r told is now = (condition, ended_by (ended_line condition) (EndsWith condition) told.by told.handed (told.ended condition refl now))
+  own_ended (ran.Refused status) r told is now = absurd (omega (arith, is))
+  own_ended ran.Stuck r told is now = absurd (omega (arith, is))
   own_ended ran.Done r told is now = absurd (omega (arith, is))
 
   pub asked_bad : (how : ClientRan) (r : ℕ) → IsTold how r → r ≡ 3 → HasBad options input (sunk_of given s.writes) (sunk_of later last)
@@ -209,35 +228,78 @@ module _ (options : ClientOptions) (setup : ClientSetup) (is : IsSetupOf options
   asked_ended how r told now = own_ended how r told (is_own (status_of how) 9 r told.listed now (λ e. omega (arith, e)) (λ e. omega (arith, e))) now
 
   -- a status that tells a fault
-  told_fault : (how : ClientRan) (n : ℕ) → Contains (4 ∷ 7 ∷ 8 ∷ []) n → status_of how ≡ n → is_told how ≡ false
+  told_fault : (how : ClientRan) (n : ℕ) → Contains (4 ∷ 7 ∷ 8 ∷ 13 ∷ []) n → status_of how ≡ n → is_told how ≡ false
   told_fault ran.SpawnFault n at is = refl
   told_fault ran.NetFault n at is = refl
   told_fault (ran.Bad m) n (zero, lt, e) is = absurd (omega (arith, e, is))
   told_fault (ran.Bad m) n (suc zero, lt, e) is = absurd (omega (arith, e, is))
   told_fault (ran.Bad m) n (suc (suc zero), lt, e) is = absurd (omega (arith, e, is))
-  told_fault (ran.Bad m) n (suc (suc (suc k)), lt, e) is = absurd (omega (arith, lt))
+  told_fault (ran.Bad m) n (suc (suc (suc zero)), lt, e) is = absurd (omega (arith, e, is))
+  told_fault (ran.Bad m) n (suc (suc (suc (suc k))), lt, e) is = absurd (omega (arith, lt))
   told_fault ran.ReadFault n at is = refl
   told_fault ran.WriteFault n at is = refl
   told_fault (ran.Ended condition) n (zero, lt, e) is = absurd (omega (arith, e, is))
   told_fault (ran.Ended condition) n (suc zero, lt, e) is = absurd (omega (arith, e, is))
   told_fault (ran.Ended condition) n (suc (suc zero), lt, e) is = absurd (omega (arith, e, is))
-  told_fault (ran.Ended condition) n (suc (suc (suc k)), lt, e) is = absurd (omega (arith, lt))
+  told_fault (ran.Ended condition) n (suc (suc (suc zero)), lt, e) is = absurd (omega (arith, e, is))
+  told_fault (ran.Ended condition) n (suc (suc (suc (suc k))), lt, e) is = absurd (omega (arith, lt))
+  told_fault (ran.Refused status) n at is = refl
+  told_fault ran.Stuck n at is = refl
   told_fault ran.Done n at is = refl
 
   -- it is neither of the sink nor of memory
-  no_five : (n : ℕ) → Contains (4 ∷ 7 ∷ 8 ∷ []) n → n ≡ 5 → ⊥
+  no_five : (n : ℕ) → Contains (4 ∷ 7 ∷ 8 ∷ 13 ∷ []) n → n ≡ 5 → ⊥
   no_five n (zero, lt, e) is = omega (arith, e, is)
   no_five n (suc zero, lt, e) is = omega (arith, e, is)
   no_five n (suc (suc zero), lt, e) is = omega (arith, e, is)
-  no_five n (suc (suc (suc k)), lt, e) is = omega (arith, lt)
+  no_five n (suc (suc (suc zero)), lt, e) is = omega (arith, e, is)
+  no_five n (suc (suc (suc (suc k))), lt, e) is = omega (arith, lt)
 
-  no_six : (n : ℕ) → Contains (4 ∷ 7 ∷ 8 ∷ []) n → n ≡ 6 → ⊥
+  no_six : (n : ℕ) → Contains (4 ∷ 7 ∷ 8 ∷ 13 ∷ []) n → n ≡ 6 → ⊥
   no_six n (zero, lt, e) is = omega (arith, e, is)
   no_six n (suc zero, lt, e) is = omega (arith, e, is)
   no_six n (suc (suc zero), lt, e) is = omega (arith, e, is)
-  no_six n (suc (suc (suc k)), lt, e) is = omega (arith, lt)
+  no_six n (suc (suc (suc zero)), lt, e) is = omega (arith, e, is)
+  no_six n (suc (suc (suc (suc k))), lt, e) is = omega (arith, lt)
 
-  pub asked_failed : (how : ClientRan) (r : ℕ) → IsTold how r → Contains (4 ∷ 7 ∷ 8 ∷ []) r → Tells options false (sunk_of given s.writes) (sunk_of later last) []
+  pub asked_failed : (how : ClientRan) (r : ℕ) → IsTold how r → Contains (4 ∷ 7 ∷ 8 ∷ 13 ∷ []) r → Tells options false (sunk_of given s.writes) (sunk_of later last) []
   asked_failed how r told at =
       let own = is_own (status_of how) r r told.listed refl (no_five r at) (no_six r at) in
       tells_by false [] (handed_less (is_whole (Ok how)) _ _ _ _ told.handed) (nothing_more mid later (told.quiet (told_fault how r at own)))
+
+-- It was refused, or was stuck, and that was told as an error.
+module _ (input : Option (List ℕ)) (s t : Scene) (given later : Option (List ℕ)) where
+  own_refused : (how : ClientRan) → RanBy input s t (Ok how) → status_of how ≡ 13 → AppendsFront given later (why_line how) → IsRefused s.counts t.counts given later
+  unfolding RanBy
+  own_refused ran.SpawnFault by is told = absurd (omega (arith, is))
+  own_refused ran.NetFault by is told = absurd (omega (arith, is))
+  own_refused (ran.Refused status) by is told = record { status = status; other = by.0; dialled = by.1; told = told }
+  own_refused (ran.Bad n) by is told = absurd (omega (arith, is))
+  own_refused ran.ReadFault by is told = absurd (omega (arith, is))
+  own_refused ran.WriteFault by is told = absurd (omega (arith, is))
+  own_refused ran.Stuck by is told = absurd (omega (arith, is))
+  own_refused (ran.Ended condition) by is told = absurd (omega (arith, is))
+  own_refused ran.Done by is told = absurd (omega (arith, is))
+
+  pub asked_refused : (how : ClientRan) (r : ℕ) → RanBy input s t (Ok how) → Contains (status_of how ∷ 5 ∷ 6 ∷ []) r → AppendsFront given later (why_line how) → r ≡ 13 → IsRefused s.counts t.counts given later
+  asked_refused how r by listed told is = own_refused how by (is_own (status_of how) 13 r listed is (λ e. omega (arith, e)) (λ e. omega (arith, e))) told
+
+module _ (options : ClientOptions) (setup : ClientSetup) (is : IsSetupOf options setup) (input : Option (List ℕ)) (s t : Scene) (s_is : s.known ≡ begun setup) (given mid later : Option (List ℕ)) (last : ℕ) (falls : t.writes ≤ last) (errors after : Option (List ℕ)) where
+  own_stuck : (how : ClientRan) (r : ℕ) → IsTold options setup is input s t s_is given mid later last falls how r → status_of how ≡ 14 → AppendsFront errors after (why_line how) → EndedStuck options input s.counts t.counts (sunk_of given s.writes) (sunk_of later last) errors after
+  unfolding RanBy ended_by
+  own_stuck ran.SpawnFault r told now why = absurd (omega (arith, now))
+  own_stuck ran.NetFault r told now why = absurd (omega (arith, now))
+  own_stuck (ran.Refused status) r told now why = absurd (omega (arith, now))
+  own_stuck (ran.Bad n) r told now why = absurd (omega (arith, now))
+  own_stuck ran.ReadFault r told now why = absurd (omega (arith, now))
+  own_stuck ran.WriteFault r told now why = absurd (omega (arith, now))
+  own_stuck ran.Stuck r told now why = record {
+    ended = ended_by options setup is input s t s_is given mid later last falls [] IsSpent told.by.0 told.handed (nothing_more mid later (told.quiet refl));
+    full = subst (λ known. WasFull known.seen t.known.seen) s_is told.by.1;
+    told = why;
+  }
+  own_stuck (ran.Ended condition) r told now why = absurd (omega (arith, now))
+  own_stuck ran.Done r told now why = absurd (omega (arith, now))
+
+  pub asked_stuck : (how : ClientRan) (r : ℕ) → IsTold options setup is input s t s_is given mid later last falls how r → AppendsFront errors after (why_line how) → r ≡ 14 → EndedStuck options input s.counts t.counts (sunk_of given s.writes) (sunk_of later last) errors after
+  asked_stuck how r told why now = own_stuck how r told (is_own (status_of how) 14 r told.listed now (λ e. omega (arith, e)) (λ e. omega (arith, e))) why

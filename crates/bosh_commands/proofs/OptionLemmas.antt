@@ -26,9 +26,11 @@ by_rows f kinds rows none are =
     let port = codes "port" in
     let workers = codes "workers" in
     let connections = codes "connections" in
-    ap (λ p. options_from (number_in 1 65535 p) (number_in 1 64 (first_value f workers)) (number_in 0 1048576 (first_value f connections))) (reads port)
-    ∙ ap (λ w. options_from (number_in 1 65535 (first_of port rows)) (number_in 1 64 w) (number_in 0 1048576 (first_value f connections))) (reads workers)
-    ∙ ap (λ c. options_from (number_in 1 65535 (first_of port rows)) (number_in 1 64 (first_of workers rows)) (number_in 0 1048576 c)) (reads connections)
+    let limit = codes "journal-limit" in
+    ap (λ p. options_from (number_in 1 65535 p) (number_in 1 64 (first_value f workers)) (number_in 0 1048576 (first_value f connections)) (number_in 65536 1099511627776 (first_value f limit))) (reads port)
+    ∙ ap (λ w. options_from (number_in 1 65535 (first_of port rows)) (number_in 1 64 w) (number_in 0 1048576 (first_value f connections)) (number_in 65536 1099511627776 (first_value f limit))) (reads workers)
+    ∙ ap (λ c. options_from (number_in 1 65535 (first_of port rows)) (number_in 1 64 (first_of workers rows)) (number_in 0 1048576 c) (number_in 65536 1099511627776 (first_value f limit))) (reads connections)
+    ∙ ap (λ l. options_from (number_in 1 65535 (first_of port rows)) (number_in 1 64 (first_of workers rows)) (number_in 0 1048576 (first_of connections rows)) (number_in 65536 1099511627776 l)) (reads limit)
     ∙ sym (ap (λ k. options_by k rows) none)
 
 -- where the parser finds a fault, there are no options

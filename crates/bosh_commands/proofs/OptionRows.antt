@@ -25,13 +25,21 @@ no_option : fault_of serve_app (codes "serve" ∷ codes "--host" ∷ codes "h" �
 unfolding clap_on_literals
 no_option = refl
 
-usual : options_in (codes "serve" ∷ codes "--port" ∷ codes "5280" ∷ []) ≡ Some (record { port = 5280; plan = record { workers = 8; connections = 0 } })
+usual : options_in (codes "serve" ∷ codes "--port" ∷ codes "5280" ∷ []) ≡ Some (record { port = 5280; plan = record { workers = 8; connections = 0; journal_limit = 16777216 } })
 unfolding clap_on_literals
 usual = refl
 
-all_named : options_in (codes "serve" ∷ codes "--connections=2" ∷ codes "--port=1" ∷ codes "--workers" ∷ codes "64" ∷ []) ≡ Some (record { port = 1; plan = record { workers = 64; connections = 2 } })
+all_named : options_in (codes "serve" ∷ codes "--connections=2" ∷ codes "--port=1" ∷ codes "--workers" ∷ codes "64" ∷ []) ≡ Some (record { port = 1; plan = record { workers = 64; connections = 2; journal_limit = 16777216 } })
 unfolding clap_on_literals
 all_named = refl
+
+limit_named : options_in (codes "serve" ∷ codes "--port=1" ∷ codes "--journal-limit" ∷ codes "65536" ∷ []) ≡ Some (record { port = 1; plan = record { workers = 8; connections = 0; journal_limit = 65536 } })
+unfolding clap_on_literals
+limit_named = refl
+
+limit_too_low : options_in (codes "serve" ∷ codes "--port=1" ∷ codes "--journal-limit" ∷ codes "65535" ∷ []) ≡ None
+unfolding clap_on_literals
+limit_too_low = refl
 
 port_0 : options_in (codes "serve" ∷ codes "--port" ∷ codes "0" ∷ []) ≡ None
 unfolding clap_on_literals

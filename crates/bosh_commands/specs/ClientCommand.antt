@@ -1,13 +1,15 @@
 -- What a client tells, and what its status says.
-use Rattle.std.specs.Prelude.{◌≡◌, ◌⊎◌, ℕ, Bool, true, false, List, [], ◌∷◌, ◌++◌, Option, IfSome, codes, nat_lt, if◌then◌else◌}
+use Rattle.std.specs.Prelude.{◌≡◌, ◌≢◌, ◌⊎◌, ℕ, Bool, true, false, List, [], ◌∷◌, ◌++◌, Option, IfSome, codes, nat_lt, if◌then◌else◌}
 use Rattle.std.specs.Fmt.{decimal}
 use Rattle.std.specs.Io.KnownBytes.{Appends}
 use Rattle.bosh_client.specs.declared.setup.ClientSetup.{ClientSetup}
 use Rattle.bosh_client.specs.PlainClient.{PlainClient}
+use Rattle.bosh_commands.specs.Why.{refused_line, why_line}
 use Rattle.bosh_commands.specs.declared.client_options.ClientOptions.{ClientOptions}
 use Rattle.bosh_commands.specs.declared.client_options.First.{First}
 use Rattle.bosh_commands.specs.declared.client_options.First.TheVariants as first
 use Rattle.bosh_ports.specs.Faults.{HasRisen}
+use Rattle.bosh_ports.specs.Sink.{AppendsFront}
 use Rattle.bosh_types.specs.Condition.{name_of}
 use Rattle.bosh_types.specs.Limits.{most_lines}
 use Rattle.bosh_types.specs.declared.condition.Condition.{Condition}
@@ -17,8 +19,8 @@ use Rattle.client_run.specs.declared.running.ClientRan.TheVariants as ran
 use Rattle.client_run.specs.Adding.{Adds, IsTalk}
 use Rattle.client_run.specs.Handed.{Hands, as_lines}
 use Rattle.client_run.specs.History.{After, first_entry}
-use Rattle.client_run.specs.Input.{IsFirstBad}
-use Rattle.client_run.specs.Ran.{EndsWith, WasEmptied}
+use Rattle.client_run.specs.Input.{IsFirstBad, WasFull}
+use Rattle.client_run.specs.Ran.{EndsWith, IsSpent, WasEmptied}
 use Rattle.line_reader.specs.Lines.{lines_of}
 use Rattle.parked_gate.specs.Passes.{Known}
 use Rattle.server_ports.specs.Counts.{Counts}
@@ -38,19 +40,23 @@ ended_line condition = (codes "ended " ++ name_of condition) ++ codes "\n"
 abbrev pub status_of : ClientRan → ℕ
 status_of ran.SpawnFault = 8
 status_of ran.NetFault = 7
+status_of (ran.Refused status) = 13
 status_of (ran.Bad n) = 3
 status_of ran.ReadFault = 4
 status_of ran.WriteFault = 5
+status_of ran.Stuck = 14
 status_of (ran.Ended condition) = 9
 status_of ran.Done = 0
 
--- something is told of how it ran
+-- something is told of how it ran, behind what was handed out
 abbrev pub is_told : ClientRan → Bool
 is_told ran.SpawnFault = false
 is_told ran.NetFault = false
+is_told (ran.Refused status) = false
 is_told (ran.Bad n) = true
 is_told ran.ReadFault = false
 is_told ran.WriteFault = false
+is_told ran.Stuck = false
 is_told (ran.Ended condition) = true
 is_told ran.Done = false
 
@@ -113,3 +119,16 @@ pub record Ended (options : ClientOptions) (input : Option (List ℕ)) (old new 
 -- it ended with some condition, which was told
 abbrev pub EndedBadly : ClientOptions → Option (List ℕ) → Counts → Counts → Sunk → Sunk → Type 0
 EndedBadly options input old new s t = (condition : Condition) × Ended options input old new s t (ended_line condition) (EndsWith condition)
+
+-- it was refused by a status that is not 200, over a link that was dialled, and that was told as an error, as far as it could be
+pub record IsRefused (old new : Counts) (given later : Option (List ℕ)) : Type 0 where
+  pub status : ℕ
+  pub other : status ≢ 200
+  pub dialled : HasRisen old.dialled new.dialled
+  pub told : AppendsFront given later (refused_line status)
+
+-- a line found the queue full, and no request id is left of a client that goes on; and that was told as an error, as far as it could be
+pub record EndedStuck (options : ClientOptions) (input : Option (List ℕ)) (old new : Counts) (s t : Sunk) (given later : Option (List ℕ)) : Type 0 where
+  pub ended : Ended options input old new s t [] IsSpent
+  pub full : WasFull (first_entry ended.tells.setup ∷ []) ended.tells.known.seen
+  pub told : AppendsFront given later (codes "stuck\n")

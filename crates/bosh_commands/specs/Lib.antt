@@ -1,5 +1,7 @@
 pub mod Number
+pub mod Ends
 pub mod Run
+pub mod Why
 pub mod WrongWords
 pub mod ServeCommand
 pub mod Options

@@ -19,12 +19,15 @@ workers_rule = record (new_rule (codes "workers")) { long = Some (codes "workers
 abbrev pub connections_rule : Rule
 connections_rule = record (new_rule (codes "connections")) { long = Some (codes "connections"); value_names = 1; defaults = codes "0" ∷ [] }
 
+abbrev pub journal_limit_rule : Rule
+journal_limit_rule = record (new_rule (codes "journal-limit")) { long = Some (codes "journal-limit"); value_names = 1; defaults = codes "16777216" ∷ [] }
+
 -- the same, and it tells its version
 abbrev pub with_version : App → App
 with_version app = record app { top = record app.top { has_version = true } }
 
 abbrev pub serve_app : App
-serve_app = with_rule (with_rule (with_rule (with_version (new_app (codes "serve"))) port_rule) workers_rule) connections_rule
+serve_app = with_rule (with_rule (with_rule (with_rule (with_version (new_app (codes "serve"))) port_rule) workers_rule) connections_rule) journal_limit_rule
 
 -- the number that a text writes in plain decimal, without a sign or a leading zero
 abbrev pub plain_number : Text → Option ℕ
@@ -39,15 +42,20 @@ abbrev pub number_in : ℕ → ℕ → Option Text → Option ℕ
 number_in least greatest None = None
 number_in least greatest (Some text) = within least greatest (plain_number text)
 
-abbrev pub options_from : Option ℕ → Option ℕ → Option ℕ → Option ServeOptions
-options_from (Some port) (Some workers) (Some connections) = Some (record { port = port; plan = record { workers = workers; connections = connections } })
-options_from (Some port) (Some workers) None = None
-options_from (Some port) None connections = None
-options_from None workers connections = None
+abbrev pub options_from : Option ℕ → Option ℕ → Option ℕ → Option ℕ → Option ServeOptions
+options_from (Some port) (Some workers) (Some connections) (Some limit) =
+    Some (record { port = port; plan = record { workers = workers; connections = connections; journal_limit = limit } })
+options_from (Some port) (Some workers) (Some connections) None = None
+options_from (Some port) (Some workers) None limit = None
+options_from (Some port) None connections limit = None
+options_from None workers connections limit = None
 
--- what the texts of the options say: the port from 1 to 65535, 1 to 64 workers, and up to 1048576 connections
+-- what the texts of the options say: the port from 1 to 65535, 1 to 64 workers, up to 1048576 connections, and a journal of 65,536 to
+-- 1,099,511,627,776 counted bytes
 abbrev pub options_of : (Text → Option Text) → Option ServeOptions
-options_of text_of = options_from (number_in 1 65535 (text_of (codes "port"))) (number_in 1 64 (text_of (codes "workers"))) (number_in 0 1048576 (text_of (codes "connections")))
+options_of text_of =
+    options_from (number_in 1 65535 (text_of (codes "port"))) (number_in 1 64 (text_of (codes "workers"))) (number_in 0 1048576 (text_of (codes "connections")))
+    (number_in 65536 1099511627776 (text_of (codes "journal-limit")))
 
 -- options where the parser of words has no fault to find
 abbrev pub options_by : Kinds → List Row → Option ServeOptions

@@ -9,6 +9,7 @@ unfoldable pub one_word_mistake : List ℕ → Mistake
 one_word_mistake first =
     if bytes_eq first (codes "drive") then mistakes.ScriptStandsAlone
     else if bytes_eq first (codes "pair") then mistakes.ScriptStandsAlone
+    else if bytes_eq first (codes "audit") then mistakes.ScriptStandsAlone
     else if bytes_eq first (codes "load") then mistakes.LoadTakesANumber
     else if bytes_eq first (codes "serve") then mistakes.ServeOptions
     else if bytes_eq first (codes "client") then mistakes.ClientOptions

@@ -8,16 +8,17 @@ ghost use Rattle.parked_gate.specs.Passes.{IsPassOf, known};
 ghost use Rattle.client_run.specs.Worked.{IsDone};
 ghost use Rattle.bosh_commands.specs.ClientOptions.{AskedFit, Fits, client_findings, client_options, options_asked, shows_text};
 ghost use Rattle.bosh_commands.specs.Options.{Asks, MayAsk, ShowsWhatIsAsked};
-ghost use Rattle.bosh_commands.specs.ClientCommand.{Ended, EndedBadly, HasBad, IsFirst, Tells, bad_kind, bad_line, begun, ended_line, is_told, status_of, sunk_of};
+ghost use Rattle.bosh_commands.specs.ClientCommand.{Ended, EndedBadly, EndedStuck, HasBad, IsFirst, IsRefused, Tells, bad_kind, bad_line, begun, ended_line, is_told, status_of, sunk_of};
 
 use crate::client_options::{Asked, ClientOptions, First, read_client_options};
 use crate::run::{BAD_SCRIPT, DONE, NO_MEMORY, READ_FAULT, WRITE_FAULT, WRONG_WORDS};
 use crate::serve_command::{NET_FAULT, SPAWN_FAULT, status_given};
+use crate::why::{tell_no_memory, tell_why};
 use bosh_client::ClientSetup;
 use bosh_ports::{Bell, Link, Sink, Source, give_all};
 use bosh_types::limits::MOST_LINES;
 use bosh_types::{Condition, Rid, Text};
-use client_run::{ClientObject, ClientRan, Outside, Place, run_client};
+use client_run::{ClientObject, ClientRan, Outside, Place, Ready, run_client};
 use parked_gate::{Gate, Pass};
 use server_ports::{Clock, Names, Network, Spawner};
 use std::alloc::{AllocError, Global};
@@ -27,29 +28,36 @@ use std::thread::Threads;
 /// The first terminal answer that the client took has a condition.
 pub const ENDED: u8 = 9;
 
+/// Three responses in a row to one request had another status than 200.
+pub const REFUSED: u8 = 13;
+/// A line found the queue full, and no request id is left.
+pub const STUCK: u8 = 14;
+
 /// Runs the command `client`, where the words name it, and answers the program's status. Each line of the source is put as a
 /// stanza, and each stanza that comes is given to the sink as a line. A bad line of the source is told by a line `bad`, and the
-/// condition with which the session ended by a line `ended`.
-pub fn run_client_command<R, I, K, N, C, B, P, M>(
+/// condition with which the session ended by a line `ended`. Where the status isn't 0, a line of `errors` says why, if that takes it.
+pub fn run_client_command<R, I, K, E, N, C, B, P, M>(
     rt: &R,
     alloc: Global,
     words: &[String],
     source: &mut I,
     sink: &mut K,
+    errors: &mut E,
     outside: &mut Outside<N, C, B, P>,
     names: &mut M,
 ) -> u8
 where
     R: Wait + Threads + Copy + Send + Drop + 'static,
-    I: Source,
+    I: Source + Ready,
     K: Sink,
+    E: Sink,
     N: Network + Send + Drop + 'static,
     N::Link: Send + Drop + 'static,
     C: Clock + Send + Drop + 'static,
     B: Bell + Send + Drop + 'static,
     P: Spawner,
     M: Names,
-    ensures statuses { Contains (0 ∷ 2 ∷ 3 ∷ 4 ∷ 5 ∷ 6 ∷ 7 ∷ 8 ∷ 9 ∷ []) result }
+    ensures statuses { Contains (0 ∷ 2 ∷ 3 ∷ 4 ∷ 5 ∷ 6 ∷ 7 ∷ 8 ∷ 9 ∷ 13 ∷ 14 ∷ []) result }
 
     // A fault has its status only where its count rose.
     ensures read_fault { result ≡ 4 → HasRisen (I.faults source.old) (I.faults source.new) }
@@ -64,7 +72,9 @@ where
         (sunk_of (K.given sink.old) (K.faults sink.old)) (sunk_of (K.given sink.new) (K.faults sink.new)) [] IsDone) }
     ensures ended { result ≡ 9 → IsSomeAnd (client_options words.now) (λ options. EndedBadly options (I.left source.old) (N.counts outside.old.net) (N.counts outside.new.net)
         (sunk_of (K.given sink.old) (K.faults sink.old)) (sunk_of (K.given sink.new) (K.faults sink.new))) }
-    ensures failed { Contains (4 ∷ 7 ∷ 8 ∷ []) result → IsSomeAnd (client_options words.now) (λ options. Tells options false (sunk_of (K.given sink.old) (K.faults sink.old)) (sunk_of (K.given sink.new) (K.faults sink.new)) []) }
+    ensures failed { Contains (4 ∷ 7 ∷ 8 ∷ 13 ∷ []) result → IsSomeAnd (client_options words.now) (λ options. Tells options false (sunk_of (K.given sink.old) (K.faults sink.old)) (sunk_of (K.given sink.new) (K.faults sink.new)) []) }
+    ensures refusals { result ≡ 13 → IsRefused (N.counts outside.old.net) (N.counts outside.new.net) (E.given errors.old) (E.given errors.new) }
+    ensures stuck { result ≡ 14 → IsSomeAnd (client_options words.now) (λ options. EndedStuck options (I.left source.old) (N.counts outside.old.net) (N.counts outside.new.net) (sunk_of (K.given sink.old) (K.faults sink.old)) (sunk_of (K.given sink.new) (K.faults sink.new)) (E.given errors.old) (E.given errors.new)) }
 
     // Words that say how to run have another status than 2. Other words have it, but for want of memory, where they don't ask for
     // help or the version; where they ask for just that, they have another. They run no client, and with 2 nothing is written.
@@ -76,10 +86,10 @@ where
     ensures unwritten { result ≡ 2 → sink.new ≡ sink.old }
 {
     match asked(alloc, words) {
-        Err(AllocError) => NO_MEMORY,
+        Err(AllocError) => tell_no_memory(errors),
         Ok(Asked::Nothing) => WRONG_WORDS,
         Ok(Asked::Shown(text)) => status_given(sink, text.as_bytes()),
-        Ok(Asked::Run(options)) => ask(rt, alloc, options, source, sink, outside, names),
+        Ok(Asked::Run(options)) => ask(rt, alloc, options, source, sink, errors, outside, names),
     }
 }
 
@@ -98,19 +108,21 @@ fn asked(alloc: Global, words: &[String]) -> Result<Asked, AllocError>
 }
 
 // Runs a client as the options have it.
-fn ask<R, I, K, N, C, B, P, M>(
+fn ask<R, I, K, E, N, C, B, P, M>(
     rt: &R,
     alloc: Global,
     options: ClientOptions,
     source: &mut I,
     sink: &mut K,
+    errors: &mut E,
     outside: &mut Outside<N, C, B, P>,
     names: &mut M,
 ) -> u8
 where
     R: Wait + Threads + Copy + Send + Drop + 'static,
-    I: Source,
+    I: Source + Ready,
     K: Sink,
+    E: Sink,
     N: Network + Send + Drop + 'static,
     N::Link: Send + Drop + 'static,
     C: Clock + Send + Drop + 'static,
@@ -118,7 +130,7 @@ where
     P: Spawner,
     M: Names,
     requires { Fits options }
-    ensures statuses { Contains (0 ∷ 3 ∷ 4 ∷ 5 ∷ 6 ∷ 7 ∷ 8 ∷ 9 ∷ []) result }
+    ensures statuses { Contains (0 ∷ 3 ∷ 4 ∷ 5 ∷ 6 ∷ 7 ∷ 8 ∷ 9 ∷ 13 ∷ 14 ∷ []) result }
     ensures read_fault { result ≡ 4 → HasRisen (I.faults source.old) (I.faults source.new) }
     ensures write_fault { result ≡ 5 → HasRisen (K.faults sink.old) (K.faults sink.new) }
     ensures net_fault { result ≡ 7 → HasRisen (N.counts outside.old.net).faults (N.counts outside.new.net).faults }
@@ -128,7 +140,9 @@ where
         (sunk_of (K.given sink.old) (K.faults sink.old)) (sunk_of (K.given sink.new) (K.faults sink.new)) [] IsDone }
     ensures ended { result ≡ 9 → EndedBadly options (I.left source.old) (N.counts outside.old.net) (N.counts outside.new.net)
         (sunk_of (K.given sink.old) (K.faults sink.old)) (sunk_of (K.given sink.new) (K.faults sink.new)) }
-    ensures failed { Contains (4 ∷ 7 ∷ 8 ∷ []) result → Tells options false (sunk_of (K.given sink.old) (K.faults sink.old)) (sunk_of (K.given sink.new) (K.faults sink.new)) [] }
+    ensures failed { Contains (4 ∷ 7 ∷ 8 ∷ 13 ∷ []) result → Tells options false (sunk_of (K.given sink.old) (K.faults sink.old)) (sunk_of (K.given sink.new) (K.faults sink.new)) [] }
+    ensures refusals { result ≡ 13 → IsRefused (N.counts outside.old.net) (N.counts outside.new.net) (E.given errors.old) (E.given errors.new) }
+    ensures stuck { result ≡ 14 → EndedStuck options (I.left source.old) (N.counts outside.old.net) (N.counts outside.new.net) (sunk_of (K.given sink.old) (K.faults sink.old)) (sunk_of (K.given sink.new) (K.faults sink.new)) (E.given errors.old) (E.given errors.new) }
 {
     let ClientOptions {
         port,
@@ -149,7 +163,7 @@ where
     };
     let (gate, pass) = match new_gate(alloc, setup) {
         Ok(made) => made,
-        Err(AllocError) => return NO_MEMORY,
+        Err(AllocError) => return tell_no_memory(errors),
     };
     let mut pass = pass;
     let place = Place {
@@ -158,8 +172,11 @@ where
         port,
     };
     match run_client(rt, &place, &mut pass, source, sink, outside) {
-        Ok(ran) => tell_ran(alloc, sink, ran),
-        Err(AllocError) => NO_MEMORY,
+        Ok(ran) => {
+            tell_why(alloc, errors, ran);
+            tell_ran(alloc, sink, ran)
+        }
+        Err(AllocError) => tell_no_memory(errors),
     }
 }
 
@@ -206,6 +223,8 @@ fn tell_ran<K: Sink>(alloc: Global, sink: &mut K, ran: ClientRan) -> u8
         ClientRan::Done => DONE,
         ClientRan::SpawnFault => SPAWN_FAULT,
         ClientRan::NetFault => NET_FAULT,
+        ClientRan::Refused { .. } => REFUSED,
+        ClientRan::Stuck => STUCK,
         ClientRan::ReadFault => READ_FAULT,
         ClientRan::WriteFault => WRITE_FAULT,
         ClientRan::Bad { line } => tell_bad(alloc, sink, line),

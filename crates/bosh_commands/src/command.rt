@@ -11,6 +11,8 @@ pub enum LocalCommand {
     Drive,
     /// `pair`: a script of a client and a manager in one world.
     Pair,
+    /// `audit`: a recorded trace of what two peers exchanged.
+    Audit,
     /// `load`: the run of this number in such a world.
     Load(u64),
     /// `--help`: what the program does for which words.
@@ -49,6 +51,9 @@ fn script_command(word: &[u8]) -> Option<LocalCommand>
     }
     if word == b"pair".as_slice() {
         return Some(LocalCommand::Pair);
+    }
+    if word == b"audit".as_slice() {
+        return Some(LocalCommand::Audit);
     }
     if word == b"--help".as_slice() {
         return Some(LocalCommand::Help);

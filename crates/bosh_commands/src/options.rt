@@ -33,6 +33,10 @@ const WORKERS: u32 = 64;
 
 const CONNECTIONS: u32 = 1_048_576;
 
+const LEAST_JOURNAL: u64 = 65_536;
+
+const GREATEST_JOURNAL: u64 = 1_099_511_627_776;
+
 fn serve_command<'a>(alloc: Global) -> Result<Command<'a>, AllocError>
     ensures { IfOk result (λ command. app_of command ≡ serve_app) }
 {
@@ -51,6 +55,13 @@ fn serve_command<'a>(alloc: Global) -> Result<Command<'a>, AllocError>
         .value_name("CONNECTIONS")
         .help("After how many connections to end, up to 1048576; 0 is without end")
         .default_value("0");
+    let journal_limit = Arg::new(alloc, "journal-limit")
+        .long("journal-limit")
+        .value_name("BYTES")
+        .help(
+            "How many counted bytes the journal of a session may have, from 65536 to 1099511627776: the request that would pass it ends the session",
+        )
+        .default_value("16777216");
     Command::new(alloc, "serve")
         .about(
             "Serves XMPP over BOSH at http://127.0.0.1:PORT/http-bind, with an echo at echo.localhost and a room at room.localhost",
@@ -58,7 +69,8 @@ fn serve_command<'a>(alloc: Global) -> Result<Command<'a>, AllocError>
         .version(VERSION)
         .arg(port)?
         .arg(workers)?
-        .arg(connections)
+        .arg(connections)?
+        .arg(journal_limit)
 }
 
 /// Reads the words, of which the first is the command's. The only error is want of memory.
@@ -104,25 +116,33 @@ fn options(matches: &ArgMatches<'_>) -> Option<ServeOptions>
     let port = number(matches.get_str("port"), 1, u32::from(u16::MAX));
     let workers = number(matches.get_str("workers"), 1, WORKERS);
     let connections = number(matches.get_str("connections"), 0, CONNECTIONS);
-    options_from(port, workers, connections)
+    let journal_limit = wide_number(
+        matches.get_str("journal-limit"),
+        LEAST_JOURNAL,
+        GREATEST_JOURNAL,
+    );
+    options_from(port, workers, connections, journal_limit)
 }
 
 fn options_from(
     port: Option<u32>,
     workers: Option<u32>,
     connections: Option<u32>,
+    journal_limit: Option<u64>,
 ) -> Option<ServeOptions>
     requires { IfSome port (λ port. port ≤ 65535) }
-    ensures { result ≡ options_from port workers connections }
+    ensures { result ≡ options_from port workers connections journal_limit }
 {
     let port = port?;
     let workers = workers?;
     let connections = connections?;
+    let journal_limit = journal_limit?;
     Some(ServeOptions {
         port: port as u16,
         plan: ServePlan {
             workers,
             connections,
+            journal_limit,
         },
     })
 }
@@ -132,9 +152,17 @@ pub(crate) fn number(text: Option<&str>, least: u32, greatest: u32) -> Option<u3
     ensures number { result ≡ number_in least greatest (option_map (λ text. text.now) text.entry) }
     ensures low { IfSome result (λ n. n ≤ greatest) }
 {
+    let number = wide_number(text, u64::from(least), u64::from(greatest))?;
+    Some(number as u32)
+}
+
+fn wide_number(text: Option<&str>, least: u64, greatest: u64) -> Option<u64>
+    ensures number { result ≡ number_in least greatest (option_map (λ text. text.now) text.entry) }
+    ensures low { IfSome result (λ n. n ≤ greatest) }
+{
     let number = plain_number(text?.as_bytes())?;
-    if u64::from(least) <= number && number <= u64::from(greatest) {
-        return Some(number as u32);
+    if least <= number && number <= greatest {
+        return Some(number);
     }
     None
 }

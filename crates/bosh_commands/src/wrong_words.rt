@@ -12,7 +12,7 @@ pub enum Mistake {
     NoCommand,
     /// The first word names no command.
     NoSuchCommand,
-    /// `drive` and `pair` stand alone: their script is standard input.
+    /// `drive`, `pair` and `audit` stand alone: their script, or trace, is standard input.
     ScriptStandsAlone,
     /// `load` takes one number.
     LoadTakesANumber,
@@ -44,6 +44,9 @@ fn mistake_at(first: &[u8]) -> Mistake
     if first == b"pair".as_slice() {
         return Mistake::ScriptStandsAlone;
     }
+    if first == b"audit".as_slice() {
+        return Mistake::ScriptStandsAlone;
+    }
     if first == b"load".as_slice() {
         return Mistake::LoadTakesANumber;
     }
@@ -62,10 +65,10 @@ fn mistake_at(first: &[u8]) -> Mistake
     Mistake::NoSuchCommand
 }
 
-const USAGE: &str = "usage: robelava serve|client|drive|pair|load, or --help\n";
+const USAGE: &str = "usage: robelava serve|client|drive|pair|load|audit, or --help\n";
 
 const SERVE_BOUNDS: &str =
-    "robelava serve: --port is from 1 to 65535, --workers from 1 to 64, --connections from 0 to 1048576\nrobelava serve --help says more\n";
+    "robelava serve: --port is from 1 to 65535, --workers from 1 to 64, --connections from 0 to 1048576,\n--journal-limit from 65536 to 1099511627776\nrobelava serve --help says more\n";
 
 const CLIENT_BOUNDS: &str =
     "robelava client: --port is from 1 to 65535, --to a host's name of 1 to 1023 bytes, --rid from 1 to 9007199254740991, --wait from 0 to 120, --hold from 0 to 4\nrobelava client --help says more\n";
@@ -81,7 +84,7 @@ pub fn wrong_words_text(alloc: Global, words: &[String]) -> Result<String, Alloc
         }
         Mistake::ScriptStandsAlone => {
             format!(in alloc;
-                "robelava: a script is read from standard input, and the command stands alone\n{USAGE}"
+                "robelava: a script, or a trace, is read from standard input, and the command stands alone\n{USAGE}"
             )
         }
         Mistake::LoadTakesANumber => {

@@ -1,23 +1,27 @@
 // The program: it hands its words and the real streams to the top calls.
 #![tactic(auto)]
 
+mod typed;
+
+use crate::typed::{ClosingBell, Shelf, Typed, read_to_shelf};
 use bosh_commands::{
     NO_MEMORY, WRONG_WORDS, run_client_command, run_local, run_serve_command, status_without_words,
     wrong_words_text,
 };
-use bosh_ports::{ReadSource, RealBell, Sink, Source, WriteSink, give_all};
+use bosh_ports::{Bell, ReadSource, RealBell, Sink, WriteSink, give_all};
 use bosh_server::Outside;
 use bosh_types::{Stanzas, Text};
 use client_run::Outside as ClientOutside;
 use server_ports::{RealClock, RealNames, TcpNetwork, ThreadSpawner, system_seed};
 use session_pump::Host;
 use std::alloc::{AllocError, Global};
+use std::io::Read;
 use std::net::{Net, TcpListener, TcpStream};
 use std::process::ExitCode;
 use std::rt::{Clock, Files};
-use std::sync::Wait;
+use std::sync::{Arc, Wait};
 use std::thread::Threads;
-use std::{env, io};
+use std::{env, io, thread};
 use xmpp_backend::{Backend, Echo, Room};
 
 fn main(rt: HostRuntime) -> ExitCode {
@@ -31,7 +35,9 @@ fn main(rt: HostRuntime) -> ExitCode {
     let status = if is_command(&words, "serve") {
         serve_for_real(&rt, rt.alloc(), &words, &mut sink, &mut errors).unwrap_or(NO_MEMORY)
     } else if is_command(&words, "client") {
-        ask_for_real(&rt, rt.alloc(), &words, &mut source, &mut sink).unwrap_or(NO_MEMORY)
+        ask_for_real(&rt, rt.alloc(), &words, rt.stdin(), &mut sink, &mut errors).unwrap_or(
+            NO_MEMORY,
+        )
     } else {
         run_local(rt.alloc(), &words, &mut source, &mut sink)
     };
@@ -123,13 +129,15 @@ where
     Ok(status)
 }
 
-/// Runs a client over the real network, with the real clock, bell, threads and names.
-fn ask_for_real<R, I, K>(
+/// Runs a client over the real network, with the real clock, bell, threads and names. A thread of its own reads the input, and is left
+/// behind where the client ends before that does.
+fn ask_for_real<R, I, K, E>(
     rt: &R,
     alloc: Global,
     words: &[String],
-    source: &mut I,
+    input: I,
     sink: &mut K,
+    errors: &mut E,
 ) -> Result<u8, AllocError>
 where
     R: Wait
@@ -141,20 +149,34 @@ where
         + Send
         + Drop
         + 'static,
-    I: Source,
+    I: Read + Send + Drop + 'static,
     K: Sink,
+    E: Sink,
 {
     let Ok(seed) = system_seed(rt) else {
         return Ok(NO_MEMORY);
     };
     let mut names = RealNames::new(alloc, seed);
+    let shelf = Shelf::new(alloc)?;
+    let bell = RealBell::new(alloc, *rt)?;
+    read_apart(rt, input, Arc::try_clone(&shelf)?, bell.share()?)?;
+    let mut source = Typed::new(*rt, Arc::try_clone(&shelf)?);
     let mut outside = ClientOutside {
         net: TcpNetwork::new(*rt),
         clock: RealClock::new(*rt),
-        bell: RealBell::new(alloc, *rt)?,
+        bell: ClosingBell::new(*rt, bell, shelf),
         spawner: ThreadSpawner::new(alloc),
     };
-    let status = run_client_command(rt, alloc, words, source, sink, &mut outside, &mut names);
+    let status = run_client_command(
+        rt,
+        alloc,
+        words,
+        &mut source,
+        sink,
+        errors,
+        &mut outside,
+        &mut names,
+    );
     let ClientOutside {
         net: _net,
         clock: _clock,
@@ -163,6 +185,32 @@ where
     } = outside;
     spawner.join_all(rt);
     Ok(status)
+}
+
+/// Starts the thread that reads the input.
+fn read_apart<R, I>(
+    rt: &R,
+    input: I,
+    shelf: Arc<Shelf>,
+    bell: RealBell<R>,
+) -> Result<(), AllocError>
+where
+    R: Wait + Threads + Clock + Copy + Send + Drop + 'static,
+    I: Read + Send + Drop + 'static,
+{
+    let own = *rt;
+    let mut input = input;
+    let mut bell = bell;
+    match thread::spawn(
+        rt,
+        move || read_to_shelf(&own, &mut input, &shelf, &mut bell),
+    ) {
+        Ok(reader) => {
+            drop(reader);
+            Ok(())
+        }
+        Err(_) => Err(AllocError),
+    }
 }
 
 /// A host with this name, which greets with the features of a stream.

@@ -2,7 +2,9 @@
 ghost use Rattle.std.specs.Thread.{IsSync};
 
 use crate::noting::{Noted, NotingNetwork, Part, Patient};
-use bosh_commands::{DONE, NET_FAULT, WRONG_WORDS, run_client_command, run_serve_command};
+use bosh_commands::{
+    BAD_SCRIPT, DONE, NET_FAULT, WRONG_WORDS, run_client_command, run_serve_command,
+};
 use bosh_ports::{Gave, MemorySink, MemorySource, QuietSource, RealBell, Sink, SteadyBell};
 use bosh_server::Outside as ServerOutside;
 use bosh_types::{Moment, Rid, Stanzas, Text};
@@ -29,15 +31,20 @@ fn words_of(alloc: Global, line: &str) -> Result<Vec<String>, AllocError> {
     Ok(words)
 }
 
-// The status of the words over an empty network and an empty input, and what was written.
+/// What a command answered, wrote, and wrote as errors.
+type Said = (u8, MemorySink, MemorySink);
+
+// The status of the words over an empty network and this input, and what was written.
 fn shown<R: Wait + Threads + Copy + Send + Drop + 'static>(
     rt: &R,
     alloc: Global,
     line: &str,
-) -> Result<(u8, MemorySink), Fail> {
+    input: &[u8],
+) -> Result<Said, Fail> {
     let words = words_of(alloc, line)?;
-    let mut source = MemorySource::new(Vec::new(alloc), Vec::new(alloc));
+    let mut source = MemorySource::new(Vec::from_slice(alloc, input)?, Vec::new(alloc));
     let mut sink = MemorySink::new(alloc, Vec::new(alloc));
+    let mut errors = MemorySink::new(alloc, Vec::new(alloc));
     let mut names = GivenNames::new(alloc, b"s", Rid::new(1000).ok_or("an id")?);
     let mut outside = Outside {
         net: MemoryNetwork::new(alloc, Vec::new(alloc), Vec::new(alloc)),
@@ -53,17 +60,41 @@ fn shown<R: Wait + Threads + Copy + Send + Drop + 'static>(
         &words,
         &mut source,
         &mut sink,
+        &mut errors,
         &mut outside,
         &mut names,
     );
-    Ok((status, sink))
+    Ok((status, sink, errors))
 }
 
 #[test]
 fn a_network_that_dials_nobody_has_failed(rt: HostRuntime) -> Result<(), Fail> {
-    let (status, written) = shown(&rt, rt.alloc(), "client --port 47002 --to h")?;
-    assert_eq!(rt; status, NET_FAULT);
-    assert!(rt; written.as_slice().is_empty());
+    // The input, the status, what is written, and what is told as an error.
+    let rows: [(&[u8], u8, &[u8], &[u8]); 2] = [
+        (
+            b"",
+            NET_FAULT,
+            b"",
+            b"robelava client: nobody listens at the port, or the connection failed\n",
+        ),
+        (
+            b"<m>\n",
+            BAD_SCRIPT,
+            b"bad 1 grammar\n",
+            b"robelava client: line 1 is no stanza\n",
+        ),
+    ];
+    for (input, status, output, told) in rows {
+        let (answered, written, errors) = shown(
+            &rt,
+            rt.alloc(),
+            "client --port 47002 --to h",
+            input,
+        )?;
+        assert_eq!(rt; answered, status, "of {input:?}");
+        assert_eq!(rt; written.as_slice(), output, "of {input:?}");
+        assert_eq!(rt; errors.as_slice(), told, "of {input:?}");
+    }
     Ok(())
 }
 
@@ -83,7 +114,7 @@ fn words_that_are_no_client_write_nothing(rt: HostRuntime) -> Result<(), Fail> {
         "serve --port 47002",
     ];
     for line in lines {
-        let (status, written) = shown(&rt, rt.alloc(), line)?;
+        let (status, written, _) = shown(&rt, rt.alloc(), line, b"")?;
         assert_eq!(rt; status, WRONG_WORDS, "of {line:?}");
         assert!(rt; written.as_slice().is_empty(), "of {line:?}");
     }
@@ -97,7 +128,7 @@ fn what_is_asked_for_is_shown(rt: HostRuntime) -> Result<(), Fail> {
         ("client --version", b"client 0.1.0\n"),
     ];
     for (line, front) in rows {
-        let (status, written) = shown(&rt, rt.alloc(), line)?;
+        let (status, written, _) = shown(&rt, rt.alloc(), line, b"")?;
         assert_eq!(rt; status, DONE, "of {line:?}");
         assert!(rt; written.as_slice().starts_with(front), "of {line:?}");
     }
@@ -257,6 +288,7 @@ where
         parts: parts_of(alloc, lines)?,
         noted: Arc::try_clone(noted)?,
     };
+    let mut errors = MemorySink::new(alloc, Vec::new(alloc));
     let mut sink = MemorySink::new(alloc, Vec::new(alloc));
     let mut names = GivenNames::new(alloc, b"c", first);
     let mut outside = Outside {
@@ -273,6 +305,7 @@ where
         &words,
         &mut source,
         &mut sink,
+        &mut errors,
         &mut outside,
         &mut names,
     );

@@ -1,4 +1,4 @@
-// Tests over the public calls of `bosh_commands`: scripts, serving, a client, over streams and networks in memory and over loopback.
+// Tests over the public calls of `bosh_commands`: scripts, traces, serving, a client, over streams and networks in memory and over loopback.
 #![tactic(auto)]
 
 #[cfg(test)]
@@ -13,3 +13,5 @@ mod noting;
 mod scripts;
 #[cfg(test)]
 mod serving;
+#[cfg(test)]
+mod traces;

@@ -3,6 +3,7 @@
 ghost use Rattle.std.specs.Prelude.{◌≡◌, None};
 
 use bosh_ports::{Gave, Got, Link, QuietSource, Source};
+use client_run::Ready;
 use server_ports::{Accepted, Dialled, NetLink, Network, Opened, Shared, TcpNetwork};
 use std::collections::VecDeque;
 use std::net::{Net, TcpListener, TcpStream};
@@ -251,5 +252,11 @@ impl<R: Wait + Clock + Copy + Drop> Source for Patient<R> {
         }
         self.noted.lock(&self.rt).drops = false;
         Got::End
+    }
+}
+
+impl<R: Wait + Clock + Copy + Drop> Ready for Patient<R> {
+    fn is_ready(&self) -> bool {
+        true
     }
 }

@@ -12,12 +12,7 @@ pub(crate) fn run(
     source_failing: &[u64],
     sink_failing: &[u64],
 ) -> Result<(u8, Vec<u8>), Fail> {
-    let words = vec![in alloc; String::from_str(alloc, "drive")?]?;
-    let failing = Vec::from_slice(alloc, source_failing)?;
-    let mut source = MemorySource::new(Vec::from_slice(alloc, script)?, failing);
-    let mut sink = MemorySink::new(alloc, Vec::from_slice(alloc, sink_failing)?);
-    let status = run_local(alloc, &words, &mut source, &mut sink);
-    Ok((status, Vec::from_slice(alloc, sink.as_slice())?))
+    run_words_failing(alloc, &["drive"], script, source_failing, sink_failing)
 }
 
 #[test]
@@ -134,10 +129,26 @@ fn words_of(alloc: Global, words: &[&str]) -> Result<Vec<String>, AllocError> {
 }
 
 // The status of these words over a script, and what was given.
-fn run_words(alloc: Global, words: &[&str], script: &[u8]) -> Result<(u8, Vec<u8>), Fail> {
+pub(crate) fn run_words(
+    alloc: Global,
+    words: &[&str],
+    script: &[u8],
+) -> Result<(u8, Vec<u8>), Fail> {
+    run_words_failing(alloc, words, script, &[], &[])
+}
+
+// The same over a source and a sink that fail at the listed calls.
+pub(crate) fn run_words_failing(
+    alloc: Global,
+    words: &[&str],
+    script: &[u8],
+    source_failing: &[u64],
+    sink_failing: &[u64],
+) -> Result<(u8, Vec<u8>), Fail> {
     let all = words_of(alloc, words)?;
-    let mut source = MemorySource::new(Vec::from_slice(alloc, script)?, Vec::new(alloc));
-    let mut sink = MemorySink::new(alloc, Vec::new(alloc));
+    let failing = Vec::from_slice(alloc, source_failing)?;
+    let mut source = MemorySource::new(Vec::from_slice(alloc, script)?, failing);
+    let mut sink = MemorySink::new(alloc, Vec::from_slice(alloc, sink_failing)?);
     let status = run_local(alloc, &all, &mut source, &mut sink);
     Ok((status, Vec::from_slice(alloc, sink.as_slice())?))
 }
@@ -183,7 +194,7 @@ fn wrong_words_are_told(rt: HostRuntime) -> Result<(), Fail> {
         (&["Drive"], b"robelava: 'Drive' is no command\nusage: "),
         (
             &["drive", "now"],
-            b"robelava: a script is read from standard input",
+            b"robelava: a script, or a trace, is read from standard input",
         ),
         (&["load"], b"robelava: load takes one number"),
         (

@@ -1,5 +1,5 @@
-use Rattle.std.proofs.Common.{ap, lit<, refl}
-use Rattle.bosh_commands.proofs.ClientCommandLemmas.{asked_bad, asked_done, asked_ended, asked_failed, asked_net, asked_read, asked_spawn, asked_status, asked_write, begins_with}
+use Rattle.std.proofs.Common.{ap, lit<, refl, sym}
+use Rattle.bosh_commands.proofs.ClientCommandLemmas.{asked_bad, asked_done, asked_ended, asked_failed, asked_net, asked_read, asked_refused, asked_spawn, asked_status, asked_stuck, asked_write, begins_with}
 use Rattle.bosh_commands.proofs.client_command.ask.Goals as goal
 
 pub returns-in-Ok-run_client-clause-statuses : goal.returns-in-Ok-run_client-clause-statuses
@@ -41,7 +41,16 @@ pub new_gate-requires : goal.new_gate-requires
 new_gate-requires g c = begins_with c.args.options _ _ c.requires
 
 pub returns-in-Err-clause-statuses : goal.returns-in-Err-clause-statuses
-returns-in-Err-clause-statuses g c = (4, lit< tt, refl)
+returns-in-Err-clause-statuses g c = (4, lit< tt, sym c.tell_no_memory.ensures)
 
 pub returns-clause-statuses : goal.returns-clause-statuses
-returns-clause-statuses g c = (4, lit< tt, refl)
+returns-clause-statuses g c = (4, lit< tt, sym c.tell_no_memory-in-Err-run_client.ensures)
+
+pub returns-in-Ok-run_client-clause-refusals : goal.returns-in-Ok-run_client-clause-refusals
+returns-in-Ok-run_client-clause-refusals g c = asked_refused _ _ _ (g.E.Sink.given c.args.errors.now) (g.E.Sink.given c.tell_why.new.errors) c.in-Ok-run_client.ran _ c.in-Ok-run_client.ensures.ran c.tell_ran.ensures.statuses c.tell_why.ensures
+
+pub returns-in-Ok-run_client-clause-stuck : goal.returns-in-Ok-run_client-clause-stuck
+returns-in-Ok-run_client-clause-stuck g c =
+    asked_stuck c.args.options _ (record { first = c.first_rid-first.ensures; to = refl; wait = refl; hold = refl; ack = refl; keys = refl }) _ _ _ c.in-Ok.ensures.known _ _ _ _ c.tell_ran.ensures.never_falls (g.E.Sink.given c.args.errors.now) (g.E.Sink.given c.tell_why.new.errors) c.in-Ok-run_client.ran _
+    (record { by = c.in-Ok-run_client.ensures.ran; handed = c.in-Ok-run_client.ensures.written; listed = c.tell_ran.ensures.statuses; bad = c.tell_ran.ensures.bad; ended = c.tell_ran.ensures.ended; quiet = λ is. ap (λ k. g.K.Sink.given k) (c.tell_ran.ensures.quiet is) })
+    c.tell_why.ensures
