@@ -1,3 +1,3 @@
 pub mod Kept
 pub mod Places
-pub mod Turned
+pub mod Ring

@@ -1,5 +1,5 @@
 -- The places of a keep against the list of all that was put.
-use Rattle.std.proofs.Common.{◌≡◌, ◌≢◌, ℕ, suc, zero, ◌+◌, ◌-◌, ◌<◌, ◌≤◌, ◌⊎◌, inl, inr, ◌&&◌, cond, nat_lt, min, max, List, [], ◌∷◌, ◌++◌, Option, Some, None, IsSome, length, set, get_or, refl, sym, ◌∙◌, ap, subst, arith, get_or-set_same, get_or-set_other, length-set}
+use Rattle.std.proofs.Common.{◌≡◌, ◌≢◌, ℕ, suc, zero, ◌+◌, ◌-◌, ◌<◌, ◌≤◌, ◌⊎◌, inl, inr, ◌&&◌, cond, nat_lt, min, max, List, [], ◌∷◌, ◌++◌, Option, Some, None, IsSome, length, get_or, refl, sym, ◌∙◌, ap, subst, arith}
 use Rattle.std.proofs.lemmas.Bool.{cases_lt}
 use Rattle.std.specs.Option.{SomeIff}
 use Rattle.bosh_types.specs.ById.{at_id}
@@ -10,7 +10,7 @@ use Rattle.reply_keep.specs.Filled.{IsLastFilled}
 use Rattle.reply_keep.specs.PlainKeep.{PlainKeep, IsLowestKept, after_ack, after_put, falls_out, kept_at, last_id, new_keep}
 use Rattle.reply_keep.specs.StandsFor.{Holds}
 use Rattle.reply_keep.proofs.Kept.{kept_above, kept_absent, kept_in, kept_low, kept_old, last_after-push, none_either_way}
-use Rattle.reply_keep.proofs.Turned.{length-turned, turned, turned_first, turned_later, turned_past}
+use Rattle.reply_keep.proofs.Ring.{last_place, length-pushed, pushed, pushed_first, pushed_later, pushed_past}
 
 -- empty places keep nothing
 pub Holds-new : (places : List (Option KeptAnswer)) (size : ℕ) → length places ≡ size → ((k : ℕ) → get_or places k None ≡ None) → Holds None places (new_keep size)
@@ -87,9 +87,9 @@ module _ {last : Option ℕ} {places : List (Option KeptAnswer)} {plain : PlainK
   lowest_made at (Some rid) s filled small some = subst (λ n. IsLowestKept plain (Some n)) (sym some.1) (lowest_is at s filled)
 
   -- the answer that has no room any more
-  pub oldest : (rid : ℕ) → Holds last places plain → 0 < length places → (last_id plain.put ≡ 0) ⊎ (rid ≡ last_id plain.put + 1) → get_or (turned places) 0 None ≡ falls_out plain rid
-  oldest rid s some next =
-      turned_first places some ∙ s.each (length places - 1) ∙ elim next [
+  pub oldest : (rid : ℕ) (answer : KeptAnswer) → Holds last places plain → 0 < length places → (last_id plain.put ≡ 0) ⊎ (rid ≡ last_id plain.put + 1) → get_or (Some answer ∷ places) (length places) None ≡ falls_out plain rid
+  oldest rid answer s some next =
+      last_place answer places some ∙ s.each (length places - 1) ∙ elim next [
         | inl none ↦ none_put _ s none ∙ sym (none_put _ s none)
         | inr after ↦
             let here : last_id plain.put - (length places - 1) ≡ rid - plain.size = omega (arith, s.room) in
@@ -124,36 +124,34 @@ module _ {last : Option ℕ} {places : List (Option KeptAnswer)} {plain : PlainK
     | inr beyond ↦ kept_low plain.acknowledged rid plain.size (rid - suc k) found (omega arith)
   ]
 
-  placed : (rid k : ℕ) (answer : KeptAnswer) → Holds last places plain → 0 < length places → 1 ≤ rid → (last_id plain.put ≡ 0) ⊎ (rid ≡ last_id plain.put + 1) → get_or (set (turned places) 0 (Some answer)) k None ≡ cond (nat_lt plain.acknowledged (rid - k) && nat_lt rid (rid - k + plain.size)) (at_id (plain.put ++ (rid, answer) ∷ []) (rid - k)) None
+  placed : (rid k : ℕ) (answer : KeptAnswer) → Holds last places plain → 0 < length places → 1 ≤ rid → (last_id plain.put ≡ 0) ⊎ (rid ≡ last_id plain.put + 1) → get_or (pushed answer places) k None ≡ cond (nat_lt plain.acknowledged (rid - k) && nat_lt rid (rid - k + plain.size)) (at_id (plain.put ++ (rid, answer) ∷ []) (rid - k)) None
   placed rid zero answer s room some next =
       let later : last_id plain.put < rid = later_id (last_id plain.put) rid some next in
       let same : rid - 0 ≡ rid = omega arith in
-      let front : 0 < length (turned places) = omega (arith, length-turned places) in
-      get_or-set_same (turned places) 0 (Some answer) None front
+      pushed_first answer places room
       ∙ sym (at_id-push_same plain.put rid answer (s.none_later rid later))
       ∙ ap (at_id (plain.put ++ (rid, answer) ∷ [])) (sym same)
       ∙ sym (kept_in plain.acknowledged rid plain.size (rid - 0) _ (omega (arith, s.within)) (omega (arith, s.room)))
   placed rid (suc k) answer s room some next =
-      let other : suc k ≢ 0 = λ e. absurd (omega arith) in
-      get_or-set_other (turned places) 0 (suc k) (Some answer) None other ∙ elim (cases_lt (suc k) (length places)) [
-        | inl within ↦ turned_later places k within ∙ s.each k ∙ moved rid k answer s some next within
-        | inr past ↦ turned_past places k room past ∙ sym (fallen rid k _ s past)
+      elim (cases_lt (suc k) (length places)) [
+        | inl within ↦ pushed_later answer places k within ∙ s.each k ∙ moved rid k answer s some next within
+        | inr past ↦ pushed_past answer places k past ∙ sym (fallen rid k _ s past)
       ]
 
   -- after an answer was put
-  pub Holds-put : (rid : ℕ) (answer : KeptAnswer) → Holds last places plain → 0 < length places → 1 ≤ rid → (last_id plain.put ≡ 0) ⊎ (rid ≡ last_id plain.put + 1) → Holds (Some rid) (set (turned places) 0 (Some answer)) (after_put plain rid answer)
+  pub Holds-put : (rid : ℕ) (answer : KeptAnswer) → Holds last places plain → 0 < length places → 1 ≤ rid → (last_id plain.put ≡ 0) ⊎ (rid ≡ last_id plain.put + 1) → Holds (Some rid) (pushed answer places) (after_put plain rid answer)
   Holds-put rid answer s room some next =
       let later : last_id plain.put < rid = later_id (last_id plain.put) rid some next in
       let last_is : last_id (plain.put ++ (rid, answer) ∷ []) ≡ rid = last_after-push rid 0 plain.put answer in
       record {
         last_is = sym last_is;
-        room = length-set (turned places) 0 (Some answer) ∙ length-turned places ∙ s.room;
+        room = length-pushed answer places ∙ s.room;
         within = rw last_is (omega (arith, s.within));
         none_later = λ id above.
             let beyond : rid < id = rw last_is at above in
             at_id-push_other plain.put rid id answer (λ e. absurd (omega arith)) ∙ s.none_later id (omega arith);
         each = λ k.
-            subst (λ n. get_or (set (turned places) 0 (Some answer)) k None ≡ cond (nat_lt plain.acknowledged (n - k) && nat_lt n (n - k + plain.size)) (at_id (plain.put ++ (rid, answer) ∷ []) (n - k)) None)
+            subst (λ n. get_or (pushed answer places) k None ≡ cond (nat_lt plain.acknowledged (n - k) && nat_lt n (n - k + plain.size)) (at_id (plain.put ++ (rid, answer) ∷ []) (n - k)) None)
             (sym last_is) (placed rid k answer s room some next);
       }
 

@@ -1,8 +1,10 @@
-ghost use Rattle.std.specs.Prelude.{◌≡◌, ℕ, ◌<◌, ◌≤◌, IfOk, slice_index_or, vec_len};
+ghost use Rattle.std.specs.Prelude.{◌≡◌, ℕ, ◌<◌, ◌≤◌, IfOk, length, slice_index_or, slice_set};
 ghost use Rattle.std.specs.Option.{option_copied};
+ghost use Rattle.circular_buffer.specs.Buffer.{buffer};
 ghost use Rattle.reply_keep.specs.Filled.{IsLastFilled};
 
-use bosh_types::{KeptAnswer, Rid, copy_items};
+use bosh_types::{CopyIn, KeptAnswer, Rid};
+use circular_buffer::HeapCircularBuffer;
 use std::alloc::{AllocError, Global};
 
 /// The answers of the last `size` request ids, less those that were acknowledged.
@@ -10,9 +12,10 @@ use std::alloc::{AllocError, Global};
 pub struct Keep {
     // The id whose answer was put last.
     last: Option<Rid>,
-    // The answers of that id and of the ids below it, one for each.
-    answers: Vec<Option<KeptAnswer>>,
-    ghost roomy: { 0 < vec_len answers },
+    // The places of that id and of the ids below it, one for each.
+    answers: HeapCircularBuffer<Option<KeptAnswer>>,
+    ghost roomy: { 0 < length answers.items },
+    ghost full: { length answers.items ≡ answers.capacity },
 }
 
 impl Keep {
@@ -26,9 +29,9 @@ impl Keep {
         ensures { IfOk result (λ keep. StandsFor keep (new_keep size)) }
     {
         let size = size as usize;
-        let mut answers = Vec::with_capacity(alloc, size)?;
+        let mut answers = HeapCircularBuffer::with_capacity(alloc, size)?;
         'fill: for _ in 0..size {
-            answers.push(None)?;
+            answers.push_back(None);
         }
         Ok(Keep {
             last: None,
@@ -45,10 +48,12 @@ impl Keep {
     {
         // The proof learns here that an id is at least 1.
         let _value = rid.value();
-        self.answers.rotate_right(1);
-        let oldest = self.answers[0].replace(answer);
+        let oldest = self.answers.push_front(Some(answer));
         self.last = Some(rid);
-        oldest
+        match oldest {
+            Some(answer) => answer,
+            None => None,
+        }
     }
 
     /// The answer of an id: `None` exactly where it isn't kept.
@@ -76,7 +81,7 @@ impl Keep {
     {
         Ok(Keep {
             last: self.last,
-            answers: copy_items(alloc, &self.answers)?,
+            answers: copy_places(alloc, &self.answers)?,
         })
     }
 
@@ -93,9 +98,9 @@ impl Keep {
     }
 }
 
-// The answer of a place, if there is one.
-fn answer_at(places: &[Option<KeptAnswer>], place: usize) -> Option<&KeptAnswer>
-    ensures { option_copied result ≡ slice_index_or places.now place None }
+// The answer of a place, if it has one.
+fn answer_at(places: &HeapCircularBuffer<Option<KeptAnswer>>, place: usize) -> Option<&KeptAnswer>
+    ensures { option_copied result ≡ slice_index_or places.now.items place None }
 {
     match places.get(place) {
         Some(answer) => answer.as_ref(),
@@ -104,23 +109,53 @@ fn answer_at(places: &[Option<KeptAnswer>], place: usize) -> Option<&KeptAnswer>
 }
 
 // The last place that has an answer.
-fn last_filled(places: &[Option<KeptAnswer>]) -> Option<usize>
-    ensures { IsLastFilled places.now result }
+fn last_filled(places: &HeapCircularBuffer<Option<KeptAnswer>>) -> Option<usize>
+    ensures { IsLastFilled places.now.items result }
 {
     for place in (0..places.len()).rev() {
-        if places[place].is_some() {
+        if answer_at(places, place).is_some() {
             return Some(place);
         }
     }
     None
 }
 
+// Empties a place.
+fn empty_at(places: &mut HeapCircularBuffer<Option<KeptAnswer>>, place: usize)
+    requires { place < length places.old.items }
+    ensures { places.new ≡ buffer (slice_set places.old.items place None) places.old.capacity }
+{
+    if let Some(at) = places.get_mut(place) {
+        *at = None;
+    }
+}
+
 // Empties the places from this one on.
-fn clear_from(places: &mut [Option<KeptAnswer>], from: usize)
-    ensures emptied { (k : ℕ) → from ≤ k → slice_index_or places.new k None ≡ None }
-    ensures rest { (k : ℕ) → k < from → slice_index_or places.new k None ≡ slice_index_or places.old k None }
+fn clear_from(places: &mut HeapCircularBuffer<Option<KeptAnswer>>, from: usize)
+    ensures emptied { (k : ℕ) → from ≤ k → slice_index_or places.new.items k None ≡ None }
+    ensures rest { (k : ℕ) → k < from → slice_index_or places.new.items k None ≡ slice_index_or places.old.items k None }
+    ensures length { length places.new.items ≡ length places.old.items }
+    ensures capacity { places.new.capacity ≡ places.old.capacity }
 {
     for place in from..places.len() {
-        places[place] = None;
+        empty_at(places, place);
     }
+}
+
+// The places with copies of the answers.
+fn copy_places(
+    alloc: Global,
+    places: &HeapCircularBuffer<Option<KeptAnswer>>,
+) -> Result<HeapCircularBuffer<Option<KeptAnswer>>, AllocError>
+    requires { length places.now.items ≤ places.now.capacity }
+    ensures { IfOk result (λ copies. copies ≡ places.now) }
+{
+    let mut copies = HeapCircularBuffer::with_capacity(alloc, places.capacity())?;
+    'each: for index in 0..places.len() {
+        match places.get(index) {
+            Some(place) => copies.push_back(place.copy_in(alloc)?),
+            None => unreachable!(),
+        };
+    }
+    Ok(copies)
 }

@@ -1,5 +1,4 @@
-use Rattle.std.proofs.Common.{◌≡◌, ◌-◌, None, length, get_or, unwrap_or, sym, ◌∙◌, ap, arith}
-use Rattle.std.proofs.lemmas.List.{with_items_is}
+use Rattle.std.proofs.Common.{◌≡◌, ◌-◌, unwrap_or, sym, ◌∙◌, ap, arith}
 use Rattle.reply_keep.specs.PlainKeep.{last_id}
 use Rattle.reply_keep.specs.StandsFor.{StandsFor}
 use Rattle.reply_keep.proofs.Places.{Holds-ack, Holds-ack_none}
@@ -15,7 +14,6 @@ unfolding StandsFor
 returns c = λ plain stands.
     let last : last_id plain.put ≡ c.in-Some.last = sym stands.last_is ∙ ap (λ o. unwrap_or o 0) c.in-Some.is in
     let above : c.saturating_sub-above.result ≡ last_id plain.put - c.args.rid = omega (arith, last) in
-    rw (with_items_is c.args.self.now.answers c.clear_from.new.places (c.clear_from.auto.places ∙ c.deref_mut.ensures.len))
-    (Holds-ack c.args.rid c.clear_from.new.places stands (c.clear_from.auto.places ∙ ap length c.deref_mut.ensures.value)
+    Holds-ack c.args.rid c.clear_from.new.places.items stands c.clear_from.ensures.length
     (λ k low. c.clear_from.ensures.emptied k (omega arith))
-    (λ k high. c.clear_from.ensures.rest k (omega arith) ∙ ap (λ places. get_or places k None) c.deref_mut.ensures.value))
+    (λ k high. c.clear_from.ensures.rest k (omega arith))

@@ -3,4 +3,4 @@ use Rattle.reply_keep.proofs.keep.Keep.copied.Goals as goal
 
 pub returns : goal.returns
 unfolding StandsFor
-returns c = λ plain stands. rw (c.in_ok-copy_items.ensures, c.deref.ensures.value) stands
+returns c = λ plain stands. rw c.in_ok-copy_places.ensures stands

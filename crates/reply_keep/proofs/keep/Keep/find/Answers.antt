@@ -23,5 +23,4 @@ returns c = λ plain stands.
     let last : last_id plain.put ≡ c.in_ok-last.last = sym stands.last_is ∙ ap (λ o. unwrap_or o 0) c.in_ok-last.was in
     let within : c.args.rid ≤ last_id plain.put = omega (arith, last, c.in_ok-below.ensures) in
     let below : c.in_ok-below.below ≡ last_id plain.put - c.args.rid = omega (arith, last, c.in_ok-below.ensures) in
-    c.answer_at.ensures ∙ ap (λ places. get_or places c.in_ok-below.below None) c.deref.ensures.value
-    ∙ ap (λ k. get_or c.args.self.now.answers.items k None) below ∙ kept_place c.args.rid stands within
+    c.answer_at.ensures ∙ ap (λ k. get_or c.args.self.now.answers.items k None) below ∙ kept_place c.args.rid stands within

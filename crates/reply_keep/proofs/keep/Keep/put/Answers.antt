@@ -1,29 +1,41 @@
-use Rattle.std.proofs.Common.{◌≡◌, ◌-◌, ◌<◌, ◌++◌, None, drop, take, length, get_or, sym, ◌∙◌, ap, arith}
-use Rattle.bosh_types.proofs.Places.{first_read}
+use Rattle.std.proofs.Common.{◌≡◌, ◌<◌, ◌∷◌, None, Some, take, length, get_or, sym, ◌∙◌, ap, arith}
+use Rattle.std.specs.List.{slice_get}
 use Rattle.reply_keep.specs.StandsFor.{StandsFor}
 use Rattle.reply_keep.proofs.Kept.{next_cases}
 use Rattle.reply_keep.proofs.Places.{oldest, Holds-put}
-use Rattle.reply_keep.proofs.Turned.{length-turned, turned}
+use Rattle.reply_keep.proofs.Ring.{get_none, get_some, pushed}
 use Rattle.reply_keep.proofs.keep.Keep.put.Goals as goal
 
-pub returns-clause-handed_back : goal.returns-clause-handed_back
+pub returns-in-Some-clause-handed_back : goal.returns-in-Some-clause-handed_back
 unfolding StandsFor
-returns-clause-handed_back c = λ plain stands follows.
+returns-in-Some-clause-handed_back c = λ plain stands follows.
     let places = c.args.self.now.answers.items in
     let some : 0 < length places = omega arith in
-    let turn : c.rotate_right.new.self.items ≡ turned places =
-    c.rotate_right.ensures.items ∙ ap (λ n. drop (n - 1) places ++ take (n - 1) places) (omega arith) in
-    let front : 0 < length c.rotate_right.new.self.items = rw turn (omega (arith, length-turned places)) in
     let next = next_cases plain.put c.args.rid follows in
-    c.replace-oldest.ensures.value ∙ sym (first_read c.rotate_right.new.self.items _ front c.index_mut.ensures.value)
-    ∙ ap (λ xs. get_or xs 0 None) turn ∙ oldest c.args.rid stands some next
+    sym (get_some (Some c.args.answer ∷ places) (length places) c.in-Some.answer (ap (slice_get (Some c.args.answer ∷ places)) c.args.self.now.full ∙ sym c.push_front-oldest.ensures.value ∙ c.in-Some.is))
+    ∙ oldest c.args.rid c.args.answer stands some next
 
-pub returns-clause-after : goal.returns-clause-after
+pub returns-in-None-clause-handed_back : goal.returns-in-None-clause-handed_back
 unfolding StandsFor
-returns-clause-after c = λ plain stands follows.
+returns-in-None-clause-handed_back c = λ plain stands follows.
     let places = c.args.self.now.answers.items in
     let some : 0 < length places = omega arith in
-    let turn : c.rotate_right.new.self.items ≡ turned places =
-    c.rotate_right.ensures.items ∙ ap (λ n. drop (n - 1) places ++ take (n - 1) places) (omega arith) in
     let next = next_cases plain.put c.args.rid follows in
-    rw (turn, c.replace-oldest.ensures.after) (Holds-put c.args.rid c.args.answer stands some (omega arith) next)
+    sym (get_none (Some c.args.answer ∷ places) (length places) (ap (slice_get (Some c.args.answer ∷ places)) c.args.self.now.full ∙ sym c.push_front-oldest.ensures.value ∙ c.in-None.is))
+    ∙ oldest c.args.rid c.args.answer stands some next
+
+pub returns-in-Some-clause-after : goal.returns-in-Some-clause-after
+unfolding StandsFor
+returns-in-Some-clause-after c = λ plain stands follows.
+    let places = c.args.self.now.answers.items in
+    let moved : c.push_front-oldest.new.self.items ≡ pushed c.args.answer places =
+    ap (λ ring. ring.items) c.push_front-oldest.ensures.items ∙ ap (λ n. take n (Some c.args.answer ∷ places)) (sym c.args.self.now.full) in
+    rw moved (Holds-put c.args.rid c.args.answer stands (omega arith) (omega arith) (next_cases plain.put c.args.rid follows))
+
+pub returns-in-None-clause-after : goal.returns-in-None-clause-after
+unfolding StandsFor
+returns-in-None-clause-after c = λ plain stands follows.
+    let places = c.args.self.now.answers.items in
+    let moved : c.push_front-oldest.new.self.items ≡ pushed c.args.answer places =
+    ap (λ ring. ring.items) c.push_front-oldest.ensures.items ∙ ap (λ n. take n (Some c.args.answer ∷ places)) (sym c.args.self.now.full) in
+    rw moved (Holds-put c.args.rid c.args.answer stands (omega arith) (omega arith) (next_cases plain.put c.args.rid follows))
