@@ -112,9 +112,10 @@ fn a_planned_network_gives_its_links_and_fails_where_it_is_told(
     assert_eq!(rt; link.take(&mut room), Got::Bytes(4));
     assert!(rt; send_all(&mut link, b"pong").is_ok());
     network.retire(link);
-    let Some([Past::Began(stream), Past::Retired(link)]) = network.past() else {
+    let Some([Past::Began(dialled, stream), Past::Retired(link)]) = network.past() else {
         return Err(Fail::new("the network doesn't tell what its link carried"));
     };
+    assert_eq!(rt; *dialled, Some(80));
     assert_eq!(rt; stream.as_slice(), b"ping".as_slice());
     assert_eq!(rt; link.link.as_slice(), b"pong".as_slice());
     let Accepted::Link(mut link) = network.accept() else {

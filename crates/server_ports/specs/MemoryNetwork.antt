@@ -21,7 +21,7 @@ IsNextListed network = Contains network.failing (counted_up network.calls)
 
 -- what is kept of a link tells what became of it
 abbrev pub event_of : Past → Event
-event_of (past.Began stream) = Began stream.items
+event_of (past.Began dialled stream) = Began dialled stream.items
 event_of (past.Retired link) = Retired link.link.taking.bytes link.link.giving.bytes
 
 abbrev pub events_of : List Past → List Event

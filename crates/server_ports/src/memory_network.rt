@@ -97,8 +97,8 @@ impl MemoryNetwork {
     }
 
     // The link of the next plan.
-    fn begin(&mut self) -> Option<PlannedLink>
-        ensures began { IfSome result (λ link. Begins self.old.events self.new.events (Some link.link.taking.bytes)) }
+    fn begin(&mut self, dialled: Option<u16>) -> Option<PlannedLink>
+        ensures began { IfSome result (λ link. Begins self.old.events self.new.events dialled (Some link.link.taking.bytes)) }
         ensures planned { IfSome result (λ link. self.old.plans ≡ link.link.taking.bytes ∷ self.new.plans) }
         ensures faultless { IfSome result (λ link. link.faults ≡ 0) }
         ensures ungiven { IfSome result (λ link. link.link.giving.bytes ≡ []) }
@@ -107,17 +107,17 @@ impl MemoryNetwork {
         ensures same { IfNone result (self.new ≡ self.old) }
     {
         let plan = self.plans.pop_front()?;
-        self.past = begun(self.past.take(), &plan.bytes);
+        self.past = begun(self.past.take(), dialled, &plan.bytes);
         Some(PlannedLink::new(self.alloc, plan))
     }
 }
 
 // Notes that a link began. Where memory is wanted the telling ends.
-fn begun(past: Option<Vec<Past>>, stream: &Vec<u8>) -> Option<Vec<Past>>
-    ensures { IfSome result (λ new. IsSomeAnd past (λ old. events_of new.items ≡ events_of old.items ++ Began stream.now.items ∷ [])) }
+fn begun(past: Option<Vec<Past>>, dialled: Option<u16>, stream: &Vec<u8>) -> Option<Vec<Past>>
+    ensures { IfSome result (λ new. IsSomeAnd past (λ old. events_of new.items ≡ events_of old.items ++ Began dialled stream.now.items ∷ [])) }
 {
     let stream = stream.clone().ok()?;
-    noted(past?, Past::Began(stream))
+    noted(past?, Past::Began(dialled, stream))
 }
 
 // Notes what became of a link. Where memory is wanted the telling ends.
@@ -191,7 +191,7 @@ impl Network for MemoryNetwork {
 
     fn accept(&mut self) -> Accepted<PlannedLink>
         ensures counts { AcceptCounts self.old.counts self.new.counts result }
-        ensures began { MatchAccepted result (λ link. Begins self.old.events self.new.events (Some link.link.taking.bytes)) ⊤ ⊤ }
+        ensures began { MatchAccepted result (λ link. Begins self.old.events self.new.events None (Some link.link.taking.bytes)) ⊤ ⊤ }
         ensures events { MatchAccepted result (λ _. ⊤) (self.new.events ≡ self.old.events) (self.new.events ≡ self.old.events) }
         ensures faultless { MatchAccepted result (λ link. link.faults ≡ 0) ⊤ ⊤ }
         ensures ungiven { MatchAccepted result (λ link. link.link.giving.bytes ≡ []) ⊤ ⊤ }
@@ -205,7 +205,7 @@ impl Network for MemoryNetwork {
         if self.fails() {
             return Accepted::Failed;
         }
-        match self.begin() {
+        match self.begin(None) {
             Some(link) => {
                 self.accepted = add(self.accepted, 1);
                 Accepted::Link(link)
@@ -217,9 +217,9 @@ impl Network for MemoryNetwork {
         }
     }
 
-    fn dial(&mut self, _port: u16) -> Dialled<PlannedLink>
+    fn dial(&mut self, port: u16) -> Dialled<PlannedLink>
         ensures counts { DialCounts self.old.counts self.new.counts result }
-        ensures began { MatchDialled result (λ link. Begins self.old.events self.new.events (Some link.link.taking.bytes)) ⊤ }
+        ensures began { MatchDialled result (λ link. Begins self.old.events self.new.events (Some port) (Some link.link.taking.bytes)) ⊤ }
         ensures events { MatchDialled result (λ _. ⊤) (self.new.events ≡ self.old.events) }
         ensures faultless { MatchDialled result (λ link. link.faults ≡ 0) ⊤ }
         ensures ungiven { MatchDialled result (λ link. link.link.giving.bytes ≡ []) ⊤ }
@@ -234,7 +234,7 @@ impl Network for MemoryNetwork {
         if self.fails() {
             return Dialled::Failed;
         }
-        match self.begin() {
+        match self.begin(Some(port)) {
             Some(link) => {
                 self.dialled = add(self.dialled, 1);
                 Dialled::Link(link)

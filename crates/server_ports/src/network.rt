@@ -1,5 +1,5 @@
 // Where connections come from, and where they are made to.
-ghost use Rattle.std.specs.Prelude.{◌≡◌, ℕ, List, Option, ⊤};
+ghost use Rattle.std.specs.Prelude.{◌≡◌, ℕ, List, Option, Some, None, ⊤};
 
 use bosh_ports::Link;
 
@@ -64,14 +64,14 @@ pub trait Network {
     /// The next link that someone made to this end. It may wait for it.
     fn accept(&mut self) -> Accepted<Self::Link>
         ensures counts { AcceptCounts (counts self.old) (counts self.new) result }
-        ensures events { MatchAccepted result (λ link. Begins (events self.old) (events self.new) (Self.Link.left link)) (events self.new ≡ events self.old) (events self.new ≡ events self.old) }
+        ensures events { MatchAccepted result (λ link. Begins (events self.old) (events self.new) None (Self.Link.left link)) (events self.new ≡ events self.old) (events self.new ≡ events self.old) }
         ensures faultless { MatchAccepted result (λ link. Self.Link.faults link ≡ 0) ⊤ ⊤ }
         ensures ungiven { MatchAccepted result (λ link. IsUngiven (events self.new) (Self.Link.given link)) ⊤ ⊤ };
 
     /// A new link to who listens at the port.
     fn dial(&mut self, port: u16) -> Dialled<Self::Link>
         ensures counts { DialCounts (counts self.old) (counts self.new) result }
-        ensures events { MatchDialled result (λ link. Begins (events self.old) (events self.new) (Self.Link.left link)) (events self.new ≡ events self.old) }
+        ensures events { MatchDialled result (λ link. Begins (events self.old) (events self.new) (Some port) (Self.Link.left link)) (events self.new ≡ events self.old) }
         ensures faultless { MatchDialled result (λ link. Self.Link.faults link ≡ 0) ⊤ }
         ensures ungiven { MatchDialled result (λ link. IsUngiven (events self.new) (Self.Link.given link)) ⊤ };
 

@@ -119,9 +119,9 @@ impl Link for PlannedLink {
     }
 }
 
-/// What became of a link: it began, with the bytes that it has to be taken, or it was retired.
+/// What became of a link: it began, with the port at which it was dialled, if it was, and the bytes that it has to be taken; or it was retired.
 #[derive(Debug, Drop)]
 pub enum Past {
-    Began(Vec<u8>),
+    Began(Option<u16>, Vec<u8>),
     Retired(PlannedLink),
 }
