@@ -1,5 +1,5 @@
 // Answers are taken, and their payloads handed out.
-ghost use Rattle.std.specs.Prelude.{◌≡◌, ℕ, ◌+◌, ◌<◌, ◌≤◌, IfOk, IfSome, List, [], None, OnErr, false, is_none, is_some, length, true};
+ghost use Rattle.std.specs.Prelude.{◌≡◌, ℕ, ◌+◌, ◌<◌, ◌≤◌, IfOk, IfSome, IsTrue, List, [], None, OnErr, false, is_none, is_some, length, true};
 ghost use Rattle.bosh_client.specs.Left.{left_in, left_of};
 ghost use Rattle.bosh_client.specs.Machine.{answer, hand_out, lacks_sid, with_answer};
 ghost use Rattle.bosh_client.specs.Places.{comes_next};
@@ -32,6 +32,9 @@ impl Client {
         ensures step { (plain : PlainClient) → StandsFor self.old plain
             → IfOk result (λ reply. Does self.new reply (answer plain rid body.now now)) }
         ensures err { OnErr result (self.new ≡ self.old) }
+
+        // Memory is wanted only for the answer to a request that was made and has none yet.
+        ensures wants { (plain : PlainClient) → StandsFor self.old plain → OnErr result (IsTrue (is_some (request_at plain rid)) × IsTrue (is_none (taken plain rid))) }
     {
         if !self.is_made(rid) {
             return Ok(Answered::Unmade);
