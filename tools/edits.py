@@ -2,10 +2,12 @@
 """Tries the edits of a crate that the gate doesn't try, those of its folder aside/: each turns what a function means, and the check has
 to refuse it. Edits of different functions are tried together, in one copy of the crate.
 
-usage: tools/edits.py [--list] [CRATE..]      at the top; no CRATE: each crate that has such edits; --list: only whether they still apply
+usage: tools/edits.py [--list] [--passes] [CRATE..]      at the top; no CRATE: each crate that has such edits
+       --list: only whether they still apply
+       --passes: the edits of the folder passes/, each of which the check still lets through, for the reason in its first line
 
 It begins with what `rt check` kept in the crate's out/, so run that first. Its last line counts; the status is 1 where an edit is still
-proved, can't be applied, or came to nothing.
+proved (with --passes: is refused by now), can't be applied, or came to nothing.
 """
 import os
 import re
@@ -133,8 +135,8 @@ def tell(crate, told, counts):
 
 
 def main(names):
-    only_list = "--list" in names
-    names = [it for it in names if it != "--list"]
+    only_list, passes = "--list" in names, "--passes" in names
+    names = [it for it in names if it not in ("--list", "--passes")]
     top = os.getcwd()
     sys.path.insert(0, f"{top}/tools")
     from kept_libraries import kit
@@ -143,7 +145,7 @@ def main(names):
     rt.Crate.allowed = rt.handles_of(top)
     counts = {}
     for crate in rt.crates_of(top):
-        aside = f"{crate.folder}/aside"
+        aside = f"{crate.folder}/{'passes' if passes else 'aside'}"
         if not os.path.isdir(aside) or (names and crate.name not in names):
             continue
         edits = [Edit(crate.folder, f"{aside}/{it}") for it in sorted(os.listdir(aside)) if it.endswith(".edit")]
@@ -153,10 +155,10 @@ def main(names):
             counts["applies"] = counts.get("applies", 0) + len(applied)
             continue
         words = [rt.rtlib.RATTLE, "check", *crate.words(["--jobs", "1"], keeps=False)]
-        for group in groups(applied):
+        for group in [[it] for it in applied] if passes else groups(applied):
             tell(crate.name, verdicts(crate.folder, group, words), counts)
     print(", ".join(f"{count} {kind}" for kind, count in sorted(counts.items())) or "no edits aside")
-    return 0 if set(counts) <= {"applies", "refused"} else 1
+    return 0 if set(counts) <= {"applies", "PROVED" if passes else "refused"} else 1
 
 
 if __name__ == "__main__":

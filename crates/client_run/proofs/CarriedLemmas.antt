@@ -16,7 +16,7 @@ use Rattle.bosh_http.specs.Texts.{post_text}
 use Rattle.bosh_ports.specs.Sink.{AppendsFront}
 use Rattle.parked_gate.specs.Histories.{StartsWith}
 use Rattle.parked_gate.specs.Passes.{Known}
-use Rattle.server_ports.specs.Events.{Event, Began, Retired, Begins, Grows, IsUngiven, Retires, exchanges}
+use Rattle.server_ports.specs.Events.{Event, Began, Retired, Begins, Grows, IsUngiven, Retires, exchanges, ports_dialled}
 use Rattle.server_ports.proofs.ExchangeLemmas.{retired_adds}
 use Rattle.client_run.specs.declared.call.Call.{Call}
 use Rattle.client_run.specs.declared.call.Call.TheVariants as calls
@@ -25,7 +25,7 @@ use Rattle.client_run.specs.declared.entry.Entry.{Entry}
 use Rattle.client_run.specs.Adding.{by_call}
 use Rattle.client_run.specs.Calls.{changes, reply_in}
 use Rattle.client_run.specs.Carried.{CarriesTold, IsResponses, IsRun, Run, Trip, WasNext, answer_in, answers_in, taken_answers, texts_of}
-use Rattle.client_run.specs.Working.{Called, Exchanges, Move, Moves, Side, TakesSome, Tries, Wire, answers, asks, dials, fails_to_dial, hand_after, looks, loses, more, none, refuses, request_in, retires, wants_memory}
+use Rattle.client_run.specs.Working.{Called, Exchanges, Move, Moves, Setting, Side, TakesSome, Tries, Wire, answers, asks, dials, fails_to_dial, hand_after, looks, loses, more, none, refuses, request_in, retires, setting_of, wants_memory}
 use Rattle.client_run.proofs.AddingLemmas.{Makes, called_makes, called_wants}
 use Rattle.client_run.proofs.EndLemmas.{next_name}
 use Rattle.client_run.proofs.LineLemmas.{refuses_tries}
@@ -76,21 +76,37 @@ record IsOpen (seen : List Entry) (wire : Wire) (stream : List ℕ) (trips : Lis
   responses : IsResponses trips taken wire.kept
   made : All (λ t. WasNext seen t.rid t.body) trips
 
+-- the ports that were dialled
+ports-append : (xs ys : List Event) → ports_dialled (xs ++ ys) ≡ ports_dialled xs ++ ports_dialled ys
+ports-append [] ys = refl
+ports-append (Began (Some port) stream ∷ xs) ys = ap (λ l. port ∷ l) (ports-append xs ys)
+ports-append (Began None stream ∷ xs) ys = ports-append xs ys
+ports-append (Retired rest gave ∷ xs) ys = ports-append xs ys
+
+ports_begun : (port : ℕ) (events : List Event) (stream : List ℕ) → All (λ other. other ≡ port) (ports_dialled events) → All (λ other. other ≡ port) (ports_dialled (events ++ Began (Some port) stream ∷ []))
+ports_begun port events stream all =
+    subst (All (λ other. other ≡ port)) (sym (ports-append events (Began (Some port) stream ∷ []))) (All-push (λ other. other ≡ port) (ports_dialled events) port all refl)
+
+ports_retired : (port : ℕ) (events : List Event) (rest gave : List ℕ) → All (λ other. other ≡ port) (ports_dialled events) → All (λ other. other ≡ port) (ports_dialled (events ++ Retired rest gave ∷ []))
+ports_retired port events rest gave all =
+    subst (All (λ other. other ≡ port)) (sym (ports-append events (Retired rest gave ∷ []) ∙ append-nil (ports_dialled events))) all
+
 -- the events are those of links that were retired, and of the one that is out
-abbrev AreThose : List Entry → Option Wire → List Event → List Event → List Trip → Type 0
-AreThose seen None before events trips = (events ≡ before) × (trips ≡ [])
-AreThose seen (Some wire) before events trips = (stream : List ℕ) × (events ≡ before ++ Began stream ∷ []) × IsOpen seen wire stream trips
+abbrev AreThose : ℕ → List Entry → Option Wire → List Event → List Event → List Trip → Type 0
+AreThose port seen None before events trips = (events ≡ before) × (trips ≡ [])
+AreThose port seen (Some wire) before events trips = (stream : List ℕ) × (events ≡ before ++ Began (Some port) stream ∷ []) × IsOpen seen wire stream trips
 
 -- what was carried so far, by a worker that began with such entries
-record So (first : List Entry) (earlier : Option (List Event)) (known : Known Entry) (wire : Option Wire) (hand : Option (ℕ × List ℕ)) (told : List Event) : Type 0 where
+record So (port : ℕ) (first : List Entry) (earlier : Option (List Event)) (known : Known Entry) (wire : Option Wire) (hand : Option (ℕ × List ℕ)) (told : List Event) : Type 0 where
   before : List Event
   events : List Event
   grows : Grows earlier (Some told) events
+  ports : All (λ other. other ≡ port) (ports_dialled events)
   runs : List Run
   trips : List Trip
   exchanged : exchanges before ≡ map (λ run. run.exchange) runs
   carried : All (IsRun known.seen) runs
-  those : AreThose known.seen wire before events trips
+  those : AreThose port known.seen wire before events trips
   next : IfSome hand (λ r. WasNext known.seen r.0 r.1)
   added : List Entry
   mine : known.mine ≡ first ++ added
@@ -107,9 +123,9 @@ open_later old new wire stream trips grows is = record {
   made = trips_later old new trips grows is.made;
 }
 
-those_later : (old new : List Entry) (wire : Option Wire) (before events : List Event) (trips : List Trip) → StartsWith new old → AreThose old wire before events trips → AreThose new wire before events trips
-those_later old new None before events trips grows those = those
-those_later old new (Some wire) before events trips grows (stream, are, is) = (stream, are, open_later old new wire stream trips grows is)
+those_later : (port : ℕ) (old new : List Entry) (wire : Option Wire) (before events : List Event) (trips : List Trip) → StartsWith new old → AreThose port old wire before events trips → AreThose port new wire before events trips
+those_later port old new None before events trips grows those = those
+those_later port old new (Some wire) before events trips grows (stream, are, is) = (stream, are, open_later old new wire stream trips grows is)
 
 -- Entries without an answer were added, or none.
 
@@ -199,35 +215,37 @@ same_told : (a b : List ℕ) (o : Option (List ℕ)) → o ≡ Some a → o ≡ 
 same_told a b (Some bytes) one two = cc
 same_told a b None one two = absurd (cc)
 
-module _ (first : List Entry) (earlier : Option (List Event)) where
+module _ (port : ℕ) (first : List Entry) (earlier : Option (List Event)) where
   -- nothing but what was seen is new, and entries that give no answer
   more_seen : (old new : Known Entry) (wire : Option Wire) (hand later : Option (ℕ × List ℕ)) (told : List Event) (added : List Entry) → StartsWith new.seen old.seen → new.mine ≡ old.mine ++ added → answers_in added ≡ []
-      → IfSome later (λ r. WasNext new.seen r.0 r.1) → So first earlier old wire hand told → So first earlier new wire later told
+      → IfSome later (λ r. WasNext new.seen r.0 r.1) → So port first earlier old wire hand told → So port first earlier new wire later told
   more_seen old new wire hand later told added grows mine none_in next so = record {
     before = so.before;
     events = so.events;
     grows = so.grows;
+    ports = so.ports;
     runs = so.runs;
     trips = so.trips;
     exchanged = so.exchanged;
     carried = All-weaker (IsRun old.seen) (IsRun new.seen) (run_later old.seen new.seen grows) so.runs so.carried;
-    those = those_later old.seen new.seen wire so.before so.events so.trips grows so.those;
+    those = those_later port old.seen new.seen wire so.before so.events so.trips grows so.those;
     next = next;
     added = so.added ++ added;
     mine = mine ∙ ap (λ front. front ++ added) so.mine ∙ append_assoc first so.added added;
     answered = flat_map-append (λ e. by_call [] answer_in e.entered) so.added added ∙ ap (λ l. answers_in so.added ++ l) none_in ∙ append-nil (answers_in so.added) ∙ so.answered;
   }
 
-  same_hand : (old new : Known Entry) (wire : Option Wire) (hand : Option (ℕ × List ℕ)) (told : List Event) → StartsWith new.seen old.seen → new.mine ≡ old.mine → So first earlier old wire hand told → So first earlier new wire hand told
+  same_hand : (old new : Known Entry) (wire : Option Wire) (hand : Option (ℕ × List ℕ)) (told : List Event) → StartsWith new.seen old.seen → new.mine ≡ old.mine → So port first earlier old wire hand told → So port first earlier new wire hand told
   same_hand old new wire hand told grows same so = more_seen old new wire hand hand told [] grows (same ∙ sym (append-nil old.mine)) refl (hand_later old.seen new.seen hand grows so.next) so
 
   -- A link begins.
   begun : (known : Known Entry) (hand : Option (ℕ × List ℕ)) (wire : Wire) (stream : List ℕ) (told : List Event) → wire.left ≡ Some stream → wire.given ≡ Some [] → wire.kept ≡ []
-      → So first earlier known None hand told → So first earlier known (Some wire) hand (told ++ Began stream ∷ [])
+      → So port first earlier known None hand told → So port first earlier known (Some wire) hand (told ++ Began (Some port) stream ∷ [])
   begun known hand wire stream told left_is given_is kept so = record {
     before = so.before;
-    events = so.before ++ Began stream ∷ [];
-    grows = subst (λ l. Grows earlier (Some (told ++ Began stream ∷ [])) (l ++ Began stream ∷ [])) so.those.0 (told_more earlier told so.events (Began stream ∷ []) so.grows);
+    events = so.before ++ Began (Some port) stream ∷ [];
+    grows = subst (λ l. Grows earlier (Some (told ++ Began (Some port) stream ∷ [])) (l ++ Began (Some port) stream ∷ [])) so.those.0 (told_more earlier told so.events (Began (Some port) stream ∷ []) so.grows);
+    ports = ports_begun port so.before stream (subst (λ events. All (λ other. other ≡ port) (ports_dialled events)) so.those.0 so.ports);
     runs = so.runs;
     trips = [];
     exchanged = so.exchanged;
@@ -246,19 +264,21 @@ module _ (first : List Entry) (earlier : Option (List Event)) where
     run_is : IsRun seen (record { trips = trips; last = last; exchange = record { taken = taken; given = gave } })
 
   ended : (known : Known Entry) (hand : Option (ℕ × List ℕ)) (wire : Wire) (rest gave : List ℕ) (told : List Event) (last : Option (ℕ × List ℕ))
-      → (so : So first earlier known (Some wire) hand told) → IsRetired known.seen so.those.0 rest gave so.trips last → So first earlier known None hand (told ++ Retired rest gave ∷ [])
+      → (so : So port first earlier known (Some wire) hand told) → IsRetired known.seen so.those.0 rest gave so.trips last → So port first earlier known None hand (told ++ Retired rest gave ∷ [])
   ended known hand wire rest gave told last so is =
       let run : Run = record { trips = so.trips; last = last; exchange = record { taken = is.taken; given = gave } } in
       let stream = so.those.0 in
-      let all = (so.before ++ Began (is.taken ++ rest) ∷ []) ++ Retired rest gave ∷ [] in
+      let all = (so.before ++ Began (Some port) (is.taken ++ rest) ∷ []) ++ Retired rest gave ∷ [] in
       record {
         before = all;
         events = all;
-        grows = subst (λ l. Grows earlier (Some (told ++ Retired rest gave ∷ [])) (l ++ Retired rest gave ∷ [])) (so.those.1 ∙ ap (λ bytes. so.before ++ Began bytes ∷ []) is.stream_is)
+        grows = subst (λ l. Grows earlier (Some (told ++ Retired rest gave ∷ [])) (l ++ Retired rest gave ∷ [])) (so.those.1 ∙ ap (λ bytes. so.before ++ Began (Some port) bytes ∷ []) is.stream_is)
             (told_more earlier told so.events (Retired rest gave ∷ []) so.grows);
+        ports = ports_retired port (so.before ++ Began (Some port) (is.taken ++ rest) ∷ []) rest gave
+            (subst (λ events. All (λ other. other ≡ port) (ports_dialled events)) (so.those.1 ∙ ap (λ bytes. so.before ++ Began (Some port) bytes ∷ []) is.stream_is) so.ports);
         runs = so.runs ++ run ∷ [];
         trips = [];
-        exchanged = retired_adds so.before is.taken rest gave ∙ ap (λ l. l ++ run.exchange ∷ []) so.exchanged ∙ sym (exchanges_push so.runs run);
+        exchanged = retired_adds so.before (Some port) is.taken rest gave ∙ ap (λ l. l ++ run.exchange ∷ []) so.exchanged ∙ sym (exchanges_push so.runs run);
         carried = All-push (IsRun known.seen) so.runs run so.carried is.run_is;
         those = (refl, refl);
         next = so.next;
@@ -271,7 +291,7 @@ module _ (first : List Entry) (earlier : Option (List Event)) where
   -- An answer was read and given to the client.
   module _ (known new : Known Entry) (rid now : ℕ) (body answer : List ℕ) (wire later : Wire) (a : Answered) (told : List Event)
       (exchange : Exchanges wire later body answer) (called : Called (calls.Answer rid answer now) (Ok (replies.Answered a)) known new)
-      (so : So first earlier known (Some wire) (Some (rid, body)) told) where
+      (so : So port first earlier known (Some wire) (Some (rid, body)) told) where
     abbrev changed : Bool
     changed = changes (reply_in (replies.Answered a))
 
@@ -301,11 +321,12 @@ module _ (first : List Entry) (earlier : Option (List Event)) where
     entered : (added : List Entry) × (new.mine ≡ known.mine ++ added) × (answers_in added ≡ (if changed then (rid, answer) ∷ [] else []))
     entered = with_answer rid now answer changed known.mine new.mine (called_makes (calls.Answer rid answer now) (replies.Answered a) known new called)
 
-    answered : So first earlier new (Some later) (hand_after a (Some (rid, body))) told
+    answered : So port first earlier new (Some later) (hand_after a (Some (rid, body))) told
     answered = record {
       before = so.before;
       events = so.events;
       grows = so.grows;
+      ports = so.ports;
       runs = so.runs;
       trips = so.trips ++ trip ∷ [];
       exchanged = so.exchanged;
@@ -335,7 +356,7 @@ module _ (first : List Entry) (earlier : Option (List Event)) where
   -- What a link that is retired has carried.
 
   closed_idle : (known : Known Entry) (wire : Wire) (hand : Option (ℕ × List ℕ)) (told : List Event) (rest gave : List ℕ) → wire.left ≡ Some rest → wire.given ≡ Some gave
-      → (so : So first earlier known (Some wire) hand told) → IsRetired known.seen so.those.0 rest gave so.trips None
+      → (so : So port first earlier known (Some wire) hand told) → IsRetired known.seen so.those.0 rest gave so.trips None
   closed_idle known wire hand told rest gave left_is given_is so =
       let still = so.those.2 in
       record {
@@ -353,7 +374,7 @@ module _ (first : List Entry) (earlier : Option (List Event)) where
       }
 
   closed_trying : (known : Known Entry) (wire later : Wire) (rid : ℕ) (body : List ℕ) (told : List Event) (rest gave : List ℕ) → Tries wire later body → later.left ≡ Some rest → later.given ≡ Some gave
-      → (so : So first earlier known (Some wire) (Some (rid, body)) told) → IsRetired known.seen so.those.0 rest gave so.trips (Some (rid, body))
+      → (so : So port first earlier known (Some wire) (Some (rid, body)) told) → IsRetired known.seen so.those.0 rest gave so.trips (Some (rid, body))
   closed_trying known wire later rid body told rest gave tries left_is given_is so =
       let still = so.those.2 in
       let takes = took so.those.0 still.taken still.left wire.left later.left still.left_is still.stream_is tries.left rest left_is in
@@ -374,8 +395,8 @@ module _ (first : List Entry) (earlier : Option (List Event)) where
 
   -- Where the events are told.
 
-  begun_told : (known : Known Entry) (hand : Option (ℕ × List ℕ)) (wire : Wire) (old new : Option (List Event)) → Begins old new wire.left → IsUngiven new wire.given → wire.kept ≡ []
-      → IfSome old (So first earlier known None hand) → IfSome new (So first earlier known (Some wire) hand)
+  begun_told : (known : Known Entry) (hand : Option (ℕ × List ℕ)) (wire : Wire) (old new : Option (List Event)) → Begins old new (Some port) wire.left → IsUngiven new wire.given → wire.kept ≡ []
+      → IfSome old (So port first earlier known None hand) → IfSome new (So port first earlier known (Some wire) hand)
   begun_told known hand wire old None begins ungiven kept so = tt
   begun_told known hand wire old (Some told) begins ungiven kept so = by wire.left refl begins
     where
@@ -383,25 +404,25 @@ module _ (first : List Entry) (earlier : Option (List Event)) where
       given_is (inl is) = is
       given_is (inr (untold, given)) = absurd (cc)
 
-      grown : (o : Option (List Event)) (stream : List ℕ) → wire.left ≡ Some stream → Grows o (Some told) (Began stream ∷ []) → IfSome o (So first earlier known None hand) → So first earlier known (Some wire) hand told
+      grown : (o : Option (List Event)) (stream : List ℕ) → wire.left ≡ Some stream → Grows o (Some told) (Began (Some port) stream ∷ []) → IfSome o (So port first earlier known None hand) → So port first earlier known (Some wire) hand told
       grown None stream is grows so = absurd grows
-      grown (Some old) stream is grows so = subst (So first earlier known (Some wire) hand) (sym grows) (begun known hand wire stream old is (given_is ungiven) kept so)
+      grown (Some old) stream is grows so = subst (So port first earlier known (Some wire) hand) (sym grows) (begun known hand wire stream old is (given_is ungiven) kept so)
 
-      by : (l : Option (List ℕ)) → wire.left ≡ l → IsSomeAnd l (λ stream. Grows old (Some told) (Began stream ∷ [])) → So first earlier known (Some wire) hand told
+      by : (l : Option (List ℕ)) → wire.left ≡ l → IsSomeAnd l (λ stream. Grows old (Some told) (Began (Some port) stream ∷ [])) → So port first earlier known (Some wire) hand told
       by None is begins = absurd begins
       by (Some stream) is begins = grown old stream is begins so
 
   ended_told : (known : Known Entry) (hand last : Option (ℕ × List ℕ)) (wire later : Wire) (old new : Option (List Event)) → Retires old new later.left later.given
-      → ((told : List Event) (rest gave : List ℕ) → later.left ≡ Some rest → later.given ≡ Some gave → (so : So first earlier known (Some wire) hand told) → IsRetired known.seen so.those.0 rest gave so.trips last)
-      → IfSome old (So first earlier known (Some wire) hand) → IfSome new (So first earlier known None hand)
+      → ((told : List Event) (rest gave : List ℕ) → later.left ≡ Some rest → later.given ≡ Some gave → (so : So port first earlier known (Some wire) hand told) → IsRetired known.seen so.those.0 rest gave so.trips last)
+      → IfSome old (So port first earlier known (Some wire) hand) → IfSome new (So port first earlier known None hand)
   ended_told known hand last wire later old None ends closes so = tt
   ended_told known hand last wire later old (Some told) ends closes so = by later.left later.given refl refl ends
     where
-      grown : (o : Option (List Event)) (rest gave : List ℕ) → later.left ≡ Some rest → later.given ≡ Some gave → Grows o (Some told) (Retired rest gave ∷ []) → IfSome o (So first earlier known (Some wire) hand) → So first earlier known None hand told
+      grown : (o : Option (List Event)) (rest gave : List ℕ) → later.left ≡ Some rest → later.given ≡ Some gave → Grows o (Some told) (Retired rest gave ∷ []) → IfSome o (So port first earlier known (Some wire) hand) → So port first earlier known None hand told
       grown None rest gave left_is given_is grows so = absurd grows
-      grown (Some old) rest gave left_is given_is grows so = subst (So first earlier known None hand) (sym grows) (ended known hand wire rest gave old last so (closes old rest gave left_is given_is so))
+      grown (Some old) rest gave left_is given_is grows so = subst (So port first earlier known None hand) (sym grows) (ended known hand wire rest gave old last so (closes old rest gave left_is given_is so))
 
-      by : (l g : Option (List ℕ)) → later.left ≡ l → later.given ≡ g → IsSomeAnd l (λ rest. IsSomeAnd g (λ gave. Grows old (Some told) (Retired rest gave ∷ []))) → So first earlier known None hand told
+      by : (l g : Option (List ℕ)) → later.left ≡ l → later.given ≡ g → IsSomeAnd l (λ rest. IsSomeAnd g (λ gave. Grows old (Some told) (Retired rest gave ∷ []))) → So port first earlier known None hand told
       by None g left_is given_is ends = absurd ends
       by (Some rest) None left_is given_is ends = absurd ends
       by (Some rest) (Some gave) left_is given_is ends = grown old rest gave left_is given_is ends so
@@ -410,46 +431,47 @@ module _ (first : List Entry) (earlier : Option (List Event)) where
   if_told None P Q f p = tt
   if_told (Some told) P Q f p = f told p
 
-  carried_moved : (moment : Option ℕ) (s t : Side) → Move moment s t → IfSome s.events (So first earlier s.known s.wire s.hand) → IfSome t.events (So first earlier t.known t.wire t.hand)
+  carried_moved : (moment : Option ℕ) (s t : Side) → Move (setting_of moment port) s t → IfSome s.events (So port first earlier s.known s.wire s.hand) → IfSome t.events (So port first earlier t.known t.wire t.hand)
   carried_moved moment s t (dials events counts wire out begins ungiven kept counted) so =
-      begun_told s.known s.hand wire s.events events begins ungiven kept (subst (λ w. IfSome s.events (So first earlier s.known w s.hand)) out so)
+      begun_told s.known s.hand wire s.events events begins ungiven kept (subst (λ w. IfSome s.events (So port first earlier s.known w s.hand)) out so)
   carried_moved moment s t (fails_to_dial counts out failed) so = so
   carried_moved moment s t (asks new next now hand at called) so =
       let added = without_answer (calls.Next now) (changes (reply_in (replies.Next next))) s.known.mine new.mine refl (called_makes (calls.Next now) (replies.Next next) s.known new called) in
-      if_told s.events (So first earlier s.known s.wire s.hand) (So first earlier new s.wire (request_in next))
+      if_told s.events (So port first earlier s.known s.wire s.hand) (So port first earlier new s.wire (request_in next))
       (λ told so. more_seen s.known new s.wire s.hand (request_in next) told added.0 (calls_begin s.known new called) added.1 added.2 (asked_next s.known new now next called) so) so
   carried_moved moment s t (looks new question answer asked) so =
-      if_told s.events (So first earlier s.known s.wire s.hand) (So first earlier new s.wire s.hand) (λ told so. same_hand s.known new s.wire s.hand told asked.begins asked.mine so) so
+      if_told s.events (So port first earlier s.known s.wire s.hand) (So port first earlier new s.wire s.hand) (λ told so. same_hand s.known new s.wire s.hand told asked.begins asked.mine so) so
   carried_moved moment s t (wants_memory new call error called) so =
-      if_told s.events (So first earlier s.known s.wire s.hand) (So first earlier new s.wire s.hand)
+      if_told s.events (So port first earlier s.known s.wire s.hand) (So port first earlier new s.wire s.hand)
       (λ told so. same_hand s.known new s.wire s.hand told (calls_begin s.known new called) (called_wants call error s.known new called) so) so
   carried_moved moment s t (answers new rid body answer old wire now a hand out exchanges at called) so =
-      if_told s.events (So first earlier s.known s.wire s.hand) (So first earlier new (Some wire) (hand_after a s.hand))
-      (λ told so. subst (λ h. So first earlier new (Some wire) (hand_after a h) told) (sym hand)
-      (answered s.known new rid now body answer old wire a told exchanges called (subst (λ h. So first earlier s.known (Some old) h told) hand (subst (λ w. So first earlier s.known w s.hand told) out so)))) so
+      if_told s.events (So port first earlier s.known s.wire s.hand) (So port first earlier new (Some wire) (hand_after a s.hand))
+      (λ told so. subst (λ h. So port first earlier new (Some wire) (hand_after a h) told) (sym hand)
+      (answered s.known new rid now body answer old wire a told exchanges called (subst (λ h. So port first earlier s.known (Some old) h told) hand (subst (λ w. So port first earlier s.known w s.hand told) out so)))) so
   carried_moved moment s t (loses rid body old wire events counts row hand out tries retired counted) so =
-      subst (λ h. IfSome events (So first earlier s.known None h)) (sym hand)
+      subst (λ h. IfSome events (So port first earlier s.known None h)) (sym hand)
       (ended_told s.known (Some (rid, body)) (Some (rid, body)) old wire s.events events retired (λ told rest gave left_is given_is so. closed_trying s.known old wire rid body told rest gave tries left_is given_is so)
-      (subst (λ h. IfSome s.events (So first earlier s.known (Some old) h)) hand (subst (λ w. IfSome s.events (So first earlier s.known w s.hand)) out so)))
+      (subst (λ h. IfSome s.events (So port first earlier s.known (Some old) h)) hand (subst (λ w. IfSome s.events (So port first earlier s.known w s.hand)) out so)))
   carried_moved moment s t (refuses rid body old wire events status hand out was retired) so =
-      subst (λ h. IfSome events (So first earlier s.known None h)) (sym hand)
+      subst (λ h. IfSome events (So port first earlier s.known None h)) (sym hand)
       (ended_told s.known (Some (rid, body)) (Some (rid, body)) old wire s.events events retired (λ told rest gave left_is given_is so. closed_trying s.known old wire rid body told rest gave (refuses_tries old wire body status was) left_is given_is so)
-      (subst (λ h. IfSome s.events (So first earlier s.known (Some old) h)) hand (subst (λ w. IfSome s.events (So first earlier s.known w s.hand)) out so)))
+      (subst (λ h. IfSome s.events (So port first earlier s.known (Some old) h)) hand (subst (λ w. IfSome s.events (So port first earlier s.known w s.hand)) out so)))
   carried_moved moment s t (retires old events out retired) so =
       ended_told s.known s.hand None old old s.events events retired (λ told rest gave left_is given_is so. closed_idle s.known old s.hand told rest gave left_is given_is so)
-      (subst (λ w. IfSome s.events (So first earlier s.known w s.hand)) out so)
+      (subst (λ w. IfSome s.events (So port first earlier s.known w s.hand)) out so)
 
-  carried_moves : (moment : Option ℕ) (s t : Side) → Moves moment s t → IfSome s.events (So first earlier s.known s.wire s.hand) → IfSome t.events (So first earlier t.known t.wire t.hand)
+  carried_moves : (moment : Option ℕ) (s t : Side) → Moves (setting_of moment port) s t → IfSome s.events (So port first earlier s.known s.wire s.hand) → IfSome t.events (So port first earlier t.known t.wire t.hand)
   carried_moves moment s t none so = so
   carried_moves moment s t (more {t = mid} moves move) so = carried_moved moment mid t move (carried_moves moment s mid moves so)
 
 -- at first nothing was carried
-nothing_yet : (known : Known Entry) (events : Option (List Event)) → IfSome events (So known.mine events known None None)
-nothing_yet known None = tt
-nothing_yet known (Some told) = record {
+nothing_yet : (port : ℕ) (known : Known Entry) (events : Option (List Event)) → IfSome events (So port known.mine events known None None)
+nothing_yet port known None = tt
+nothing_yet port known (Some told) = record {
   before = [];
   events = [];
   grows = sym (append-nil told);
+  ports = All-nil (λ other. other ≡ port);
   runs = [];
   trips = [];
   exchanged = refl;
@@ -462,16 +484,17 @@ nothing_yet known (Some told) = record {
 }
 
 -- What a worker's links carried, where none was out at first and none is in the end.
-pub moves_carry : (moment : Option ℕ) (s t : Side) → Moves moment s t → s.wire ≡ None → s.hand ≡ None → t.wire ≡ None → CarriesTold s.known t.known s.events t.events
-moves_carry moment s t moves out hand back =
-    by t.events (subst (λ w. IfSome t.events (So s.known.mine s.events t.known w t.hand)) back
-    (carried_moves s.known.mine s.events moment s t moves (subst (λ w. IfSome s.events (So s.known.mine s.events s.known w s.hand)) (sym out) (subst (λ h. IfSome s.events (So s.known.mine s.events s.known None h)) (sym hand) (nothing_yet s.known s.events)))))
+pub moves_carry : (setting : Setting) (s t : Side) → Moves setting s t → s.wire ≡ None → s.hand ≡ None → t.wire ≡ None → CarriesTold setting.port s.known t.known s.events t.events
+moves_carry setting s t moves out hand back =
+    by t.events (subst (λ w. IfSome t.events (So setting.port s.known.mine s.events t.known w t.hand)) back
+    (carried_moves setting.port s.known.mine s.events setting.moment s t moves (subst (λ w. IfSome s.events (So setting.port s.known.mine s.events s.known w s.hand)) (sym out) (subst (λ h. IfSome s.events (So setting.port s.known.mine s.events s.known None h)) (sym hand) (nothing_yet setting.port s.known s.events)))))
   where
-    by : (o : Option (List Event)) → IfSome o (So s.known.mine s.events t.known None t.hand) → CarriesTold s.known t.known s.events o
-    by None so = record { events = []; grows = tt; carries = tt }
+    by : (o : Option (List Event)) → IfSome o (So setting.port s.known.mine s.events t.known None t.hand) → CarriesTold setting.port s.known t.known s.events o
+    by None so = record { events = []; grows = tt; carries = tt; dialled = All-nil (λ other. other ≡ setting.port) }
     by (Some told) so = record {
       events = so.before;
       grows = subst (Grows s.events (Some told)) so.those.0 so.grows;
+      dialled = subst (λ events. All (λ other. other ≡ setting.port) (ports_dialled events)) so.those.0 so.ports;
       carries = record {
         runs = so.runs;
         exchanged = so.exchanged;

@@ -32,7 +32,7 @@ use Rattle.client_run.specs.Calls.{call_in}
 use Rattle.client_run.specs.History.{After, client_begun, client_by, client_from, client_in}
 use Rattle.client_run.specs.Running.{BothFinished, EndTold, Finished, GatheredTells, Gathers, IsEndOf, IsOver, IsToilOf, TakesBoth, TakesOne, WasOver, finishes, gathered_of, is_end_of, is_refusal, is_over, is_toil_of, is_over_by, worse_of}
 use Rattle.client_run.specs.Worked.{IsDone, Works, has_read, is_fault}
-use Rattle.client_run.specs.Working.{Side, side_of}
+use Rattle.client_run.specs.Working.{Setting, Side, side_of}
 use Rattle.client_run.proofs.RiseLemmas.{moves_count, starts_later}
 
 -- A client that is over stays so.
@@ -154,7 +154,7 @@ pub all_kept : (old new : Known Entry) → list_all (is_entry is_of_worker) old.
 all_kept old new all adds =
     ap (λ es. list_all (is_entry is_of_worker) es) adds.mine ∙ list_all-append (is_entry is_of_worker) old.mine adds.added ∙ ap (λ b. b && list_all (is_entry is_of_worker) adds.added) all ∙ adds.holds
 
-module _ (moment : Option ℕ) (start : Side) (known : Known Entry) (events : Option (List Event)) (counts : Counts) where
+module _ (setting : Setting) (start : Side) (known : Known Entry) (events : Option (List Event)) (counts : Counts) where
   some_test : (n : ℕ) → 0 < n → nat_lt 0 n ≡ true
   some_test n some = grind (arith, nat_tests, some)
 
@@ -165,22 +165,22 @@ module _ (moment : Option ℕ) (start : Side) (known : Known Entry) (events : Op
   finishing over dialled mine = and_both _ _ (to_test known.seen over) (and_both _ _ (some_test counts.dialled dialled) mine)
 
   -- a worker whose own entries were requests and answers alone before
-  pub end_by : (worked : Worked) → Works moment start known events counts None (Ok worked)
+  pub end_by : (worked : Worked) → Works setting start known events counts None (Ok worked)
       → (is_fault worked ≡ true → HasRisen start.counts.faults counts.faults) → (has_read worked ≡ true → HasRisen start.counts.dialled counts.dialled)
       → ((status : ℕ) → worked ≡ Refused status → status ≢ 200) → list_all (is_entry is_of_worker) known.mine ≡ true → IsToilOf (Ok worked) known counts
   unfolding is_toil_of
   end_by worked.Done works fault dialled refused mine =
       finishing (record { plain = works.ends.plain; is = works.ends.is; holds = done_over works.ends.plain works.ends.holds })
-      (some_risen start.counts.dialled counts.dialled (dialled refl) (moves_count moment start (side_of known events counts None works.hand works.row) works.moves).dialled) mine
+      (some_risen start.counts.dialled counts.dialled (dialled refl) (moves_count setting start (side_of known events counts None works.hand works.row) works.moves).dialled) mine
   end_by (worked.Ended condition) works fault dialled refused mine =
       finishing (record { plain = works.ends.plain; is = works.ends.is; holds = inl (ended_is (end_of works.ends.plain) _ works.ends.holds) })
-      (some_risen start.counts.dialled counts.dialled (dialled refl) (moves_count moment start (side_of known events counts None works.hand works.row) works.moves).dialled) mine
-  end_by worked.DialFault works fault dialled refused mine = some_test counts.faults (some_risen start.counts.faults counts.faults (fault refl) (moves_count moment start (side_of known events counts None works.hand works.row) works.moves).faults)
-  end_by worked.ReadFault works fault dialled refused mine = some_test counts.faults (some_risen start.counts.faults counts.faults (fault refl) (moves_count moment start (side_of known events counts None works.hand works.row) works.moves).faults)
-  end_by worked.WriteFault works fault dialled refused mine = some_test counts.faults (some_risen start.counts.faults counts.faults (fault refl) (moves_count moment start (side_of known events counts None works.hand works.row) works.moves).faults)
+      (some_risen start.counts.dialled counts.dialled (dialled refl) (moves_count setting start (side_of known events counts None works.hand works.row) works.moves).dialled) mine
+  end_by worked.DialFault works fault dialled refused mine = some_test counts.faults (some_risen start.counts.faults counts.faults (fault refl) (moves_count setting start (side_of known events counts None works.hand works.row) works.moves).faults)
+  end_by worked.ReadFault works fault dialled refused mine = some_test counts.faults (some_risen start.counts.faults counts.faults (fault refl) (moves_count setting start (side_of known events counts None works.hand works.row) works.moves).faults)
+  end_by worked.WriteFault works fault dialled refused mine = some_test counts.faults (some_risen start.counts.faults counts.faults (fault refl) (moves_count setting start (side_of known events counts None works.hand works.row) works.moves).faults)
   end_by (worked.Refused status) works fault dialled refused mine =
       and_both (not (status == 200)) (nat_lt 0 counts.dialled) (other_test status (refused status refl))
-      (some_test counts.dialled (some_risen start.counts.dialled counts.dialled (dialled refl) (moves_count moment start (side_of known events counts None works.hand works.row) works.moves).dialled))
+      (some_test counts.dialled (some_risen start.counts.dialled counts.dialled (dialled refl) (moves_count setting start (side_of known events counts None works.hand works.row) works.moves).dialled))
   end_by worked.Silent works fault dialled refused mine = refl
 
 pub end_wanting : (error : AllocError) (known : Known Entry) (counts : Counts) → IsToilOf (Err error) known counts

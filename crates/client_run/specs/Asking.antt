@@ -10,17 +10,17 @@ use Rattle.client_run.specs.declared.call.Call.TheVariants as calls
 use Rattle.client_run.specs.declared.call.Question.TheVariants as questions
 use Rattle.client_run.specs.declared.call.Reply.TheVariants as replies
 use Rattle.client_run.specs.declared.entry.Entry.{Entry}
-use Rattle.client_run.specs.Working.{Asked, Called, IsAt}
+use Rattle.client_run.specs.Working.{Asked, Called, IsAt, Setting}
 
 -- the next request was asked for
-abbrev pub AsksBy : Option ℕ → Known Entry → Known Entry → Result Next AllocError → Type 0
-AsksBy moment old new (Ok next) = (now : ℕ) × IsAt moment now × Called (calls.Next now) (Ok (replies.Next next)) old new
-AsksBy moment old new (Err error) = (now : ℕ) × Called (calls.Next now) (Err error) old new
+abbrev pub AsksBy : Setting → Known Entry → Known Entry → Result Next AllocError → Type 0
+AsksBy setting old new (Ok next) = (now : ℕ) × IsAt setting.moment now × Called (calls.Next now) (Ok (replies.Next next)) old new
+AsksBy setting old new (Err error) = (now : ℕ) × Called (calls.Next now) (Err error) old new
 
 -- an answer was given
-abbrev pub AnswersBy : Option ℕ → ℕ → List ℕ → Known Entry → Known Entry → Result Answered AllocError → Type 0
-AnswersBy moment rid body old new (Ok answered) = (now : ℕ) × IsAt moment now × Called (calls.Answer rid body now) (Ok (replies.Answered answered)) old new
-AnswersBy moment rid body old new (Err error) = (now : ℕ) × Called (calls.Answer rid body now) (Err error) old new
+abbrev pub AnswersBy : Setting → ℕ → List ℕ → Known Entry → Known Entry → Result Answered AllocError → Type 0
+AnswersBy setting rid body old new (Ok answered) = (now : ℕ) × IsAt setting.moment now × Called (calls.Answer rid body now) (Ok (replies.Answered answered)) old new
+AnswersBy setting rid body old new (Err error) = (now : ℕ) × Called (calls.Answer rid body now) (Err error) old new
 
 -- it was looked at how the client ended
 abbrev pub LooksBy : Known Entry → Known Entry → Option ClientEnd → Type 0

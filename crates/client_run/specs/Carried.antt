@@ -6,7 +6,7 @@ use Rattle.bosh_http.specs.Response.{IsResponseMessage}
 use Rattle.bosh_http.specs.Texts.{post_text}
 use Rattle.parked_gate.specs.Histories.{StartsWith}
 use Rattle.parked_gate.specs.Passes.{Known}
-use Rattle.server_ports.specs.Events.{Event, Exchange, Grows, exchanges}
+use Rattle.server_ports.specs.Events.{Event, Exchange, Grows, exchanges, ports_dialled}
 use Rattle.client_run.specs.declared.call.Call.{Call}
 use Rattle.client_run.specs.declared.call.Call.TheVariants as calls
 use Rattle.client_run.specs.declared.entry.Entry.{Entry}
@@ -83,8 +83,9 @@ pub record Carries (old new : Known Entry) (events : List Event) : Type 0 where
   pub mine : new.mine ≡ old.mine ++ added
   pub answers : answers_in added ≡ flat_map (λ run. taken_answers run.trips) runs
 
--- the same, where the network tells its events
-pub record CarriesTold (old new : Known Entry) (earlier later : Option (List Event)) : Type 0 where
+-- the same, where the network tells its events, and no port was dialled but this one
+pub record CarriesTold (port : ℕ) (old new : Known Entry) (earlier later : Option (List Event)) : Type 0 where
   pub events : List Event
   pub grows : Grows earlier later events
   pub carries : IfSome later (λ _. Carries old new events)
+  pub dialled : All (λ other. other ≡ port) (ports_dialled events)

@@ -21,7 +21,7 @@ use Rattle.client_run.specs.declared.line.Line.{Line}
 use Rattle.client_run.specs.declared.worked.Worked.{Worked}
 use Rattle.client_run.specs.declared.worked.Worked.TheVariants as worked
 use Rattle.client_run.specs.History.{After}
-use Rattle.client_run.specs.Working.{IsAt, Moves, Row, Side, Wire, no_row, row_failed, row_of, row_passed, row_refused, side_of}
+use Rattle.client_run.specs.Working.{IsAt, Moves, Row, Setting, Side, Wire, no_row, row_failed, row_of, row_passed, row_refused, side_of}
 
 -- a dial that failed is one fault more in a row
 abbrev pub row_after : {X : Type 0} → Option X → Row → Row
@@ -37,13 +37,13 @@ IfSettled (tried.Refused status) P = Unit {0}
 IfSettled (tried.Fault fault) P = Unit {0}
 
 -- what one try came to, from moves up to it: the answer was taken, and the link goes on; or there is no link any more
-abbrev pub TriesBy : {L : Type 0} → (Line L → Wire) → Option ℕ → Side → Side → Result (Tried L) AllocError → Type 0
-TriesBy wire moment start s (Ok (tried.Settled line)) = Moves moment start (record s { wire = Some (wire line); hand = None; row = no_row })
-TriesBy wire moment start s (Ok tried.Broken) = Moves moment start (record s { wire = None; row = no_row })
-TriesBy wire moment start s (Ok tried.Nothing) = Moves moment start (record s { wire = None; row = row_passed s.row })
-TriesBy wire moment start s (Ok (tried.Refused status)) = Moves moment start (record s { wire = None; row = row_refused s.row status })
-TriesBy wire moment start s (Ok (tried.Fault fault)) = Moves moment start (record s { wire = None; row = row_failed s.row })
-TriesBy wire moment start s (Err error) = (row : Row) × Moves moment start (record s { wire = None; row = row })
+abbrev pub TriesBy : {L : Type 0} → (Line L → Wire) → Setting → Side → Side → Result (Tried L) AllocError → Type 0
+TriesBy wire setting start s (Ok (tried.Settled line)) = Moves setting start (record s { wire = Some (wire line); hand = None; row = no_row })
+TriesBy wire setting start s (Ok tried.Broken) = Moves setting start (record s { wire = None; row = no_row })
+TriesBy wire setting start s (Ok tried.Nothing) = Moves setting start (record s { wire = None; row = row_passed s.row })
+TriesBy wire setting start s (Ok (tried.Refused status)) = Moves setting start (record s { wire = None; row = row_refused s.row status })
+TriesBy wire setting start s (Ok (tried.Fault fault)) = Moves setting start (record s { wire = None; row = row_failed s.row })
+TriesBy wire setting start s (Err error) = (row : Row) × Moves setting start (record s { wire = None; row = row })
 
 -- three faults came in a row, or three responses to one request with another status than 200, the last of which is this one
 abbrev pub IsHalt : Row → Halt → Type 0
@@ -51,15 +51,15 @@ IsHalt row (halts.Fault fault) = row.faults ≡ 3
 IsHalt row (halts.Refused status) = (row.refusals ≡ 3) × (row.status ≡ status)
 
 -- what all tries for one request came to: its answer was taken, or there was one of these rows
-abbrev pub CarriesBy : Option ℕ → Side → Side → Result (Option Halt) AllocError → Type 0
-CarriesBy moment start s (Ok None) = Moves moment start (record s { hand = None; row = no_row })
-CarriesBy moment start s (Ok (Some halt)) = (row : Row) × IsHalt row halt × Moves moment start (record s { row = row })
-CarriesBy moment start s (Err error) = (row : Row) × Moves moment start (record s { row = row })
+abbrev pub CarriesBy : Setting → Side → Side → Result (Option Halt) AllocError → Type 0
+CarriesBy setting start s (Ok None) = Moves setting start (record s { hand = None; row = no_row })
+CarriesBy setting start s (Ok (Some halt)) = (row : Row) × IsHalt row halt × Moves setting start (record s { row = row })
+CarriesBy setting start s (Err error) = (row : Row) × Moves setting start (record s { row = row })
 
 -- the first link was dialled, or three dials failed in a row
-abbrev pub FirstBy : {L : Type 0} → (Line L → Wire) → Option ℕ → Side → Side → Option (Line L) → Type 0
-FirstBy wire moment start s None = Moves moment start (record s { row = row_of 3 0 0 })
-FirstBy wire moment start s (Some line) = (row : Row) × Moves moment start (record s { wire = Some (wire line); row = row })
+abbrev pub FirstBy : {L : Type 0} → (Line L → Wire) → Setting → Side → Side → Option (Line L) → Type 0
+FirstBy wire setting start s None = Moves setting start (record s { row = row_of 3 0 0 })
+FirstBy wire setting start s (Some line) = (row : Row) × Moves setting start (record s { wire = Some (wire line); row = row })
 
 -- a fault of the network ended the worker
 abbrev pub is_fault : Worked → Bool
@@ -96,26 +96,26 @@ abbrev pub IsDone : PlainClient → Type 0
 IsDone c = (end_of c ≡ Some (record { condition = None })) ⊎ ((end_of c ≡ None) × (greatest_rid < next_id c))
 
 -- at some time since the beginning nothing was due
-pub record WasIdle (moment : Option ℕ) (first last : List Entry) : Type 0 where
+pub record WasIdle (setting : Setting) (first last : List Entry) : Type 0 where
   pub log : List Entry
   pub since : StartsWith log first
   pub until : StartsWith last log
-  pub idle : After log (λ c. (now : ℕ) × IsAt moment now × ((next_request c now).1 ≡ nexts.Nothing))
+  pub idle : After log (λ c. (now : ℕ) × IsAt setting.moment now × ((next_request c now).1 ≡ nexts.Nothing))
 
 -- why a worker ended, by what it knew at first and knows at last, and by what came in a row
-abbrev pub EndsBy : Option ℕ → List Entry → List Entry → Row → Worked → Type 0
-EndsBy moment first last row worked.Done = After last IsDone
-EndsBy moment first last row (worked.Ended condition) = After last (λ c. end_of c ≡ Some (record { condition = Some condition }))
-EndsBy moment first last row worked.DialFault = row.faults ≡ 3
-EndsBy moment first last row worked.ReadFault = row.faults ≡ 3
-EndsBy moment first last row worked.WriteFault = row.faults ≡ 3
-EndsBy moment first last row (worked.Refused status) = (row.refusals ≡ 3) × (row.status ≡ status)
-EndsBy moment first last row worked.Silent = WasIdle moment first last
+abbrev pub EndsBy : Setting → List Entry → List Entry → Row → Worked → Type 0
+EndsBy setting first last row worked.Done = After last IsDone
+EndsBy setting first last row (worked.Ended condition) = After last (λ c. end_of c ≡ Some (record { condition = Some condition }))
+EndsBy setting first last row worked.DialFault = row.faults ≡ 3
+EndsBy setting first last row worked.ReadFault = row.faults ≡ 3
+EndsBy setting first last row worked.WriteFault = row.faults ≡ 3
+EndsBy setting first last row (worked.Refused status) = (row.refusals ≡ 3) × (row.status ≡ status)
+EndsBy setting first last row worked.Silent = WasIdle setting first last
 
 -- the same, unless there was no memory
-abbrev pub EndsOr : Option ℕ → List Entry → List Entry → Row → Result Worked AllocError → Type 0
-EndsOr moment first last row (Ok ended) = EndsBy moment first last row ended
-EndsOr moment first last row (Err error) = Unit {0}
+abbrev pub EndsOr : Setting → List Entry → List Entry → Row → Result Worked AllocError → Type 0
+EndsOr setting first last row (Ok ended) = EndsBy setting first last row ended
+EndsOr setting first last row (Err error) = Unit {0}
 
 -- how the end of the client ends a worker
 abbrev pub ended_by : Option Condition → Worked
@@ -133,8 +133,8 @@ halted_by (halts.Fault fault) = failed_by fault
 halted_by (halts.Refused status) = worked.Refused status
 
 -- a worker made these moves, and ended so
-pub record Works (moment : Option ℕ) (start : Side) (known : Known Entry) (events : Option (List Event)) (counts : Counts) (wire : Option Wire) (result : Result Worked AllocError) : Type 0 where
+pub record Works (setting : Setting) (start : Side) (known : Known Entry) (events : Option (List Event)) (counts : Counts) (wire : Option Wire) (result : Result Worked AllocError) : Type 0 where
   pub hand : Option (ℕ × List ℕ)
   pub row : Row
-  pub moves : Moves moment start (side_of known events counts wire hand row)
-  pub ends : EndsOr moment start.known.seen known.seen row result
+  pub moves : Moves setting start (side_of known events counts wire hand row)
+  pub ends : EndsOr setting start.known.seen known.seen row result

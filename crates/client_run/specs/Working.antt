@@ -75,6 +75,14 @@ Called call result old new = Calls (λ e. e.caller) (λ before made. RepliesTo b
 abbrev pub Asked : Question → Result Answer AllocError → Known Entry → Known Entry → Type 0
 Asked question answer old new = Looks (λ seen. Answers seen question answer) old new
 
+-- what a worker works under: the moment of its clock, where that tells it, and the port that it dials
+pub record Setting : Type 0 where
+  pub moment : Option ℕ
+  pub port : ℕ
+
+abbrev pub setting_of : Option ℕ → ℕ → Setting
+setting_of moment port = record { moment = moment; port = port }
+
 -- the moment of a call is the clock's, where that tells it
 abbrev pub IsAt : Option ℕ → ℕ → Type 0
 IsAt moment now = IfSome moment (λ told. now ≡ told)
@@ -138,36 +146,36 @@ abbrev pub CountsFault : Counts → Row → Counts → Row → Type 0
 CountsFault counts row later later_row = (HasFailed counts later × (later_row ≡ row_failed row)) ⊎ ((later ≡ counts) × (later_row ≡ row_passed row))
 
 -- One move of a worker. A request is asked for only where none is at hand, and it stays at hand until its answer was given to
--- the client; what is sent is the request at hand, and what is given to the client was read in answer to it. No move is made but
--- these.
-pub data Move (moment : Option ℕ) : Side → Side → Type 0 where
+-- the client; what is sent is the request at hand, and what is given to the client was read in answer to it. What is dialled is the
+-- port. No move is made but these.
+pub data Move (setting : Setting) : Side → Side → Type 0 where
   dials : {s : Side} (events : Option (List Event)) (counts : Counts) (wire : Wire) → s.wire ≡ None
-      → Begins s.events events wire.left → IsUngiven events wire.given → wire.kept ≡ [] → counts ≡ record s.counts { dialled = added s.counts.dialled 1 }
-      → Move moment s (record s { events = events; counts = counts; wire = Some wire })
+      → Begins s.events events (Some setting.port) wire.left → IsUngiven events wire.given → wire.kept ≡ [] → counts ≡ record s.counts { dialled = added s.counts.dialled 1 }
+      → Move setting s (record s { events = events; counts = counts; wire = Some wire })
   fails_to_dial : {s : Side} (counts : Counts) → s.wire ≡ None → HasFailed s.counts counts
-      → Move moment s (record s { counts = counts; row = row_failed s.row })
-  asks : {s : Side} (new : Known Entry) (next : Next) (now : ℕ) → s.hand ≡ None → IsAt moment now
+      → Move setting s (record s { counts = counts; row = row_failed s.row })
+  asks : {s : Side} (new : Known Entry) (next : Next) (now : ℕ) → s.hand ≡ None → IsAt setting.moment now
       → Called (calls.Next now) (Ok (replies.Next next)) s.known new
-      → Move moment s (record s { known = new; hand = request_in next; row = no_row })
+      → Move setting s (record s { known = new; hand = request_in next; row = no_row })
   looks : {s : Side} (new : Known Entry) (question : Question) (answer : Result Answer AllocError) → Asked question answer s.known new
-      → Move moment s (record s { known = new })
+      → Move setting s (record s { known = new })
   wants_memory : {s : Side} (new : Known Entry) (call : Call) (error : AllocError) → Called call (Err error) s.known new
-      → Move moment s (record s { known = new })
+      → Move setting s (record s { known = new })
   answers : {s : Side} (new : Known Entry) (rid : ℕ) (body answer : List ℕ) (old wire : Wire) (now : ℕ) (answered : Answered)
-      → s.hand ≡ Some (rid, body) → s.wire ≡ Some old → Exchanges old wire body answer → IsAt moment now
+      → s.hand ≡ Some (rid, body) → s.wire ≡ Some old → Exchanges old wire body answer → IsAt setting.moment now
       → Called (calls.Answer rid answer now) (Ok (replies.Answered answered)) s.known new
-      → Move moment s (record s { known = new; wire = Some wire; hand = hand_after answered s.hand; row = no_row })
+      → Move setting s (record s { known = new; wire = Some wire; hand = hand_after answered s.hand; row = no_row })
   loses : {s : Side} (rid : ℕ) (body : List ℕ) (old wire : Wire) (events : Option (List Event)) (counts : Counts) (row : Row)
       → s.hand ≡ Some (rid, body) → s.wire ≡ Some old → Tries old wire body
       → Retires s.events events wire.left wire.given → CountsFault s.counts s.row counts row
-      → Move moment s (record s { events = events; counts = counts; wire = None; row = row })
+      → Move setting s (record s { events = events; counts = counts; wire = None; row = row })
   refuses : {s : Side} (rid : ℕ) (body : List ℕ) (old wire : Wire) (events : Option (List Event)) (status : ℕ)
       → s.hand ≡ Some (rid, body) → s.wire ≡ Some old → Refuses old wire body status → Retires s.events events wire.left wire.given
-      → Move moment s (record s { events = events; wire = None; row = row_refused s.row status })
+      → Move setting s (record s { events = events; wire = None; row = row_refused s.row status })
   retires : {s : Side} (old : Wire) (events : Option (List Event)) → s.wire ≡ Some old → Retires s.events events old.left old.given
-      → Move moment s (record s { events = events; wire = None })
+      → Move setting s (record s { events = events; wire = None })
 
 -- moves one after the other
-pub data Moves (moment : Option ℕ) : Side → Side → Type 0 where
-  none : {s : Side} → Moves moment s s
-  more : {s t u : Side} → Moves moment s t → Move moment t u → Moves moment s u
+pub data Moves (setting : Setting) : Side → Side → Type 0 where
+  none : {s : Side} → Moves setting s s
+  more : {s t u : Side} → Moves setting s t → Move setting t u → Moves setting s u

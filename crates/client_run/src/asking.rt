@@ -1,4 +1,5 @@
 // The calls with which a worker asks for requests, gives answers, and looks how the client ended.
+ghost use Rattle.client_run.specs.Working.{setting_of};
 ghost use Rattle.std.specs.Prelude.{◌≡◌, MatchResult};
 ghost use Rattle.parked_gate.specs.Passes.{IsPassOf, known};
 ghost use Rattle.client_run.specs.Asking.{AnswersBy, AsksBy, LooksBy};
@@ -22,7 +23,7 @@ pub(crate) fn ask<R: Wait, C: Clock>(
 ) -> Result<Next, AllocError>
     requires { IsPassOf site.now.gate.now pass.old }
     ensures pass { IsPassOf site.now.gate.now pass.new }
-    ensures asks { AsksBy (C.moment site.now.clock.now) (known pass.old) (known pass.new) result }
+    ensures asks { AsksBy (setting_of (C.moment site.now.clock.now) site.now.port) (known pass.old) (known pass.new) result }
 {
     let now = site.clock.now();
     let reply = site.gate.call(rt, pass, Call::Next { now })?;
@@ -39,7 +40,7 @@ pub(crate) fn give<R: Wait, C: Clock>(
 ) -> Result<Answered, AllocError>
     requires { IsPassOf site.now.gate.now pass.old }
     ensures pass { IsPassOf site.now.gate.now pass.new }
-    ensures answers { AnswersBy (C.moment site.now.clock.now) rid body (known pass.old) (known pass.new) result }
+    ensures answers { AnswersBy (setting_of (C.moment site.now.clock.now) site.now.port) rid body (known pass.old) (known pass.new) result }
 {
     let now = site.clock.now();
     let reply = site.gate.call(rt, pass, Call::Answer { rid, body, now })?;

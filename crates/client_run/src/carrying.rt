@@ -4,7 +4,7 @@ ghost use Rattle.std.specs.Option.{option_map};
 ghost use Rattle.parked_gate.specs.Passes.{IsPassOf, Known, known};
 ghost use Rattle.client_run.specs.declared.entry.Entry.{Entry};
 ghost use Rattle.client_run.specs.Worked.{CarriesBy, IfSettled, TriesBy, row_after};
-ghost use Rattle.client_run.specs.Working.{Exchanges, Moves, Row, Side, Wire, is_broken, no_row, side_of, wire_of};
+ghost use Rattle.client_run.specs.Working.{Exchanges, Moves, Row, Side, Wire, is_broken, no_row, setting_of, side_of, wire_of};
 
 use crate::asking::give;
 use crate::fault::Fault;
@@ -48,8 +48,8 @@ pub(crate) enum Halt {
 /// Dials a link.
 pub(crate) fn dial<N: Network>(alloc: Global, network: &mut N, port: u16) -> Option<Line<N::Link>>
     ensures dials { (moment : Option ℕ) (start : Side) (known : Known Entry) (hand : Option (ℕ × List ℕ)) (row : Row)
-        → Moves moment start (side_of known (N.events network.old) (N.counts network.old) None hand row)
-        → Moves moment start (side_of known (N.events network.new) (N.counts network.new)
+        → Moves (setting_of moment port) start (side_of known (N.events network.old) (N.counts network.old) None hand row)
+        → Moves (setting_of moment port) start (side_of known (N.events network.new) (N.counts network.new)
         (option_map (λ line. wire_of (N.Link.left line.link) (N.Link.given line.link) line.reader) result) hand (row_after result row)) }
     ensures faultless { IfSome result (λ line. N.Link.faults line.link ≡ 0) }
 {
@@ -70,9 +70,9 @@ where
     N::Link: Drop,
     requires { IfSome line (λ line. N.Link.faults line.link ≡ 0) }
     ensures opens { (moment : Option ℕ) (start : Side) (known : Known Entry) (hand : Option (ℕ × List ℕ)) (row : Row)
-        → Moves moment start (side_of known (N.events network.old) (N.counts network.old)
+        → Moves (setting_of moment port) start (side_of known (N.events network.old) (N.counts network.old)
         (option_map (λ line. wire_of (N.Link.left line.link) (N.Link.given line.link) line.reader) line) hand row)
-        → Moves moment start (side_of known (N.events network.new) (N.counts network.new)
+        → Moves (setting_of moment port) start (side_of known (N.events network.new) (N.counts network.new)
         (option_map (λ line. wire_of (N.Link.left line.link) (N.Link.given line.link) line.reader) result) hand (row_after result row)) }
     ensures faultless { IfSome result (λ line. N.Link.faults line.link ≡ 0) }
 {
@@ -99,9 +99,9 @@ where
     requires faultless { IfSome line (λ line. N.Link.faults line.link ≡ 0) }
     ensures pass { IsPassOf site.now.gate.now pass.new }
     ensures tries { (start : Side) (row : Row)
-        → Moves (C.moment site.now.clock.now) start (side_of (known pass.old) (N.events network.old) (N.counts network.old)
+        → Moves (setting_of (C.moment site.now.clock.now) site.now.port) start (side_of (known pass.old) (N.events network.old) (N.counts network.old)
         (option_map (λ line. wire_of (N.Link.left line.link) (N.Link.given line.link) line.reader) line) (Some (rid, body.now)) row)
-        → TriesBy (λ line. wire_of (N.Link.left line.link) (N.Link.given line.link) line.reader) (C.moment site.now.clock.now) start
+        → TriesBy (λ line. wire_of (N.Link.left line.link) (N.Link.given line.link) line.reader) (setting_of (C.moment site.now.clock.now) site.now.port) start
         (side_of (known pass.new) (N.events network.new) (N.counts network.new) None (Some (rid, body.now)) row) result }
     ensures faultless { IfOk result (λ tried. IfSettled tried (λ line. N.Link.faults line.link ≡ 0)) }
 {
@@ -147,8 +147,8 @@ where
     ensures pass { IsPassOf site.now.gate.now pass.new }
     ensures tries { (start : Side) (old : Wire) (body : List ℕ) (row : Row)
         → Exchanges old (wire_of (N.Link.left line.link) (N.Link.given line.link) line.reader) body answer
-        → Moves (C.moment site.now.clock.now) start (side_of (known pass.old) (N.events network.old) (N.counts network.old) (Some old) (Some (rid, body)) row)
-        → TriesBy (λ line. wire_of (N.Link.left line.link) (N.Link.given line.link) line.reader) (C.moment site.now.clock.now) start
+        → Moves (setting_of (C.moment site.now.clock.now) site.now.port) start (side_of (known pass.old) (N.events network.old) (N.counts network.old) (Some old) (Some (rid, body)) row)
+        → TriesBy (λ line. wire_of (N.Link.left line.link) (N.Link.given line.link) line.reader) (setting_of (C.moment site.now.clock.now) site.now.port) start
         (side_of (known pass.new) (N.events network.new) (N.counts network.new) None (Some (rid, body)) row) result }
     ensures faultless { IfOk result (λ tried. IfSettled tried (λ line. N.Link.faults line.link ≡ 0)) }
 {
@@ -197,9 +197,9 @@ where
     requires faultless { IfSome line.old (λ line. N.Link.faults line.link ≡ 0) }
     ensures pass { IsPassOf site.now.gate.now pass.new }
     ensures carries { (start : Side)
-        → Moves (C.moment site.now.clock.now) start (side_of (known pass.old) (N.events network.old) (N.counts network.old)
+        → Moves (setting_of (C.moment site.now.clock.now) site.now.port) start (side_of (known pass.old) (N.events network.old) (N.counts network.old)
         (option_map (λ line. wire_of (N.Link.left line.link) (N.Link.given line.link) line.reader) line.old) (Some (rid, body.now)) no_row)
-        → CarriesBy (C.moment site.now.clock.now) start
+        → CarriesBy (setting_of (C.moment site.now.clock.now) site.now.port) start
         (side_of (known pass.new) (N.events network.new) (N.counts network.new)
         (option_map (λ line. wire_of (N.Link.left line.link) (N.Link.given line.link) line.reader) line.new) (Some (rid, body.now)) no_row) result }
     ensures faultless { IfSome line.new (λ line. N.Link.faults line.link ≡ 0) }

@@ -7,7 +7,7 @@ ghost use Rattle.client_run.specs.declared.entry.Entry.{Entry};
 ghost use Rattle.client_run.specs.Adding.{AddsOnly, is_of_worker};
 ghost use Rattle.client_run.specs.Carried.{CarriesTold};
 ghost use Rattle.client_run.specs.Worked.{FirstBy, Works, ended_by, failed_by, halted_by, has_read, is_fault};
-ghost use Rattle.client_run.specs.Working.{Moves, Row, Side, no_row, side_of, wire_of};
+ghost use Rattle.client_run.specs.Working.{Moves, Row, Setting, Side, no_row, setting_of, side_of, wire_of};
 
 use crate::asking::{ask, look};
 use crate::carrying::{Halt, TRIES, carry, dial};
@@ -41,7 +41,7 @@ where
     ensures pass { IsPassOf site.now.gate.now pass.new }
 
     // It made moves one after the other, with no link out in the end, and ended so.
-    ensures works { Works (C.moment site.now.clock.now) (side_of (known pass.old) (N.events network.old) (N.counts network.old) None None no_row)
+    ensures works { Works (setting_of (C.moment site.now.clock.now) site.now.port) (side_of (known pass.old) (N.events network.old) (N.counts network.old) None None no_row)
         (known pass.new) (N.events network.new) (N.counts network.new) None result }
     ensures fault { IfOk result (λ worked. is_fault worked ≡ true → HasRisen (N.counts network.old).faults (N.counts network.new).faults) }
     ensures dialled { IfOk result (λ worked. has_read worked ≡ true → HasRisen (N.counts network.old).dialled (N.counts network.new).dialled) }
@@ -54,7 +54,7 @@ where
 
     // Where the network tells its events, its links carried requests of the client and the responses to them, and the answers that
     // were added are those that were read so.
-    ensures carries { CarriesTold (known pass.old) (known pass.new) (N.events network.old) (N.events network.new) }
+    ensures carries { CarriesTold site.now.port (known pass.old) (known pass.new) (N.events network.old) (N.events network.new) }
 {
     let first = match first_line(site.alloc, network, site.port) {
         Some(first) => first,
@@ -71,8 +71,8 @@ fn first_line<N: Network>(alloc: Global, network: &mut N, port: u16) -> Option<L
 where
     N::Link: Drop,
     ensures dials { (moment : Option ℕ) (start : Side) (known : Known Entry) (hand : Option (ℕ × List ℕ))
-        → Moves moment start (side_of known (N.events network.old) (N.counts network.old) None hand no_row)
-        → FirstBy (λ line. wire_of (N.Link.left line.link) (N.Link.given line.link) line.reader) moment start
+        → Moves (setting_of moment port) start (side_of known (N.events network.old) (N.counts network.old) None hand no_row)
+        → FirstBy (λ line. wire_of (N.Link.left line.link) (N.Link.given line.link) line.reader) (setting_of moment port) start
         (side_of known (N.events network.new) (N.counts network.new) None hand no_row) result }
     ensures faultless { IfSome result (λ line. N.Link.faults line.link ≡ 0) }
 {
@@ -91,9 +91,9 @@ fn close<N: Network>(network: &mut N, line: Option<Line<N::Link>>)
 where
     N::Link: Drop,
     requires { IfSome line (λ line. N.Link.faults line.link ≡ 0) }
-    ensures closes { (moment : Option ℕ) (start : Side) (known : Known Entry) (hand : Option (ℕ × List ℕ)) (row : Row)
-        → Moves moment start (side_of known (N.events network.old) (N.counts network.old) (option_map (λ line. wire_of (N.Link.left line.link) (N.Link.given line.link) line.reader) line) hand row)
-        → Moves moment start (side_of known (N.events network.new) (N.counts network.new) None hand row) }
+    ensures closes { (setting : Setting) (start : Side) (known : Known Entry) (hand : Option (ℕ × List ℕ)) (row : Row)
+        → Moves setting start (side_of known (N.events network.old) (N.counts network.old) (option_map (λ line. wire_of (N.Link.left line.link) (N.Link.given line.link) line.reader) line) hand row)
+        → Moves setting start (side_of known (N.events network.new) (N.counts network.new) None hand row) }
 {
     match line {
         Some(line) => network.retire(line.into_link()),
@@ -116,8 +116,8 @@ where
     requires faultless { IfSome line.old (λ line. N.Link.faults line.link ≡ 0) }
     ensures pass { IsPassOf site.now.gate.now pass.new }
     ensures works { (start : Side) (row : Row)
-        → Moves (C.moment site.now.clock.now) start (side_of (known pass.old) (N.events network.old) (N.counts network.old) (option_map (λ line. wire_of (N.Link.left line.link) (N.Link.given line.link) line.reader) line.old) None row)
-        → Works (C.moment site.now.clock.now) start (known pass.new) (N.events network.new) (N.counts network.new) (option_map (λ line. wire_of (N.Link.left line.link) (N.Link.given line.link) line.reader) line.new) result }
+        → Moves (setting_of (C.moment site.now.clock.now) site.now.port) start (side_of (known pass.old) (N.events network.old) (N.counts network.old) (option_map (λ line. wire_of (N.Link.left line.link) (N.Link.given line.link) line.reader) line.old) None row)
+        → Works (setting_of (C.moment site.now.clock.now) site.now.port) start (known pass.new) (N.events network.new) (N.counts network.new) (option_map (λ line. wire_of (N.Link.left line.link) (N.Link.given line.link) line.reader) line.new) result }
     ensures faultless { IfSome line.new (λ line. N.Link.faults line.link ≡ 0) }
     ensures silent { IfOk result (λ worked. worked ≡ Worked.Silent → HasRisen (B.silences bell.old) (B.silences bell.new)) }
     ensures silences { B.silences bell.old ≤ B.silences bell.new }

@@ -1,7 +1,7 @@
 use Rattle.std.proofs.Common.{rules, ap, None}
 use Rattle.std.specs.Prelude.{Ok}
 use Rattle.parked_gate.specs.Passes.{known}
-use Rattle.client_run.specs.Working.{no_row, side_of}
+use Rattle.client_run.specs.Working.{no_row, setting_of, side_of}
 use Rattle.client_run.proofs.RunningLemmas.{all_kept, all_none, end_by, end_wanting}
 use Rattle.client_run.proofs.job.toil.Goals as goal
 
@@ -13,12 +13,12 @@ returns-in-Err-clause-tells g c = end_wanting c.in-Err.field-0 (known c.work.new
 
 pub returns-then-not-is_silent-clause-tells : goal.returns-then-not-is_silent-clause-tells
 returns-then-not-is_silent-clause-tells g c =
-    end_by (g.C.Clock.moment c.args.site.now.clock.now) (side_of (known c.loop.pass) (g.N.Network.events c.loop.share) (g.N.Network.counts c.loop.share) None None no_row) (known c.work.new.pass) (g.N.Network.events c.work.new.network) (g.N.Network.counts c.work.new.network)
+    end_by (setting_of (g.C.Clock.moment c.args.site.now.clock.now) c.args.site.now.port) (side_of (known c.loop.pass) (g.N.Network.events c.loop.share) (g.N.Network.counts c.loop.share) None None no_row) (known c.work.new.pass) (g.N.Network.events c.work.new.network) (g.N.Network.counts c.work.new.network)
     c.in-Ok.worked c.in-Ok.ensures.works c.in-Ok.ensures.fault c.in-Ok.ensures.dialled (λ status is. c.in-Ok.ensures.refused status (ap (λ w. Ok w) is)) (all_kept (known c.loop.pass) (known c.work.new.pass) c.loop.invariant.mine c.in-Ok.ensures.adds)
 
 pub returns-then-has_failed-clause-tells : goal.returns-then-has_failed-clause-tells
 returns-then-has_failed-clause-tells g c =
-    end_by (g.C.Clock.moment c.args.site.now.clock.now) (side_of (known c.loop.pass) (g.N.Network.events c.loop.share) (g.N.Network.counts c.loop.share) None None no_row) (known c.work.new.pass) (g.N.Network.events c.work.new.network) (g.N.Network.counts c.work.new.network)
+    end_by (setting_of (g.C.Clock.moment c.args.site.now.clock.now) c.args.site.now.port) (side_of (known c.loop.pass) (g.N.Network.events c.loop.share) (g.N.Network.counts c.loop.share) None None no_row) (known c.work.new.pass) (g.N.Network.events c.work.new.network) (g.N.Network.counts c.work.new.network)
     c.in-Ok.worked c.in-Ok.ensures.works c.in-Ok.ensures.fault c.in-Ok.ensures.dialled (λ status is. c.in-Ok.ensures.refused status (ap (λ w. Ok w) is)) (all_kept (known c.loop.pass) (known c.work.new.pass) c.loop.invariant.mine c.in-Ok.ensures.adds)
 
 pub loop-preserved : goal.loop-preserved
