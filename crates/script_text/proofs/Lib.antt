@@ -15,6 +15,7 @@ pub mod OpeningLemmas
 pub mod PostedLemmas
 pub mod RepeatsLemmas
 pub mod ReportLemmas
+pub mod RestLemmas
 pub mod Rows
 pub mod SaidLemmas
 pub mod SessionsLemmas

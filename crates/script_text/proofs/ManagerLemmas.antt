@@ -1,7 +1,8 @@
 -- Sessions in their order, and what a line does to them.
 use Rattle.std.proofs.Common.{◌≡◌, ℕ, zero, suc, ◌+◌, ◌<◌, ◌==◌, add-one, arith, Bool, true, false, List, [], ◌∷◌, ◌++◌, Option, Some, None, length, take, drop, refl, sym, subst, ◌∙◌, ap, ap₂, append_assoc, append-nil, if◌then◌else◌}
-use Rattle.std.specs.Prelude.{cond, map, nat_lt, not, position}
+use Rattle.std.specs.Prelude.{All, cond, map, nat_lt, not, position}
 use Rattle.std.proofs.lemmas.List.{take-append-drop}
+use Rattle.std.proofs.lemmas.List.Elements.{All-append, All-nil, All-weaker}
 use Rattle.std.specs.List.{list_any, position_or_len, slice_get}
 use Rattle.bosh_types.specs.declared.hosts.HostName.{HostName}
 use Rattle.session_core.specs.State.{is_over}
@@ -10,7 +11,7 @@ use Rattle.script_text.specs.declared.live.Live.{Live}
 use Rattle.script_text.specs.declared.report.ReportLine.{ReportLine}
 use Rattle.script_text.specs.Live.{PlainLive, if_live, state, turn_at}
 use Rattle.script_text.specs.Manager.{passed_lines, passed_live, waits_on, with_closed}
-use Rattle.script_text.specs.Stands.{IsLive, AreLive}
+use Rattle.script_text.specs.Stands.{AreLive, IsBefore, IsLive, Rests}
 
 pub live_append : (lives others : List Live) (ss ts : List PlainLive) → AreLive lives ss → AreLive others ts → AreLive (lives ++ others) (ss ++ ts)
 live_append [] others [] ts are more = more
@@ -142,13 +143,19 @@ back_at place lives lives' ss after are within comes =
     (subst (λ l. AreLive lives' (l ++ (if_live after ++ drop place (take place ss ++ drop (suc place) ss)))) same.0
     (comes (take place ss ++ drop (suc place) ss) (live_without place lives ss are)))
 
+-- where they rest until a moment they do until an earlier one
+pub rest_until : (first later : Option ℕ) (ss : List PlainLive) → ((now : ℕ) → IsBefore now later → IsBefore now first) → All (Rests first) ss → All (Rests later) ss
+rest_until first later ss earlier rest =
+    All-weaker (Rests first) (Rests later) (λ s rests. record { goes_on = rests.goes_on; quiet = λ now range before. rests.quiet now range (earlier now before) }) ss rest
+
 -- Time passes for one session after the other: those that passed, and those that are left.
 
-pub record PassesOn (now : ℕ) (lines : List ReportLine) (kept rest : List Live) (whole : List PlainLive) : Type 0 where
+pub record PassesOn (now : ℕ) (soonest : Option ℕ) (lines : List ReportLine) (kept rest : List Live) (whole : List PlainLive) : Type 0 where
   pub left : List PlainLive
   pub through : List PlainLive
   pub are_left : AreLive rest left
   pub are_through : AreLive kept through
+  pub resting : All (Rests soonest) through
   pub told : passed_lines now whole ≡ lines ++ passed_lines now left
   pub live : passed_live now whole ≡ through ++ passed_live now left
 
@@ -186,17 +193,18 @@ closes_end conn kept whole on = by on.left on.are_left on.live
     by [] are live = subst (λ l. AreLive kept l) (sym (live ∙ append-nil on.through)) on.are_through
     by (s ∷ left) are live = absurd are
 
-pub passes_from : (now : ℕ) (lives : List Live) (ss : List PlainLive) → AreLive lives ss → PassesOn now [] [] lives ss
-passes_from now lives ss are = record { left = ss; through = []; are_left = are; are_through = tt; told = refl; live = refl }
+pub passes_from : (now : ℕ) (lives : List Live) (ss : List PlainLive) → AreLive lives ss → PassesOn now None [] [] lives ss
+passes_from now lives ss are = record { left = ss; through = []; are_left = are; are_through = tt; resting = All-nil (Rests None); told = refl; live = refl }
 
-pub passes_more : (now : ℕ) (lines : List ReportLine) (kept kept' rest : List Live) (first : Live) (told : List ReportLine) (whole : List PlainLive) → PassesOn now lines kept (first ∷ rest) whole
+pub passes_more : (now : ℕ) (soonest later : Option ℕ) (lines : List ReportLine) (kept kept' rest : List Live) (first : Live) (told : List ReportLine) (whole : List PlainLive)
+    → PassesOn now soonest lines kept (first ∷ rest) whole → ((moment : ℕ) → IsBefore moment later → IsBefore moment soonest)
     → ((s : PlainLive) → IsLive first s → (told ≡ (turn_at now Passes s).lines) × ((through : List PlainLive) → AreLive kept through
-    → AreLive kept' (through ++ if_live (turn_at now Passes s).after)))
-    → PassesOn now (lines ++ told) kept' rest whole
-passes_more now lines kept kept' rest first told whole on turns = by on.left on.are_left on.told on.live
+    → AreLive kept' (through ++ if_live (turn_at now Passes s).after)) × All (Rests later) (if_live (turn_at now Passes s).after))
+    → PassesOn now later (lines ++ told) kept' rest whole
+passes_more now soonest later lines kept kept' rest first told whole on earlier turns = by on.left on.are_left on.told on.live
   where
     by : (left : List PlainLive) → AreLive (first ∷ rest) left → passed_lines now whole ≡ lines ++ passed_lines now left
-        → passed_live now whole ≡ on.through ++ passed_live now left → PassesOn now (lines ++ told) kept' rest whole
+        → passed_live now whole ≡ on.through ++ passed_live now left → PassesOn now later (lines ++ told) kept' rest whole
     by [] are lines_are live = absurd are
     by (s ∷ left) are lines_are live =
         let turn = turns s are.0 in
@@ -205,17 +213,20 @@ passes_more now lines kept kept' rest first told whole on turns = by on.left on.
           through = on.through ++ if_live (turn_at now Passes s).after;
           are_left = are.1;
           are_through = turn.1 on.through on.are_through;
+          resting = All-append (Rests later) on.through (if_live (turn_at now Passes s).after) (rest_until soonest later on.through earlier on.resting) turn.2;
           told = lines_are ∙ ap (λ l. lines ++ (l ++ passed_lines now left)) (sym turn.0) ∙ sym (append_assoc lines told (passed_lines now left));
           live = live ∙ sym (append_assoc on.through (if_live (turn_at now Passes s).after) (passed_live now left));
         }
 
-pub passes_end : (now : ℕ) (lines : List ReportLine) (kept : List Live) (whole : List PlainLive) → PassesOn now lines kept [] whole
-    → (lines ≡ passed_lines now whole) × AreLive kept (passed_live now whole)
-passes_end now lines kept whole on = by on.left on.are_left on.told on.live
+pub passes_end : (now : ℕ) (soonest : Option ℕ) (lines : List ReportLine) (kept : List Live) (whole : List PlainLive) → PassesOn now soonest lines kept [] whole
+    → (lines ≡ passed_lines now whole) × AreLive kept (passed_live now whole) × All (Rests soonest) (passed_live now whole)
+passes_end now soonest lines kept whole on = by on.left on.are_left on.told on.live
   where
     by : (left : List PlainLive) → AreLive [] left → passed_lines now whole ≡ lines ++ passed_lines now left
-        → passed_live now whole ≡ on.through ++ passed_live now left → (lines ≡ passed_lines now whole) × AreLive kept (passed_live now whole)
-    by [] are told live = (sym (told ∙ append-nil lines), subst (λ l. AreLive kept l) (sym (live ∙ append-nil on.through)) on.are_through)
+        → passed_live now whole ≡ on.through ++ passed_live now left → (lines ≡ passed_lines now whole) × AreLive kept (passed_live now whole) × All (Rests soonest) (passed_live now whole)
+    by [] are told live =
+        let same = sym (live ∙ append-nil on.through) in
+        (sym (told ∙ append-nil lines), subst (λ l. AreLive kept l) same on.are_through, subst (λ l. All (Rests soonest) l) same on.resting)
     by (s ∷ left) are told live = absurd are
 
 pub nothing_left : (lives : List Live) → length lives ≡ 0 → lives ≡ []

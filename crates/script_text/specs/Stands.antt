@@ -1,8 +1,10 @@
 -- What the code keeps of a script stands for the plain things.
-use Rattle.std.specs.Prelude.{◌≡◌, ⊤, ℕ, List, [], ◌∷◌, IsTrue}
+use Rattle.std.specs.Prelude.{◌≡◌, ⊤, ℕ, ◌<◌, ◌^◌, List, [], ◌∷◌, All, IsTrue, Option, None, Some, false}
 use Rattle.body_cutter.specs.Cutting.{is_stanza}
 use Rattle.session_attrs.specs.declared.request.Kind.TheVariants as kinds
 use Rattle.session_core.specs.Journal.{IsReadFrom}
+use Rattle.session_core.specs.State.{is_over}
+use Rattle.session_core.specs.Time.{is_due}
 use Rattle.session_journal.specs.Stored.{IsJournalOf}
 use Rattle.script_text.specs.declared.event.Event.{Event}
 use Rattle.script_text.specs.declared.event.Event.TheVariants.{Arrives, Gives, Shuts, Passes}
@@ -16,7 +18,7 @@ use Rattle.script_text.specs.declared.run.Next.TheVariants as nexts
 use Rattle.script_text.specs.declared.run.Run.{Run}
 use Rattle.script_text.specs.declared.run.Run.TheVariants as runs
 use Rattle.session_calls.specs.After.{}
-use Rattle.script_text.specs.Live.{PlainLive, Turn}
+use Rattle.script_text.specs.Live.{PlainLive, Turn, state}
 use Rattle.script_text.specs.Manager.{PlainManager, Change}
 use Rattle.script_text.specs.Script.{PlainRun, Beginning, Arrivals, Bodies, PlainNext, Goes, Ends, Step}
 
@@ -45,12 +47,23 @@ pub record IsTurn (turned : Turned) (turn : Turn) : Type 0 where
   pub lines : turned.lines.items ≡ turn.lines
   pub live : IsLive turned.live turn.after
 
+-- the moment is before this one, if there is one
+abbrev pub IsBefore : ℕ → Option ℕ → Type 0
+IsBefore now None = ⊤
+IsBefore now (Some moment) = now < moment
+
+-- the session goes on, and before this moment time has nothing to do for it
+pub record Rests (soonest : Option ℕ) (s : PlainLive) : Type 0 where
+  pub goes_on : is_over (state s) ≡ false
+  pub quiet : (now : ℕ) → now < 2 ^ 64 → IsBefore now soonest → is_due (state s) now ≡ false
+
 pub record IsManager (manager : Manager) (m : PlainManager) : Type 0 where
   pub hosts : manager.hosts ≡ m.hosts
   pub moment : manager.moment ≡ m.moment
   pub begun : manager.begun ≡ m.begun
   pub opened : manager.opened ≡ m.opened
   pub live : AreLive manager.live.items m.live
+  pub rest : All (Rests manager.soonest) m.live
 
 -- what a line does to a manager
 pub record IsChange (changed : Changed) (change : Change) : Type 0 where

@@ -2,7 +2,9 @@
 ghost use Rattle.std.specs.Prelude.{◌≡◌, ◌++◌, ◌∷◌, [], map, IfOk, OnOk};
 ghost use Rattle.std.specs.List.{list_any};
 ghost use Rattle.session_core.specs.Journal.{Journal};
+ghost use Rattle.pause_rules.specs.Due.{IsFirstMoment};
 ghost use Rattle.session_core.specs.State.{is_over};
+ghost use Rattle.session_core.specs.Time.{is_due};
 ghost use Rattle.session_journal.specs.Stored.{IsJournalOf};
 ghost use Rattle.script_text.specs.declared.event.Event.TheVariants.{Arrives, Gives, Shuts, Passes};
 ghost use Rattle.script_text.specs.declared.report.ReportLine.TheVariants.{In, Refused};
@@ -85,6 +87,13 @@ impl Live {
         ensures { (s : PlainLive) → IsLive self.now s → result ≡ is_over (state s) }
     {
         self.session.ending().is_some()
+    }
+
+    // The first moment at which time has something to do for it: none where it never has.
+    pub(crate) fn due(&self) -> Option<Moment>
+        ensures { (s : PlainLive) → IsLive self.now s → IsFirstMoment (is_due (state s)) result }
+    {
+        self.session.due()
     }
 
     // What comes to the session at a moment.

@@ -1,5 +1,5 @@
 // A manager of a script: its sessions, and what a line of the script does to them.
-ghost use Rattle.std.specs.Prelude.{◌≡◌, ◌<◌, ◌≤◌, ◌++◌, ◌==◌, List, drop, position, take, IfOk, OnOk, IfSome, IsTrue, Some, slice_get, length, true};
+ghost use Rattle.std.specs.Prelude.{◌≡◌, ◌<◌, ◌≤◌, ◌^◌, ◌++◌, ◌==◌, ℕ, List, false, drop, position, take, IfOk, OnOk, IfSome, IsTrue, Some, slice_get, length, true};
 ghost use Rattle.std.specs.List.{list_any};
 ghost use Rattle.bosh_types.specs.declared.hosts.HostName.{HostName};
 ghost use Rattle.bosh_types.specs.Limits.{most_openings};
@@ -12,7 +12,7 @@ ghost use Rattle.script_text.specs.Live.{PlainLive, if_live, not_found};
 ghost use Rattle.script_text.specs.Manager.{PlainManager, admitted_to, at_host, closed, comes, comes_at, comes_to, has_room, is_waiting, new_manager, number_of, only, opened_turn, opening_by, passed, place_of, posted, posted_by, refused, request_in, waits_on};
 ghost use Rattle.session_attrs.specs.Serving.{can_serve};
 ghost use Rattle.script_text.specs.Script.{begun, was_given, with_host};
-ghost use Rattle.script_text.specs.Stands.{AreLive, IsChange, IsEvent, IsLive, IsManager, IsTurn};
+ghost use Rattle.script_text.specs.Stands.{AreLive, IsBefore, IsChange, IsEvent, IsLive, IsManager, IsTurn};
 
 use crate::event::Event;
 use crate::hosts::Hosts;
@@ -39,6 +39,8 @@ pub(crate) struct Manager {
     pub(crate) opened: u32,
     // Those that are live, in the order of opening.
     pub(crate) live: Vec<Live>,
+    // Before this moment time has nothing to do for any of them: none where it never has.
+    pub(crate) soonest: Option<Moment>,
 }
 
 // What a line does to a manager: its lines of the report, and the manager after it.
@@ -67,6 +69,7 @@ impl Manager {
             begun: false,
             opened: 0,
             live: Vec::new(alloc),
+            soonest: None,
         }
     }
 
@@ -81,6 +84,7 @@ impl Manager {
             begun: self.begun,
             opened: self.opened,
             live: self.live,
+            soonest: self.soonest,
         })
     }
 
@@ -94,6 +98,7 @@ impl Manager {
             begun: true,
             opened: self.opened,
             live: self.live,
+            soonest: self.soonest,
         }
     }
 
@@ -141,6 +146,7 @@ impl Manager {
             begun: self.begun,
             opened: self.opened,
             live: kept,
+            soonest: self.soonest,
         };
         Ok(Changed {
             lines: Vec::new(alloc),
@@ -148,15 +154,30 @@ impl Manager {
         })
     }
 
-    // Time passes for each live session, in the order of opening.
-    pub(crate) fn pass(self, alloc: Global, now: Moment) -> Result<Changed, AllocError>
+    // Time passes for each live session, in the order of opening. Where it has nothing to do for any, none is touched.
+    pub(crate) fn pass(mut self, alloc: Global, now: Moment) -> Result<Changed, AllocError>
+        ensures { IfOk result (λ changed. (m : PlainManager) → IsManager self m → IsChange changed (passed m now)) }
+    {
+        if is_due_by(self.soonest, now) {
+            return self.pass_all(alloc, now);
+        }
+        self.moment = now;
+        Ok(Changed {
+            lines: Vec::new(alloc),
+            manager: self,
+        })
+    }
+
+    fn pass_all(self, alloc: Global, now: Moment) -> Result<Changed, AllocError>
         ensures { IfOk result (λ changed. (m : PlainManager) → IsManager self m → IsChange changed (passed m now)) }
     {
         let mut lines = Vec::new(alloc);
         let mut kept = Vec::new(alloc);
+        let mut soonest = None;
         for live in self.live {
             let turned = live.turn(alloc, now, Event::Passes)?;
             push_all(&mut lines, turned.lines)?;
+            soonest = sooner(soonest, turned.live.due());
             keep_live(&mut kept, turned.live)?;
         }
         let manager = Manager {
@@ -165,6 +186,7 @@ impl Manager {
             begun: self.begun,
             opened: self.opened,
             live: kept,
+            soonest,
         };
         Ok(Changed { lines, manager })
     }
@@ -202,6 +224,7 @@ impl Manager {
     {
         let live = self.live.remove(place);
         let Turned { lines, live } = live.turn(alloc, self.moment, event)?;
+        self.soonest = sooner(self.soonest, live.due());
         insert_live(&mut self.live, place, live)?;
         Ok(Changed {
             lines,
@@ -305,6 +328,7 @@ impl Manager {
         }
         let number = self.opened + 1;
         let Turned { lines, live } = self.open(alloc, post, creation, place, number)?;
+        let soonest = sooner(self.soonest, live.due());
         let mut kept = self.live;
         keep_live(&mut kept, live)?;
         let manager = Manager {
@@ -313,6 +337,7 @@ impl Manager {
             begun: self.begun,
             opened: number,
             live: kept,
+            soonest,
         };
         Ok(Changed { lines, manager })
     }
@@ -380,6 +405,31 @@ fn opening_by(
         at,
         limit: JOURNAL_BYTES,
     })
+}
+
+// The earlier of two moments, of which either may never come.
+fn sooner(first: Option<Moment>, other: Option<Moment>) -> Option<Moment>
+    ensures first { (now : ℕ) → IsBefore now result → IsBefore now first }
+    ensures other { (now : ℕ) → IsBefore now result → IsBefore now other }
+{
+    let Some(one) = first else {
+        return other;
+    };
+    match other {
+        Some(two) if two < one => other,
+        _ => first,
+    }
+}
+
+// Whether the moment has come.
+fn is_due_by(moment: Option<Moment>, now: Moment) -> bool
+    ensures before { result ≡ false → IsBefore now moment }
+    ensures range { now < 2 ^ 64 }
+{
+    match moment {
+        Some(moment) => moment.millis() <= now.millis(),
+        None => false,
+    }
 }
 
 // Whether a request waits on this connection, which is open.

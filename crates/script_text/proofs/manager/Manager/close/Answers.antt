@@ -2,6 +2,7 @@ use Rattle.std.proofs.Common.{arith, sym, subst}
 use Rattle.std.proofs.lemmas.Grind.{common_steps}
 use Rattle.std.specs.Vec.Iter.{into_iter_items}
 use Rattle.script_text.proofs.ManagerLemmas.{ClosesOn, closes_more, closes_end, nothing_left}
+use Rattle.script_text.proofs.RestLemmas.{rest_closed}
 use Rattle.script_text.proofs.manager.Manager.close.Goals as goal
 
 pub loop-live-preserved : goal.loop-live-preserved
@@ -21,5 +22,6 @@ returns c = λ m is.
         begun = is.begun;
         opened = is.opened;
         live = closes_end c.args.conn _ m.live (subst (λ rest. ClosesOn c.args.conn c.loop-live.kept.items rest m.live) none (c.loop-live.invariant m.live is.live));
+        rest = rest_closed c.args.self.soonest c.args.conn m.live is.rest;
       };
     }

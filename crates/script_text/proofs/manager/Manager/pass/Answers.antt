@@ -1,23 +1,19 @@
-use Rattle.std.proofs.Common.{refl, arith, sym, subst}
-use Rattle.std.proofs.lemmas.Grind.{common_steps}
-use Rattle.std.specs.Vec.Iter.{into_iter_items}
-use Rattle.script_text.specs.declared.event.Event.TheVariants.{Passes}
-use Rattle.script_text.specs.Live.{turn_at}
-use Rattle.script_text.proofs.ManagerLemmas.{PassesOn, passes_more, passes_end, nothing_left}
+use Rattle.std.proofs.Common.{refl, sym, subst, ◌∙◌}
+use Rattle.script_text.specs.Stands.{AreLive, IsManager}
+use Rattle.script_text.proofs.RestLemmas.{passes_by, rest_same}
 use Rattle.script_text.proofs.manager.Manager.pass.Goals as goal
-
-pub loop-live-preserved : goal.loop-live-preserved
-loop-live-preserved c = λ whole are.
-    subst (λ lines. PassesOn c.args.now lines c.keep_live.new.kept.items (into_iter_items c.next.new.self) whole) (sym c.in_ok-push_all.ensures)
-    (passes_more c.args.now _ c.loop-live.kept.items _ _ c.in-Some.live c.in_ok-turned.turned.lines.items whole
-    (subst (λ rest. PassesOn c.args.now c.loop-live.lines.items c.loop-live.kept.items rest whole) (c.in-Some.ensures.steps).0 (c.loop-live.invariant whole are))
-    (λ s is. ((c.in_ok-turned.ensures s is).lines, λ through are_kept. c.in_ok-keep_live.ensures (turn_at c.args.now Passes s).after (c.in_ok-turned.ensures s is).live through are_kept)))
 
 pub returns : goal.returns
 returns c = λ m is.
-    let none = nothing_left (into_iter_items c.loop-live.live-iterator) (grind (arith, common_steps, (c.in-None.ensures.steps).0)) in
-    let all = passes_end c.args.now _ _ m.live (subst (λ rest. PassesOn c.args.now c.loop-live.lines.items c.loop-live.kept.items rest m.live) none (c.loop-live.invariant m.live is.live)) in
+    let passes = passes_by c.args.self.soonest c.args.now m.live c.is_due_by.ensures.range (c.is_due_by.ensures.before c.if-is_due_by.false) is.rest in
     record {
-      lines = all.0;
-      manager = record { hosts = is.hosts; moment = refl; begun = is.begun; opened = is.opened; live = all.1 };
+      lines = c.new.ensures.items ∙ sym passes.0;
+      manager = record {
+        hosts = is.hosts;
+        moment = refl;
+        begun = is.begun;
+        opened = is.opened;
+        live = subst (λ l. AreLive c.args.self.live.items l) (sym passes.1) is.live;
+        rest = rest_same c.args.self.soonest m.live _ (sym passes.1) is.rest;
+      };
     }

@@ -3,8 +3,8 @@ use Rattle.std.proofs.Common.{List}
 use Rattle.script_text.specs.Live.{PlainLive}
 use Rattle.script_text.specs.Stands.{AreLive}
 use Rattle.script_text.proofs.ManagerLemmas.{PassesOn}
-use Rattle.script_text.proofs.manager.Manager.pass.Given as goal
+use Rattle.script_text.proofs.manager.Manager.pass_all.Given as goal
 
 -- those for which time passed, and those that are left, are all
 abbrev pub invariant-loop-live : goal.invariant-loop-live
-invariant-loop-live l = (whole : List PlainLive) → AreLive l.fn.self.live.items whole → PassesOn l.fn.now l.lines.items l.kept.items (into_iter_items l.live-iterator) whole
+invariant-loop-live l = (whole : List PlainLive) → AreLive l.fn.self.live.items whole → PassesOn l.fn.now l.soonest l.lines.items l.kept.items (into_iter_items l.live-iterator) whole
