@@ -13,7 +13,7 @@ use Rattle.bosh_http.specs.Judging.{IsServed, IsRefusedBy}
 use Rattle.bosh_http.specs.Message.{longest_head, longest_content, content_length, fields_of, first_reason, reasons_of, refusal_of, BeginsWith, HasRefusedHead, BeginsNoHead, IsHeadBegun}
 use Rattle.bosh_http.specs.Target.{ends_in_target}
 use Rattle.bosh_http.specs.declared.refusal.HttpRefusal.{HttpRefusal}
-use Rattle.bosh_http.specs.declared.refusal.HttpRefusal.TheVariants.{Cut, Malformed, HeadTooLarge, BadHost, Method, Path, Transfer, Encoding, NoLength, BadLength, TooLong}
+use Rattle.bosh_http.specs.declared.refusal.HttpRefusal.TheVariants.{Cut, Malformed, HeadTooLarge, BadHost, Get, Method, Path, Transfer, Encoding, NoLength, BadLength, TooLong}
 use Rattle.bosh_http.proofs.TargetLemmas.{in_target, not_in_target}
 
 -- ---- bytes that no bytes can follow to make a head
@@ -62,14 +62,14 @@ all_off (reason ∷ others) is = let step = off_step reason.0 reason.1 (first_re
 -- a head that is served states one length
 length_is_good : (minor : ℕ) (method target : List ℕ) (fields : List (List ℕ × List ℕ)) → refusal_of minor method target fields ≡ None → has_bad_length fields ≡ false
 unfolding refusal_of
-length_is_good minor method target fields is = let off = all_off (reasons_of minor method target fields) is in off.1.1.1.1.1.1.1.0
+length_is_good minor method target fields is = let off = all_off (reasons_of minor method target fields) is in off.1.1.1.1.1.1.1.1.0
 
 -- and that it is short enough
 length_is_short : (minor : ℕ) (method target : List ℕ) (fields : List (List ℕ × List ℕ)) → refusal_of minor method target fields ≡ None → first_length (lengths_of fields) ≤ longest_content
 unfolding refusal_of
 length_is_short minor method target fields is =
     let off = all_off (reasons_of minor method target fields) is in
-    nat_short (first_length (lengths_of fields)) off.1.1.1.1.1.1.1.1.0
+    nat_short (first_length (lengths_of fields)) off.1.1.1.1.1.1.1.1.1.0
   where
     nat_short : (n : ℕ) → nat_lt longest_content n ≡ false → n ≤ longest_content
     nat_short n is = grind (arith, nat_tests)
@@ -79,7 +79,7 @@ refused_by : (stream : List ℕ) (minor : ℕ) (method target : List ℕ) (field
 unfolding refusal_of
 refused_by stream minor method target fields refusal is =
     reason_has (λ r. HasRefusedHead stream r → IsRefusedBy stream r) (reasons_of minor method target fields) refusal
-    (λ x. (tt, inr x), (λ x. (tt, x), (λ x. (tt, x), (λ x. (tt, x), (λ x. (tt, x), (λ x. (tt, x), (λ x. (tt, x), (λ x. (tt, x), (λ x. (tt, x), tt))))))))) is
+    (λ x. (tt, inr x), (λ x. (tt, x), (λ x. (tt, x), (λ x. (tt, x), (λ x. (tt, x), (λ x. (tt, x), (λ x. (tt, x), (λ x. (tt, x), (λ x. (tt, x), (λ x. (tt, x), tt)))))))))) is
 
 -- ---- a whole head
 
@@ -201,6 +201,7 @@ IsRefusedBy-append bytes Malformed more (settled, refused) = (tt, no_head bytes 
 IsRefusedBy-append bytes HeadTooLarge more (settled, inl (long, begun)) = (tt, inl (long_begun bytes more long begun))
 IsRefusedBy-append bytes HeadTooLarge more (settled, inr refused) = (tt, inr (refused_head bytes HeadTooLarge more refused))
 IsRefusedBy-append bytes BadHost more (settled, refused) = (tt, refused_head bytes BadHost more refused)
+IsRefusedBy-append bytes Get more (settled, refused) = (tt, refused_head bytes Get more refused)
 IsRefusedBy-append bytes Method more (settled, refused) = (tt, refused_head bytes Method more refused)
 IsRefusedBy-append bytes Path more (settled, refused) = (tt, refused_head bytes Path more refused)
 IsRefusedBy-append bytes Transfer more (settled, refused) = (tt, refused_head bytes Transfer more refused)

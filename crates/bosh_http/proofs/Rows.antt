@@ -6,7 +6,7 @@ use Rattle.httparse.specs.Grammar.{RequestHead, Field, crlf, trim_ows}
 use Rattle.bosh_http.specs.Fields.{is_closing}
 use Rattle.bosh_http.specs.Message.{refusal_of, head_refusal, content_length, fields_of}
 use Rattle.bosh_http.specs.Texts.{response_text, response_with}
-use Rattle.bosh_http.specs.declared.refusal.HttpRefusal.TheVariants.{BadHost, Method, Path, Transfer, Encoding, NoLength, BadLength, TooLong}
+use Rattle.bosh_http.specs.declared.refusal.HttpRefusal.TheVariants.{BadHost, Get, Method, Path, Transfer, Encoding, NoLength, BadLength, TooLong}
 
 -- a field line
 abbrev field : List ℕ → List ℕ → Field
@@ -80,8 +80,12 @@ identity : head_refusal (post (length_68 ∷ field (codes "Content-Encoding") (c
 unfolding refusal_of trim_ows
 identity = refl
 
--- another method on another path
-method_first : head_refusal (head (codes "GET") (codes "/x") (host ∷ [])) ≡ Some Method
+-- a person who looks, and another method, each on another path
+get_first : head_refusal (head (codes "GET") (codes "/x") (host ∷ [])) ≡ Some Get
+unfolding refusal_of trim_ows
+get_first = refl
+
+method_first : head_refusal (head (codes "HEAD") (codes "/x") (host ∷ [])) ≡ Some Method
 unfolding refusal_of trim_ows
 method_first = refl
 

@@ -9,7 +9,7 @@ use Rattle.httparse.specs.Grammar.{LineEnd, lf, print_blank, AllPass, is_uri_byt
 use Rattle.httparse.proofs.GrammarLemmas.{request_unique}
 use Rattle.bosh_http.specs.Message.{longest_head, content_length, head_refusal, BeginsWith, BeginsNoHead, IsHeadBegun, EndsInContent, HasRefusedHead, IsRefused, IsRequestMessage}
 use Rattle.bosh_http.specs.declared.refusal.HttpRefusal.{HttpRefusal}
-use Rattle.bosh_http.specs.declared.refusal.HttpRefusal.TheVariants.{Cut, Malformed, HeadTooLarge, BadHost, Method, Path, Transfer, Encoding, NoLength, BadLength, TooLong}
+use Rattle.bosh_http.specs.declared.refusal.HttpRefusal.TheVariants.{Cut, Malformed, HeadTooLarge, BadHost, Get, Method, Path, Transfer, Encoding, NoLength, BadLength, TooLong}
 use Rattle.bosh_http.proofs.MessageLemmas.{one_refusal, served_or_refused}
 
 -- one of two fronts of a list is a front of the other
@@ -142,6 +142,7 @@ tells stream Malformed is = inr (inl (refl, is))
 tells stream HeadTooLarge (inl long) = inr (inr (inl (refl, long)))
 tells stream HeadTooLarge (inr refused) = inr (inr (inr refused))
 tells stream BadHost is = inr (inr (inr is))
+tells stream Get is = inr (inr (inr is))
 tells stream Method is = inr (inr (inr is))
 tells stream Path is = inr (inr (inr is))
 tells stream Transfer is = inr (inr (inr is))

@@ -4,7 +4,7 @@ use Rattle.httparse.specs.Grammar.{RequestHead, print_request}
 use Rattle.bosh_http.specs.Fields.{is_closing}
 use Rattle.bosh_http.specs.Message.{BeginsWith, head_refusal, content_length, fields_of, IsHeadBegun, IsRefused}
 use Rattle.bosh_http.specs.declared.refusal.HttpRefusal.{HttpRefusal}
-use Rattle.bosh_http.specs.declared.refusal.HttpRefusal.TheVariants.{Cut, Malformed, HeadTooLarge, BadHost, Method, Path, Transfer, Encoding, NoLength, BadLength, TooLong}
+use Rattle.bosh_http.specs.declared.refusal.HttpRefusal.TheVariants.{Cut, Malformed, HeadTooLarge, BadHost, Get, Method, Path, Transfer, Encoding, NoLength, BadLength, TooLong}
 use Rattle.bosh_http.specs.Heads.{TellsOf}
 use Rattle.bosh_http.specs.declared.heads.Judged.{Judged}
 
@@ -24,6 +24,7 @@ IsSettled (Cut count) = ⊥
 IsSettled Malformed = Unit {0}
 IsSettled HeadTooLarge = Unit {0}
 IsSettled BadHost = Unit {0}
+IsSettled Get = Unit {0}
 IsSettled Method = Unit {0}
 IsSettled Path = Unit {0}
 IsSettled Transfer = Unit {0}

@@ -5,7 +5,7 @@ use Rattle.httparse.specs.Grammar.{RequestHead, print_request, ReadsRequest, Has
 use Rattle.httparse.specs.Spans.{name_and_value}
 use Rattle.bosh_http.specs.Fields.{has_too_many, has_bad_host, has_transfer, has_encoding, has_no_length, has_bad_length, lengths_of, first_length, is_closing}
 use Rattle.bosh_http.specs.declared.refusal.HttpRefusal.{HttpRefusal}
-use Rattle.bosh_http.specs.declared.refusal.HttpRefusal.TheVariants.{Cut, Malformed, HeadTooLarge, BadHost, Method, Path, Transfer, Encoding, NoLength, BadLength, TooLong}
+use Rattle.bosh_http.specs.declared.refusal.HttpRefusal.TheVariants.{Cut, Malformed, HeadTooLarge, BadHost, Get, Method, Path, Transfer, Encoding, NoLength, BadLength, TooLong}
 
 -- the most bytes that a head may have
 abbrev pub longest_head : ℕ
@@ -33,6 +33,7 @@ abbrev pub reasons_of : ℕ → List ℕ → List ℕ → List (List ℕ × List
 reasons_of minor method target fields =
     (has_too_many fields, HeadTooLarge)
     ∷ (has_bad_host minor fields, BadHost)
+    ∷ (bytes_eq method (codes "GET"), Get)
     ∷ (not (bytes_eq method (codes "POST")), Method)
     ∷ (not (bytes_eq target (codes "/http-bind")), Path)
     ∷ (has_transfer fields, Transfer)
@@ -87,6 +88,7 @@ IsRefused stream (Cut count) = (count ≡ length stream) × (0 < count) × (((co
 IsRefused stream Malformed = BeginsNoHead stream
 IsRefused stream HeadTooLarge = ((longest_head ≤ length stream) × IsHeadBegun (take longest_head stream)) ⊎ HasRefusedHead stream HeadTooLarge
 IsRefused stream BadHost = HasRefusedHead stream BadHost
+IsRefused stream Get = HasRefusedHead stream Get
 IsRefused stream Method = HasRefusedHead stream Method
 IsRefused stream Path = HasRefusedHead stream Path
 IsRefused stream Transfer = HasRefusedHead stream Transfer

@@ -50,6 +50,9 @@ fn refusal_of(
     if fields::has_bad_host(minor, bytes, headers) {
         return Some(HttpRefusal::BadHost);
     }
+    if method == b"GET".as_slice() {
+        return Some(HttpRefusal::Get);
+    }
     if method != b"POST".as_slice() {
         return Some(HttpRefusal::Method);
     }

@@ -15,7 +15,9 @@ pub enum HttpRefusal {
     HeadTooLarge,
     /// The field Host is missing in HTTP/1.1, or is there twice.
     BadHost,
-    /// The method isn't `POST`.
+    /// The method is `GET`, as where a person looks.
+    Get,
+    /// The method is neither `POST` nor `GET`.
     Method,
     /// The target isn't `/http-bind`.
     Path,
@@ -42,7 +44,7 @@ impl HttpRefusal {
             }
             HttpRefusal::BadLength => StatusCode::BAD_REQUEST,
             HttpRefusal::HeadTooLarge => StatusCode::REQUEST_HEADER_FIELDS_TOO_LARGE,
-            HttpRefusal::Method => StatusCode::METHOD_NOT_ALLOWED,
+            HttpRefusal::Get | HttpRefusal::Method => StatusCode::METHOD_NOT_ALLOWED,
             HttpRefusal::Path => StatusCode::NOT_FOUND,
             HttpRefusal::Transfer => StatusCode::NOT_IMPLEMENTED,
             HttpRefusal::Encoding => StatusCode::UNSUPPORTED_MEDIA_TYPE,
