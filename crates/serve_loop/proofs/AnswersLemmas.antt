@@ -15,11 +15,6 @@ pub answers_from : {E : Type 0} (r : Result Answering E) (site : Setting) (body 
 answers_from (Ok answering) site body text old new before after P is so tells = subst (Answers site body old new before after) (sym is) (tells so)
 answers_from (Err error) site body text old new before after P is so tells = is
 
--- since the trail was as before
-pub answers_since : {E : Type 0} (r : Result Answering E) (site : Setting) (body : List ℕ) (old same new : List Traced) (before after : Purse) → same ≡ old
-    → IfOk r (Answers site body same new before after) → IfOk r (Answers site body old new before after)
-answers_since r site body old same new before after is answers = subst (λ (l : List Traced). IfOk r (Answers site body l new before after)) is answers
-
 -- what is so for want of memory
 pub on_err : {T E : Type 0} (r : Result T E) (P : Type 0) → P → OnErr r P
 on_err (Ok x) P so = tt
@@ -37,7 +32,3 @@ both_ok (Err error) P Q p q = p
 -- what shows in one way, shows in another
 pub shown_as : (old new : List Traced) (line : TrailLine) (Shows Tells : Evidence → Type 0) → ((by : Evidence) → Shows by → Tells by) → Adds old new line Shows → Adds old new line Tells
 shown_as old new line Shows Tells by adds = record { by = adds.by; grew = adds.grew; shows = by adds.by adds.shows }
-
--- a trail that is as before, and then grows
-pub from_same : (old same new : List Traced) (line : TrailLine) (Shows : Evidence → Type 0) → same ≡ old → Adds same new line Shows → Adds old new line Shows
-from_same old same new line Shows is adds = subst (λ (l : List Traced). Adds l new line Shows) is adds

@@ -22,10 +22,12 @@ use Rattle.serve_loop.specs.declared.connection.Stage.{Stage}
 use Rattle.serve_loop.specs.declared.connection.Stage.TheVariants as stages
 use Rattle.serve_loop.specs.declared.owed.Owed.{Owed}
 use Rattle.serve_loop.specs.declared.owed.Owed.TheVariants as owed
+use Rattle.serve_loop.specs.declared.trail.Evidence.TheVariants as evidence
 use Rattle.serve_loop.specs.declared.trail.Traced.{Traced}
+use Rattle.serve_loop.specs.declared.trail.TrailLine.TheVariants as lines
 use Rattle.serve_loop.specs.Answering.{Answers, Collects, IsLost, IsUnanswered, IsWaiting}
 use Rattle.serve_loop.specs.Trail.{Setting}
-use Rattle.serve_loop.specs.Connections.{Answered, Ends, EndsItself, Exchange, Follows, Gave, HasAnswer, HasRead, HasRefused, IsAskedOr, IsLeft, IsRefusedOr, LacksMemory, Moves, Outside, Owes, ReadsOff, Stands, TellsTruth, closes, end_after, lines_of, message, message_of, messages, stage_after, stage_behind}
+use Rattle.serve_loop.specs.Connections.{Answered, Ends, EndsItself, Exchange, Follows, Gave, HasAnswer, HasRead, HasRefused, IsAskedOr, LacksMemory, Moves, Outside, Owes, ReadsOff, Stands, TellsTruth, closes, end_after, lines_of, message, message_of, messages, stage_after, stage_behind}
 use Rattle.serve_loop.proofs.EffectLemmas.{adds_nothing_same}
 
 -- nothing was given or called, and no fault came
@@ -55,29 +57,15 @@ moves_to_request site old new body closing stage reads keeps trail purse faults 
       stream = old.stream;
       purse = new.purse;
       answered = still site start old new es a keeps trail purse faults;
-      came = inr (body, closing, reads, inl (inl (adds_nothing_same new.purse new.purse refl)));
+      came = inr (body, closing, reads, inl (adds_nothing_same new.purse new.purse refl));
     })
-
--- a refusal leaves the stream as it is
-refused_keeps : (stream rest : Option (List ℕ)) (refusal : HttpRefusal) → Reads stream rest (http.Refused refusal) → Keeps stream rest
-refused_keeps None rest refusal reads = tt
-refused_keeps (Some bytes) None refusal reads = reads
-refused_keeps (Some bytes) (Some left) refusal reads = reads.1
 
 pub moves_to_refusal : (site : Setting) (old new : Outside) (refusal : HttpRefusal) (stage : Stage) → Reads old.stream new.stream (http.Refused refusal)
-    → Keeps old.given new.given → new.purse ≡ old.purse → new.faults ≡ old.faults → IsRefusedOr old.trail new.trail refusal stage
-    → Moves site old new stages.Reading stage
-moves_to_refusal site old new refusal stage reads keeps purse faults (inl is) start (es, a) =
-    subst (Stands site start new) (sym is.0)
-    (record { exchanges = es; stream = old.stream; trail = old.trail; answered = still site start old (record new { trail = old.trail }) es a keeps refl purse faults; reads = reads; tells = is.1 })
-moves_to_refusal site old new refusal stage reads keeps purse faults (inr is) start (es, a) =
-    subst (Stands site start new) (sym is.0) (record {
-      exchanges = es;
-      stream = old.stream;
-      purse = new.purse;
-      answered = still site start old new es a keeps is.1 purse faults;
-      came = inl (refused_keeps old.stream new.stream refusal reads, refl);
-    })
+    → Keeps old.given new.given → new.purse ≡ old.purse → new.faults ≡ old.faults → stage ≡ stages.Owing (owed.Refusal refusal)
+    → new.trail ≡ old.trail ++ record { line = lines.Http refusal; evidence = evidence.Request } ∷ [] → Moves site old new stages.Reading stage
+moves_to_refusal site old new refusal stage reads keeps purse faults is told start (es, a) =
+    subst (Stands site start new) (sym is)
+    (record { exchanges = es; stream = old.stream; trail = old.trail; answered = still site start old (record new { trail = old.trail }) es a keeps refl purse faults; reads = reads; tells = told })
 
 pub moves_to_end : (site : Setting) (old new : Outside) → Reads old.stream new.stream http.End → Keeps old.given new.given → new.trail ≡ old.trail
     → new.purse ≡ old.purse → new.faults ≡ old.faults → Moves site old new stages.Reading (stages.Over ends.Ended)
@@ -190,8 +178,8 @@ owes_on site start s s' given trail purse n m owed.NoMemory keeps same h = recor
   came = came_on h.came;
 }
   where
-    came_on : (Keeps h.stream s × (purse ≡ h.purse)) ⊎ ((body : List ℕ) × (closing : Bool) × Reads h.stream s (http.Request body closing) × IsLeft site body h.purse purse)
-        → (Keeps h.stream s' × (purse ≡ h.purse)) ⊎ ((body : List ℕ) × (closing : Bool) × Reads h.stream s' (http.Request body closing) × IsLeft site body h.purse purse)
+    came_on : (Keeps h.stream s × (purse ≡ h.purse)) ⊎ ((body : List ℕ) × (closing : Bool) × Reads h.stream s (http.Request body closing) × IsLost site body h.purse purse)
+        → (Keeps h.stream s' × (purse ≡ h.purse)) ⊎ ((body : List ℕ) × (closing : Bool) × Reads h.stream s' (http.Request body closing) × IsLost site body h.purse purse)
     came_on (inl (kept, none)) = inl (Keeps-trans h.stream s s' kept keeps, none)
     came_on (inr (body, closing, reads, left)) = inr (body, closing, reads_kept h.stream s s' body closing reads keeps, left)
 
@@ -263,7 +251,7 @@ moves_asked site stream given trail trail' purse purse' n body closing answering
 
 -- there was no memory for a request that was read
 wanting : (site : Setting) (start : Outside) (stream given : Option (List ℕ)) (trail trail' : List Traced) (purse purse' : Purse) (n : ℕ) (body : List ℕ) (closing : Bool) → trail' ≡ trail
-    → IsLeft site body purse purse' → HasRead site start (after_write stream given trail purse n) body closing → LacksMemory site start (after_write stream given trail' purse' n)
+    → IsLost site body purse purse' → HasRead site start (after_write stream given trail purse n) body closing → LacksMemory site start (after_write stream given trail' purse' n)
 wanting site start stream given trail trail' purse purse' n body closing same left read =
     let now = read_by site start stream given trail trail' purse n body closing same read in
     record { exchanges = now.exchanges; stream = now.stream; purse = purse; answered = now.answered; came = inr (body, closing, now.reads, left) }
@@ -272,7 +260,7 @@ pub moves_wanting : (site : Setting) (stream given : Option (List ℕ)) (trail t
     → IsLost site body purse purse'
     → Moves site (after_write stream given trail purse n) (after_write stream given trail' purse' n) (stages.Asked body closing) (stages.Owing owed.NoMemory)
 moves_wanting site stream given trail trail' purse purse' n body closing same lost start read =
-    wanting site start stream given trail trail' purse purse' n body closing same (inl lost) read
+    wanting site start stream given trail trail' purse purse' n body closing same lost read
 
 -- ---- looking for an answer
 
@@ -309,12 +297,6 @@ moves_collected site stream given trail trail' purse purse' n w closing looked a
       read = read_by site start stream given trail trail' waits.purse n waits.body closing more.0 waits.read;
       taken = more.1;
     }
-
-pub moves_wanting_later : (site : Setting) (stream given : Option (List ℕ)) (trail trail' : List Traced) (purse purse' : Purse) (n : ℕ) (w : Waiting) (closing looked : Bool) → trail' ≡ trail
-    → purse' ≡ purse → Moves site (after_write stream given trail purse n) (after_write stream given trail' purse' n) (stages.Waiting w closing looked) (stages.Owing owed.NoMemory)
-moves_wanting_later site stream given trail trail' purse purse' n w closing looked same kept start waits =
-    wanting site start stream given trail trail' waits.purse purse' n waits.body closing same
-    (inr (w, subst (λ p. IsWaiting site waits.purse p waits.body w) (sym kept) waits.waits)) waits.read
 
 -- ---- the whole
 

@@ -1,8 +1,9 @@
 -- What became of a connection.
-use Rattle.std.specs.Prelude.{◌≡◌, ℕ, ◌⊎◌, true, false, Bool, List, [], ◌∷◌, ◌++◌, All, IsSome, if◌then◌else◌, Option, flat_map, map}
+use Rattle.std.specs.Prelude.{◌≡◌, ℕ, ◌⊎◌, true, false, Bool, List, [], ◌∷◌, ◌++◌, All, IsSome, if◌then◌else◌, Option, codes, flat_map, map}
 use Rattle.std.specs.Io.KnownBytes.{Appends, Keeps, prepend_known}
 use Rattle.bosh_http.specs.declared.reading.HttpIn.TheVariants as http
 use Rattle.bosh_http.specs.declared.refusal.HttpRefusal.{HttpRefusal}
+use Rattle.bosh_http.specs.declared.refusal.HttpRefusal.TheVariants.{Cut, Malformed, HeadTooLarge, BadHost, Get, Method, Path, Transfer, Encoding, NoLength, BadLength, TooLong}
 use Rattle.bosh_http.specs.Reading.{Reads}
 use Rattle.bosh_http.specs.Refusal.{status_of}
 use Rattle.bosh_http.specs.Texts.{response_text}
@@ -113,10 +114,6 @@ pub record HasRefused (site : Setting) (start now : Outside) (refusal : HttpRefu
   pub reads : Reads stream now.stream (http.Refused refusal)
   pub tells : now.trail ≡ trail ++ record { line = lines.Http refusal; evidence = evidence.Request } ∷ []
 
--- what there was no memory for came to nothing, or waits in its session
-abbrev pub IsLeft : Setting → List ℕ → Purse → Purse → Type 0
-IsLeft site body old new = IsLost site body old new ⊎ ((w : Waiting) × IsWaiting site old new body w)
-
 -- and memory was wanting for what came then, which is a request or no whole one
 pub record LacksMemory (site : Setting) (start now : Outside) : Type 0 where
   pub exchanges : List Exchange
@@ -124,7 +121,7 @@ pub record LacksMemory (site : Setting) (start now : Outside) : Type 0 where
   pub purse : Purse
   pub answered : Answered site start exchanges (record now { stream = stream; purse = purse })
   pub came : (Keeps stream now.stream × (now.purse ≡ purse))
-      ⊎ ((body : List ℕ) × (closing : Bool) × Reads stream now.stream (http.Request body closing) × IsLeft site body purse now.purse)
+      ⊎ ((body : List ℕ) × (closing : Bool) × Reads stream now.stream (http.Request body closing) × IsLost site body purse now.purse)
 
 -- the parts of what is to be given
 abbrev pub status_owed : Owed → ℕ
@@ -132,9 +129,28 @@ status_owed (owed.Answer text closing) = 200
 status_owed (owed.Refusal refusal) = status_of refusal
 status_owed owed.NoMemory = 503
 
+-- what a person who looks is shown: a line that says what this is
+unfoldable pub shown_text : List ℕ
+shown_text = codes "<p xmlns='http://www.w3.org/1999/xhtml'>This is Robelava, a BOSH connection manager: chat clients speak XMPP with it by POST (XEP-0124).</p>\n"
+
+-- the content of a refusal
+abbrev pub refused_text : HttpRefusal → List ℕ
+refused_text (Cut count) = []
+refused_text Malformed = []
+refused_text HeadTooLarge = []
+refused_text BadHost = []
+refused_text Get = shown_text
+refused_text Method = []
+refused_text Path = []
+refused_text Transfer = []
+refused_text Encoding = []
+refused_text NoLength = []
+refused_text BadLength = []
+refused_text TooLong = []
+
 abbrev pub text_owed : Owed → List ℕ
 text_owed (owed.Answer text closing) = text
-text_owed (owed.Refusal refusal) = []
+text_owed (owed.Refusal refusal) = refused_text refusal
 text_owed owed.NoMemory = []
 
 abbrev pub closes : Owed → Bool
@@ -280,12 +296,6 @@ IsNext (stages.Over end) next = next ≡ stages.Over end
 -- the request is asked, or there is no memory for it
 abbrev pub IsAskedOr : List ℕ → Bool → Stage → Type 0
 IsAskedOr body closing stage = (stage ≡ stages.Asked body closing) ⊎ (stage ≡ stages.Owing owed.NoMemory)
-
--- the refusal is told and owed, or there is no memory for it
-abbrev pub IsRefusedOr : List Traced → List Traced → HttpRefusal → Stage → Type 0
-IsRefusedOr old new refusal stage =
-    ((stage ≡ stages.Owing (owed.Refusal refusal)) × (new ≡ old ++ record { line = lines.Http refusal; evidence = evidence.Request } ∷ []))
-    ⊎ ((stage ≡ stages.Owing owed.NoMemory) × (new ≡ old))
 
 -- where a connection stands by what there is for its request
 abbrev pub stage_after : Answering → Bool → Bool → Stage

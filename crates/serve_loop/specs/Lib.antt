@@ -2,5 +2,4 @@ pub mod Answering
 pub mod Asked
 pub mod Connections
 pub mod Effects
-pub mod Tracing
 pub mod Trail

@@ -3,7 +3,6 @@ ghost use Rattle.std.specs.Prelude.{◌≡◌, ℕ, List, None, Option, IfOk, Is
 ghost use Rattle.std.specs.BTreeMap.{IsUnchanged};
 ghost use Rattle.parked_gate.specs.Passes.{IsPassOf, Looks, known};
 ghost use Rattle.serve_loop.specs.Answering.{Answers, Collects, IsLost, IsWaiting, ShowsDirectory, StaysHeld, TellsLast};
-ghost use Rattle.serve_loop.specs.Tracing.{HasRoom};
 ghost use Rattle.serve_loop.specs.Trail.{Setting, setting};
 ghost use Rattle.session_core.specs.State.{is_over};
 ghost use Rattle.session_journal.specs.Stored.{After};
@@ -59,13 +58,12 @@ impl<B: Bell, M: Names> Worker<B, M> {
     ) -> Result<Answering, AllocError>
         requires { IsPassOf site.now.directory.now self.old.purse.directory }
         ensures pass { IsPassOf site.now.directory.now self.new.purse.directory }
-        ensures answers { IfOk result (Answers (setting site.now.hosts.now site.now.limit (C.moment site.now.clock.now)) body self.old.trail.lines.items self.new.trail.lines.items
+        ensures answers { IfOk result (Answers (setting site.now.hosts.now site.now.limit (C.moment site.now.clock.now)) body self.old.trail self.new.trail
             self.old.purse self.new.purse) }
-        ensures err { OnErr result (self.new.trail.lines.items ≡ self.old.trail.lines.items) }
+        ensures err { OnErr result (self.new.trail ≡ self.old.trail) }
         ensures lost { OnErr result (IsLost (setting site.now.hosts.now site.now.limit (C.moment site.now.clock.now)) body self.old.purse self.new.purse) }
         ensures silences { B.silences self.new.bell ≡ B.silences self.old.bell }
     {
-        self.trail.reserve()?;
         let asked = what_is_asked(site.alloc, site.hosts, body.as_slice())?;
         match asked {
             Asked::Nothing(condition) => {
@@ -76,41 +74,33 @@ impl<B: Bell, M: Names> Worker<B, M> {
         }
     }
 
-    /// What there is by now for a request that waits. The only error is want of memory, before the session is called.
-    pub(crate) fn collect<R: Wait>(
-        &mut self,
-        rt: &R,
-        waiting: Waiting,
-    ) -> Result<Answering, AllocError>
+    /// What there is by now for a request that waits. It takes no memory.
+    pub(crate) fn collect<R: Wait>(&mut self, rt: &R, waiting: Waiting) -> Answering
         requires { IsSome (held self.old.purse.sessions waiting.session.number) }
         ensures directory { self.new.purse.directory ≡ self.old.purse.directory }
-        ensures held { IfOk result (StaysHeld self.new.purse.sessions) }
+        ensures held { StaysHeld self.new.purse.sessions result }
         ensures collects { (site : Setting) → (body : List ℕ) → (before : Purse) → IsWaiting site before self.old.purse body waiting
-            → IfOk result (Collects site body self.old.trail.lines.items self.new.trail.lines.items before self.new.purse waiting) }
-        ensures err { OnErr result (self.new.trail.lines.items ≡ self.old.trail.lines.items) }
-        ensures kept { OnErr result (self.new.purse ≡ self.old.purse) }
+            → Collects site body self.old.trail self.new.trail before self.new.purse waiting result }
         ensures silences { B.silences self.new.bell ≡ B.silences self.old.bell }
     {
-        self.trail.reserve()?;
         let number = waiting.session.number;
         self.bell.tune(BellKey(number));
         match self.purse.poll(rt, number, waiting.ticket) {
-            None => Ok(Answering::Waits(waiting)),
+            None => Answering::Waits(waiting),
             Some(Found::Answer(text)) => {
                 self.told_by_last(rt, waiting.session);
-                Ok(Answering::Now(text))
+                Answering::Now(text)
             }
-            Some(Found::Superseded) => Ok(Answering::Superseded),
-            Some(Found::UnknownTicket) => Ok(Answering::Superseded),
+            Some(Found::Superseded) => Answering::Superseded,
+            Some(Found::UnknownTicket) => Answering::Superseded,
         }
     }
 
     /// The last entry that the session's pass has seen answers the request. A session that has ended is let go.
     pub(crate) fn told_by_last<R: Wait>(&mut self, rt: &R, session: Named)
-        requires room { HasRoom self.old.trail }
         requires held { IsSome (held self.old.purse.sessions session.number) }
         ensures told { (x : SessionHandle) → held self.old.purse.sessions session.number ≡ Some x
-            → TellsLast self.old.trail.lines.items self.new.trail.lines.items self.new.purse.sessions session.number session.sid x }
+            → TellsLast self.old.trail self.new.trail self.new.purse.sessions session.number session.sid x }
         ensures others { OthersStay session.number self.old.purse.sessions self.new.purse.sessions }
         ensures directory { self.new.purse.directory ≡ self.old.purse.directory }
         ensures silences { B.silences self.new.bell ≡ B.silences self.old.bell }

@@ -4,7 +4,6 @@ ghost use Rattle.parked_gate.specs.Passes.{IsPassOf};
 ghost use Rattle.serve_loop.specs.Answering.{Adds, Answers, ShowsSession};
 ghost use Rattle.serve_loop.specs.Asked.{asked_of};
 ghost use Rattle.serve_loop.specs.Effects.{AddsNothing, FindsAtMost};
-ghost use Rattle.serve_loop.specs.Tracing.{HasRoom};
 ghost use Rattle.serve_loop.specs.Trail.{Names as NamesSession, refusal_text, setting};
 ghost use Rattle.session_attrs.specs.declared.request.Kind.TheVariants as kinds;
 ghost use Rattle.session_core.specs.Journal.{ToArrive};
@@ -36,13 +35,12 @@ impl<B: Bell, M: Names> Worker<B, M> {
         request: Request,
         body: SharedText,
     ) -> Result<Answering, AllocError>
-        requires room { HasRoom self.old.trail }
         requires pass { IsPassOf site.now.directory.now self.old.purse.directory }
         requires asks { asked_of site.now.hosts.now body ≡ Asked.Later request }
         ensures pass { IsPassOf site.now.directory.now self.new.purse.directory }
-        ensures answers { IfOk result (Answers (setting site.now.hosts.now site.now.limit (C.moment site.now.clock.now)) body self.old.trail.lines.items self.new.trail.lines.items
+        ensures answers { IfOk result (Answers (setting site.now.hosts.now site.now.limit (C.moment site.now.clock.now)) body self.old.trail self.new.trail
             self.old.purse self.new.purse) }
-        ensures err { OnErr result (self.new.trail.lines.items ≡ self.old.trail.lines.items) }
+        ensures err { OnErr result (self.new.trail ≡ self.old.trail) }
         ensures lost { OnErr result (AddsNothing self.old.purse self.new.purse) }
         ensures silences { B.silences self.new.bell ≡ B.silences self.old.bell }
     {
@@ -68,14 +66,13 @@ impl<B: Bell, M: Names> Worker<B, M> {
         request: Request,
         body: SharedText,
     ) -> Result<Answering, AllocError>
-        requires room { HasRoom self.old.trail }
         requires held { Holds self.old.purse.sessions session.number session.sid }
         requires names { NamesSession body session.sid request }
         ensures answers { (before : Purse) → FindsAtMost before self.old.purse session.number session.sid
-            → IfOk result (Answers (setting site.now.hosts.now site.now.limit (C.moment site.now.clock.now)) body self.old.trail.lines.items self.new.trail.lines.items before self.new.purse) }
+            → IfOk result (Answers (setting site.now.hosts.now site.now.limit (C.moment site.now.clock.now)) body self.old.trail self.new.trail before self.new.purse) }
         ensures directory { self.new.purse.directory ≡ self.old.purse.directory }
         ensures silences { B.silences self.new.bell ≡ B.silences self.old.bell }
-        ensures err { OnErr result (self.new.trail.lines.items ≡ self.old.trail.lines.items) }
+        ensures err { OnErr result (self.new.trail ≡ self.old.trail) }
         ensures lost { (before : Purse) → FindsAtMost before self.old.purse session.number session.sid → OnErr result (AddsNothing before self.new.purse) }
     {
         let now = site.clock.now();
@@ -99,15 +96,14 @@ impl<B: Bell, M: Names> Worker<B, M> {
 
     /// The session had ended: its handle is let go, unless there is no memory for the answer.
     fn over(&mut self, alloc: Global, sid: SharedText, number: u64) -> Result<Answering, AllocError>
-        requires room { HasRoom self.old.trail }
         requires held { IsSome (held self.old.purse.sessions number) }
         ensures text { IfOk result (λ answering. answering ≡ Answering.Now (refusal_text Condition.ItemNotFound)) }
         ensures line { IfOk result (λ _. (session : SessionHandle) → held self.old.purse.sessions number ≡ Some session
-            → Adds self.old.trail.lines.items self.new.trail.lines.items (TrailLine.Unknown sid) (ShowsSession session)) }
+            → Adds self.old.trail self.new.trail (TrailLine.Unknown sid) (ShowsSession session)) }
         ensures gone { IfOk result (λ _. (held self.new.purse.sessions number ≡ None) × OthersStay number self.old.purse.sessions self.new.purse.sessions) }
         ensures directory { self.new.purse.directory ≡ self.old.purse.directory }
         ensures silences { B.silences self.new.bell ≡ B.silences self.old.bell }
-        ensures err { OnErr result (self.new.trail.lines.items ≡ self.old.trail.lines.items) }
+        ensures err { OnErr result (self.new.trail ≡ self.old.trail) }
         ensures kept { OnErr result (self.new.purse ≡ self.old.purse) }
     {
         let evidence = Evidence::Session(Snapshot::of(session_of(&self.purse, number)));

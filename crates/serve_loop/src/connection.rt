@@ -1,10 +1,10 @@
 // One connection of a client, as a value that makes one move after the other.
-ghost use Rattle.std.specs.Prelude.{◌≡◌, ◌≤◌, ℕ, ◌⊎◌, [], Bool, IsSome, List, Option, true};
+ghost use Rattle.std.specs.Prelude.{◌≡◌, ◌≤◌, ℕ, ◌⊎◌, [], ◌∷◌, ◌++◌, Bool, IsSome, List, Option, true};
 ghost use Rattle.parked_gate.specs.Passes.{IsPassOf};
 ghost use Rattle.serve_loop.specs.declared.trail.Traced.{Traced};
 ghost use Rattle.session_table.specs.declared.purse.Purse.{Purse};
 ghost use Rattle.session_table.specs.Purses.{held};
-ghost use Rattle.serve_loop.specs.Connections.{IsAskedOr, IsNext, IsRefusedOr, IsServedBy, Moves, is_called, is_looked_at, is_read, outside, stage_after, stage_behind, wanted_by};
+ghost use Rattle.serve_loop.specs.Connections.{IsAskedOr, IsNext, IsServedBy, Moves, is_called, is_looked_at, is_read, outside, stage_after, stage_behind, wanted_by};
 ghost use Rattle.serve_loop.specs.Trail.{Setting, setting};
 
 use crate::answering::{Answering, Waiting};
@@ -119,8 +119,8 @@ impl Connection {
         ensures pass { IsPassOf site.now.directory.now worker.new.purse.directory }
         ensures held { IsServedBy worker.new.purse.sessions self.new.stage }
         ensures moves { Moves (setting site.now.hosts.now site.now.limit (C.moment site.now.clock.now))
-            (outside self.old.reader (L.left link.old) (L.given link.old) worker.old.trail.lines.items worker.old.purse (L.faults link.old))
-            (outside self.new.reader (L.left link.new) (L.given link.new) worker.new.trail.lines.items worker.new.purse (L.faults link.new))
+            (outside self.old.reader (L.left link.old) (L.given link.old) worker.old.trail worker.old.purse (L.faults link.old))
+            (outside self.new.reader (L.left link.new) (L.given link.new) worker.new.trail worker.new.purse (L.faults link.new))
             self.old.stage self.new.stage }
         ensures next { IsNext self.old.stage self.new.stage }
         ensures faults { L.faults link.old ≤ L.faults link.new }
@@ -144,8 +144,8 @@ impl Connection {
         ensures pass { IsPassOf site.now.directory.now worker.new.purse.directory }
         ensures held { IsServedBy worker.new.purse.sessions result }
         ensures moves { Moves (setting site.now.hosts.now site.now.limit (C.moment site.now.clock.now))
-            (outside self.old.reader (L.left link.old) (L.given link.old) worker.old.trail.lines.items worker.old.purse (L.faults link.old))
-            (outside self.new.reader (L.left link.new) (L.given link.new) worker.new.trail.lines.items worker.new.purse (L.faults link.new))
+            (outside self.old.reader (L.left link.old) (L.given link.old) worker.old.trail worker.old.purse (L.faults link.old))
+            (outside self.new.reader (L.left link.new) (L.given link.new) worker.new.trail worker.new.purse (L.faults link.new))
             stage result }
         ensures next { IsNext stage result }
         ensures faults { L.faults link.old ≤ L.faults link.new }
@@ -168,8 +168,8 @@ impl Connection {
     fn read<L: Link>(&mut self, trail: &mut Trail, link: &mut L) -> Stage
         ensures held { (purse : Purse) → IsServedBy purse.sessions result }
         ensures moves { (site : Setting) → (purse : Purse) → Moves site
-            (outside self.old.reader (L.left link.old) (L.given link.old) trail.old.lines.items purse (L.faults link.old))
-            (outside self.new.reader (L.left link.new) (L.given link.new) trail.new.lines.items purse (L.faults link.new))
+            (outside self.old.reader (L.left link.old) (L.given link.old) trail.old purse (L.faults link.old))
+            (outside self.new.reader (L.left link.new) (L.given link.new) trail.new purse (L.faults link.new))
             Stage.Reading result }
         ensures next { is_read result ≡ true }
         ensures faults { L.faults link.old ≤ L.faults link.new }
@@ -226,11 +226,9 @@ fn asked_stage(alloc: Global, body: Text, closing: bool) -> Stage
 
 // What came is no request that is served: the connection ends after that is said.
 fn refused(trail: &mut Trail, refusal: HttpRefusal) -> Stage
-    ensures { IsRefusedOr trail.old.lines.items trail.new.lines.items refusal result }
+    ensures stage { result ≡ Stage.Owing (Owed.Refusal refusal) }
+    ensures told { trail.new ≡ trail.old ++ record { line = TrailLine.Http refusal; evidence = Evidence.Request } ∷ [] }
 {
-    if trail.reserve().is_err() {
-        return Stage::Owing(Owed::NoMemory);
-    }
     trail.push(TrailLine::Http(refusal), Evidence::Request);
     Stage::Owing(Owed::Refusal(refusal))
 }
@@ -247,8 +245,8 @@ fn ask<R: Wait, C: Clock, B: Bell, M: Names>(
     ensures pass { IsPassOf site.now.directory.now worker.new.purse.directory }
     ensures held { IsServedBy worker.new.purse.sessions result }
     ensures moves { (stream given : Option (List ℕ)) → (faults : ℕ) → Moves (setting site.now.hosts.now site.now.limit (C.moment site.now.clock.now))
-        (record { stream = stream; given = given; trail = worker.old.trail.lines.items; purse = worker.old.purse; faults = faults })
-        (record { stream = stream; given = given; trail = worker.new.trail.lines.items; purse = worker.new.purse; faults = faults })
+        (record { stream = stream; given = given; trail = worker.old.trail; purse = worker.old.purse; faults = faults })
+        (record { stream = stream; given = given; trail = worker.new.trail; purse = worker.new.purse; faults = faults })
         (Stage.Asked body closing) result }
     ensures next { is_called result ≡ true }
     ensures silences { B.silences worker.new.bell ≡ B.silences worker.old.bell }
@@ -270,16 +268,13 @@ fn collected<R: Wait, B: Bell, M: Names>(
     ensures directory { worker.new.purse.directory ≡ worker.old.purse.directory }
     ensures held { IsServedBy worker.new.purse.sessions result }
     ensures moves { (site : Setting) → (looked : Bool) → (stream given : Option (List ℕ)) → (faults : ℕ) → Moves site
-        (record { stream = stream; given = given; trail = worker.old.trail.lines.items; purse = worker.old.purse; faults = faults })
-        (record { stream = stream; given = given; trail = worker.new.trail.lines.items; purse = worker.new.purse; faults = faults })
+        (record { stream = stream; given = given; trail = worker.old.trail; purse = worker.old.purse; faults = faults })
+        (record { stream = stream; given = given; trail = worker.new.trail; purse = worker.new.purse; faults = faults })
         (Stage.Waiting waiting closing looked) result }
     ensures next { is_looked_at result ≡ true }
     ensures silences { B.silences worker.new.bell ≡ B.silences worker.old.bell }
 {
-    match worker.collect(rt, waiting) {
-        Ok(answering) => stage_of(answering, closing, true),
-        Err(AllocError) => Stage::Owing(Owed::NoMemory),
-    }
+    stage_of(worker.collect(rt, waiting), closing, true)
 }
 
 fn stage_of(answering: Answering, closing: bool, looked: bool) -> Stage

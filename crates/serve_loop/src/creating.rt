@@ -5,7 +5,6 @@ ghost use Rattle.parked_gate.specs.Passes.{IsPassOf, known};
 ghost use Rattle.serve_loop.specs.Answering.{Adds, Answers, IsLost, ShowsDirectory};
 ghost use Rattle.serve_loop.specs.Asked.{asked_of};
 ghost use Rattle.session_attrs.specs.Serving.{can_serve};
-ghost use Rattle.serve_loop.specs.Tracing.{HasRoom};
 ghost use Rattle.serve_loop.specs.Trail.{IsNow, IsOpeningAt, Setting, refusal_text, setting};
 ghost use Rattle.session_attrs.specs.declared.request.Creation.{Creation};
 ghost use Rattle.session_attrs.specs.declared.request.Kind.TheVariants as kinds;
@@ -38,13 +37,12 @@ impl<B: Bell, M: Names> Worker<B, M> {
         body: SharedText,
         place: usize,
     ) -> Result<Answering, AllocError>
-        requires room { HasRoom self.old.trail }
         requires pass { IsPassOf site.now.directory.now self.old.purse.directory }
         requires asks { asked_of site.now.hosts.now body ≡ Asked.Creation request place }
         ensures pass { IsPassOf site.now.directory.now self.new.purse.directory }
-        ensures answers { IfOk result (Answers (setting site.now.hosts.now site.now.limit (C.moment site.now.clock.now)) body self.old.trail.lines.items self.new.trail.lines.items
+        ensures answers { IfOk result (Answers (setting site.now.hosts.now site.now.limit (C.moment site.now.clock.now)) body self.old.trail self.new.trail
             self.old.purse self.new.purse) }
-        ensures err { OnErr result (self.new.trail.lines.items ≡ self.old.trail.lines.items) }
+        ensures err { OnErr result (self.new.trail ≡ self.old.trail) }
         ensures lost { OnErr result (IsLost (setting site.now.hosts.now site.now.limit (C.moment site.now.clock.now)) body self.old.purse self.new.purse) }
         ensures silences { B.silences self.new.bell ≡ B.silences self.old.bell }
     {
@@ -66,13 +64,12 @@ impl<B: Bell, M: Names> Worker<B, M> {
 
     /// The directory said that it has no room.
     fn no_room(&mut self, alloc: Global) -> Result<Answering, AllocError>
-        requires { HasRoom self.old.trail }
         ensures text { IfOk result (λ answering. answering ≡ Answering.Now (refusal_text Condition.UndefinedCondition)) }
-        ensures line { IfOk result (λ _. Adds self.old.trail.lines.items self.new.trail.lines.items (TrailLine.NoSession Condition.UndefinedCondition)
+        ensures line { IfOk result (λ _. Adds self.old.trail self.new.trail (TrailLine.NoSession Condition.UndefinedCondition)
             (ShowsDirectory (known self.old.purse.directory))) }
         ensures purse { self.new.purse ≡ self.old.purse }
         ensures silences { B.silences self.new.bell ≡ B.silences self.old.bell }
-        ensures err { OnErr result (self.new.trail.lines.items ≡ self.old.trail.lines.items) }
+        ensures err { OnErr result (self.new.trail ≡ self.old.trail) }
     {
         let evidence = evidence_of(&self.purse);
         self.trail

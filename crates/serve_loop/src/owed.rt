@@ -1,11 +1,15 @@
 // What is to be written to a link.
 ghost use Rattle.std.specs.Prelude.{◌≡◌};
-ghost use Rattle.serve_loop.specs.Connections.{closes, end_after, status_owed, text_owed};
+ghost use Rattle.serve_loop.specs.Connections.{closes, end_after, refused_text, status_owed, text_owed};
 
 use crate::connection::ConnectionEnd;
 use bosh_http::HttpRefusal;
 use bosh_types::SharedText;
 use http::StatusCode;
+
+/// What a person who looks is shown. It is XHTML, since each answer says that it is XML.
+const SHOWN: &str =
+    "<p xmlns='http://www.w3.org/1999/xhtml'>This is Robelava, a BOSH connection manager: chat clients speak XMPP with it by POST (XEP-0124).</p>\n";
 
 /// What a connection has to write.
 #[derive(Drop)]
@@ -34,7 +38,8 @@ impl Owed {
     {
         match self {
             Owed::Answer { text, .. } => text.as_slice(),
-            Owed::Refusal(_) | Owed::NoMemory => b"",
+            Owed::Refusal(refusal) => refused_text(*refusal),
+            Owed::NoMemory => b"",
         }
     }
 
@@ -56,5 +61,16 @@ impl Owed {
             Owed::Answer { .. } | Owed::Refusal(_) => ConnectionEnd::Ended,
             Owed::NoMemory => ConnectionEnd::Memory,
         }
+    }
+}
+
+// The content of a refusal.
+#[tactic(auto, unfolding(crate::specs::Connections::shown_text))]
+fn refused_text(refusal: HttpRefusal) -> &'static [u8]
+    ensures { result.now ≡ refused_text refusal }
+{
+    match refusal {
+        HttpRefusal::Get => SHOWN.as_bytes(),
+        _ => b"",
     }
 }

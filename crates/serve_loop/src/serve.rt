@@ -24,8 +24,8 @@ pub fn serve_connection<R: Wait, L: Link, C: Clock, B: Bell, M: Names>(
 
     // What was read, answered and told, in order, what was added for it to which history, and how the connection ended.
     ensures served { Serves (setting site.now.hosts.now site.now.limit (C.moment site.now.clock.now))
-        (outside [] (L.left link.old) (L.given link.old) worker.old.trail.lines.items worker.old.purse (L.faults link.old))
-        (L.left link.new) (L.given link.new) worker.new.trail.lines.items worker.new.purse (L.faults link.new) result }
+        (outside [] (L.left link.old) (L.given link.old) worker.old.trail worker.old.purse (L.faults link.old))
+        (L.left link.new) (L.given link.new) worker.new.trail worker.new.purse (L.faults link.new) result }
     ensures silent { result ≡ ConnectionEnd.Silent → HasRisen (B.silences worker.old.bell) (B.silences worker.new.bell) }
     ensures silences { B.silences worker.old.bell ≤ B.silences worker.new.bell }
     ensures faults { L.faults link.old ≤ L.faults link.new }

@@ -2,7 +2,6 @@
 ghost use Rattle.std.specs.Prelude.{◌≡◌, ◌-◌, IfOk, OnErr, length};
 ghost use Rattle.parked_gate.specs.Passes.{known};
 ghost use Rattle.serve_loop.specs.Answering.{Adds, ShowsSession};
-ghost use Rattle.serve_loop.specs.Tracing.{HasRoom};
 ghost use Rattle.serve_loop.specs.Trail.{refusal_text};
 
 use crate::answering::Answering;
@@ -39,10 +38,9 @@ impl Trail {
         condition: Condition,
         evidence: Evidence,
     ) -> Result<Answering, AllocError>
-        requires { HasRoom self.old }
         ensures text { IfOk result (λ answering. answering ≡ Answering.Now (refusal_text condition)) }
-        ensures line { IfOk result (λ _. Adds self.old.lines.items self.new.lines.items (TrailLine.NoSession condition) (λ by. by ≡ evidence)) }
-        ensures err { OnErr result (self.new.lines.items ≡ self.old.lines.items) }
+        ensures line { IfOk result (λ _. Adds self.old self.new (TrailLine.NoSession condition) (λ by. by ≡ evidence)) }
+        ensures err { OnErr result (self.new ≡ self.old) }
     {
         let text = refusal(alloc, condition)?;
         self.push(TrailLine::NoSession(condition), evidence);
@@ -56,10 +54,9 @@ impl Trail {
         sid: SharedText,
         evidence: Evidence,
     ) -> Result<Answering, AllocError>
-        requires { HasRoom self.old }
         ensures text { IfOk result (λ answering. answering ≡ Answering.Now (refusal_text Condition.ItemNotFound)) }
-        ensures line { IfOk result (λ _. Adds self.old.lines.items self.new.lines.items (TrailLine.Unknown sid) (λ by. by ≡ evidence)) }
-        ensures err { OnErr result (self.new.lines.items ≡ self.old.lines.items) }
+        ensures line { IfOk result (λ _. Adds self.old self.new (TrailLine.Unknown sid) (λ by. by ≡ evidence)) }
+        ensures err { OnErr result (self.new ≡ self.old) }
     {
         let text = refusal(alloc, Condition::ItemNotFound)?;
         self.push(TrailLine::Unknown { sid }, evidence);
@@ -68,8 +65,7 @@ impl Trail {
 
     /// The entry answers the request, as this handle tells. It takes no memory.
     pub(crate) fn enter(&mut self, sid: SharedText, last: LastEntry, session: &SessionHandle)
-        requires { HasRoom self.old }
-        ensures { Adds self.old.lines.items self.new.lines.items (TrailLine.Entry sid last.caller last.place) (ShowsSession session.now) }
+        ensures { Adds self.old self.new (TrailLine.Entry sid last.caller last.place) (ShowsSession session.now) }
     {
         let LastEntry { caller, place } = last;
         let evidence = Evidence::Session(Snapshot::of(session));
@@ -78,9 +74,8 @@ impl Trail {
 
     /// The request created the session. The only error is want of memory.
     pub(crate) fn open(&mut self, session: &SessionHandle) -> Result<(), AllocError>
-        requires { HasRoom self.old }
-        ensures line { IfOk result (λ _. Adds self.old.lines.items self.new.lines.items (TrailLine.Opened session.now.sid) (ShowsSession session.now)) }
-        ensures err { OnErr result (self.new.lines.items ≡ self.old.lines.items) }
+        ensures line { IfOk result (λ _. Adds self.old self.new (TrailLine.Opened session.now.sid) (ShowsSession session.now)) }
+        ensures err { OnErr result (self.new ≡ self.old) }
     {
         let sid = session.sid.again()?;
         let evidence = Evidence::Session(Snapshot::of(session));

@@ -1,12 +1,12 @@
 // What became of the requests of a connection, for who runs the server.
-ghost use Rattle.std.specs.Prelude.{◌≡◌, ◌++◌, ◌∷◌, [], OnOk};
-ghost use Rattle.serve_loop.specs.Tracing.{HasRoom};
+ghost use Rattle.std.specs.Prelude.{◌≡◌, ◌++◌, ◌∷◌, []};
 
 use bosh_http::HttpRefusal;
 use bosh_types::{Condition, SharedText};
+use http_server::Log;
 use parked_gate::Pass;
 use session_table::{Directory, SessionHandle};
-use std::alloc::{AllocError, Global};
+use std::marker::Model;
 use std::snapshot::Snapshot;
 
 /// What became of one request.
@@ -50,41 +50,35 @@ pub struct Traced {
     pub evidence: Evidence,
 }
 
-/// The lines of a worker, one for each request that was read, in order.
+/// The lines of a worker, one for each request that was read, in order. Only proofs read them, and they take no memory.
 #[derive(Drop)]
 pub struct Trail {
-    pub(crate) lines: Vec<Traced>,
+    made: Log<Traced, ()>,
+}
+
+impl Model for Trail {
+    ghost use Rattle.std.specs.Prelude.{List};
+    ghost use Rattle.serve_loop.specs.declared.trail.Traced.{Traced};
+    ghost use Rattle.session_journal.specs.Recording.{entries_of};
+
+    ghost Value = { List Traced };
+
+    ghost view = { λ t. entries_of t.made.items };
 }
 
 impl Trail {
-    /// No request was read. It takes no memory.
-    pub fn new(alloc: Global) -> Trail
-        ensures { result.lines.items ≡ [] }
+    /// No request was read.
+    pub fn new() -> Trail
+        ensures { result ≡ [] }
     {
-        Trail {
-            lines: Vec::new(alloc),
-        }
+        Trail { made: Log::new() }
     }
 
-    pub fn lines(&self) -> &[Traced]
-        ensures { result.now ≡ self.now.lines.items }
-    {
-        self.lines.as_slice()
-    }
-
-    /// Room for one more line. The only error is want of memory.
-    pub(crate) fn reserve(&mut self) -> Result<(), AllocError>
-        ensures same { self.new.lines.items ≡ self.old.lines.items }
-        ensures room { OnOk result (HasRoom self.new) }
-    {
-        self.lines.reserve(1)
-    }
-
-    /// One more line. It takes no memory.
+    /// One more line.
     pub(crate) fn push(&mut self, line: TrailLine, evidence: Evidence)
-        requires { HasRoom self.old }
-        ensures { self.new.lines.items ≡ self.old.lines.items ++ record { line = line; evidence = evidence } ∷ [] }
+        ensures { self.new ≡ self.old ++ record { line = line; evidence = evidence } ∷ [] }
     {
-        self.lines.push_reserved(Traced { line, evidence });
+        let traced = Traced { line, evidence };
+        self.made = self.made.and(&traced, &());
     }
 }

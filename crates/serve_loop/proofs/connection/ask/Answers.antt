@@ -10,11 +10,11 @@ returns-in-Ok-clause-moves g c stream given faults =
     let site = setting c.args.site.now.hosts.now c.args.site.now.limit (g.C.Clock.moment c.args.site.now.clock.now) in
     let old = c.args.worker.now in
     let new = c.answer.new.self in
-    subst (Moves site (after_write stream given old.trail.lines.items old.purse faults) (after_write stream given new.trail.lines.items new.purse faults) (stages.Asked c.args.body c.args.closing))
+    subst (Moves site (after_write stream given old.trail old.purse faults) (after_write stream given new.trail new.purse faults) (stages.Asked c.args.body c.args.closing))
     (sym c.stage_of.ensures)
-    (moves_asked site stream given old.trail.lines.items new.trail.lines.items old.purse new.purse faults c.args.body c.args.closing c.in-Ok.answering c.in-Ok.ensures.answers)
+    (moves_asked site stream given old.trail new.trail old.purse new.purse faults c.args.body c.args.closing c.in-Ok.answering c.in-Ok.ensures.answers)
 
 pub returns-in-Err-clause-moves : goal.returns-in-Err-clause-moves
 returns-in-Err-clause-moves g c stream given faults =
-    moves_wanting _ stream given c.args.worker.now.trail.lines.items c.answer.new.self.trail.lines.items c.args.worker.now.purse c.answer.new.self.purse faults c.args.body c.args.closing
+    moves_wanting _ stream given c.args.worker.now.trail c.answer.new.self.trail c.args.worker.now.purse c.answer.new.self.purse faults c.args.body c.args.closing
     c.in-Err.ensures.err c.in-Err.ensures.lost

@@ -11,7 +11,7 @@ pub loop-init : goal.loop-init
 loop-init g c =
     let port = g.L.Link in
     let link = c.args.link.now in
-    let trail = c.args.worker.now.trail.lines.items in
+    let trail = c.args.worker.now.trail in
     let site = setting c.args.site.now.hosts.now c.args.site.now.limit (g.C.Clock.moment c.args.site.now.clock.now) in
     let purse = c.drop_removed.new.self in
     let new = c.new-connection in
@@ -35,9 +35,9 @@ returns-then-is_silent-clause-served g c =
     let link = c.args.link.now in
     let site = setting c.args.site.now.hosts.now c.args.site.now.limit (g.C.Clock.moment c.args.site.now.clock.now) in
     let all = c.loop.invariant in
-    let start = outside [] (port.left link) (port.given link) c.args.worker.now.trail.lines.items all.first (port.faults link) in
+    let start = outside [] (port.left link) (port.given link) c.args.worker.now.trail all.first (port.faults link) in
     let new = c.step.new in
-    let now = outside new.self.reader (port.left new.link) (port.given new.link) new.worker.trail.lines.items new.worker.purse (port.faults new.link) in
+    let now = outside new.self.reader (port.left new.link) (port.given new.link) new.worker.trail new.worker.purse (port.faults new.link) in
     let stands = c.step.ensures.moves start all.stands in
     let waits = subst (Stands site start now) c.in-Waiting.is stands in
     let looked = subst (λ looked. Stands site start now (stages.Waiting c.in-Waiting.waiting c.in-Waiting.closing looked)) (c.is_silent.ensures.looked c.if-is_silent.true) waits in
@@ -49,9 +49,9 @@ returns-in-Over-clause-served g c =
     let link = c.args.link.now in
     let site = setting c.args.site.now.hosts.now c.args.site.now.limit (g.C.Clock.moment c.args.site.now.clock.now) in
     let all = c.loop.invariant in
-    let start = outside [] (port.left link) (port.given link) c.args.worker.now.trail.lines.items all.first (port.faults link) in
+    let start = outside [] (port.left link) (port.given link) c.args.worker.now.trail all.first (port.faults link) in
     let new = c.step.new in
-    let now = outside new.self.reader (port.left new.link) (port.given new.link) new.worker.trail.lines.items new.worker.purse (port.faults new.link) in
+    let now = outside new.self.reader (port.left new.link) (port.given new.link) new.worker.trail new.worker.purse (port.faults new.link) in
     let stands = c.step.ensures.moves start all.stands in
     (new.self.reader, all.first, all.dropped, ends_so site start now c.in-Over.end (subst (Stands site start now) c.in-Over.is stands))
 
@@ -61,9 +61,9 @@ returns-in-Over-clause-silent g c silent =
     let link = c.args.link.now in
     let site = setting c.args.site.now.hosts.now c.args.site.now.limit (g.C.Clock.moment c.args.site.now.clock.now) in
     let all = c.loop.invariant in
-    let start = outside [] (port.left link) (port.given link) c.args.worker.now.trail.lines.items all.first (port.faults link) in
+    let start = outside [] (port.left link) (port.given link) c.args.worker.now.trail all.first (port.faults link) in
     let new = c.step.new in
-    let now = outside new.self.reader (port.left new.link) (port.given new.link) new.worker.trail.lines.items new.worker.purse (port.faults new.link) in
+    let now = outside new.self.reader (port.left new.link) (port.given new.link) new.worker.trail new.worker.purse (port.faults new.link) in
     let ended = subst (Stands site start now) c.in-Over.is (c.step.ensures.moves start all.stands) in
     let none = subst (EndsItself site start now) silent ended in
     elim none [ ]
@@ -73,7 +73,7 @@ loop-preserved-in-Waiting-1 g c =
     let port = g.L.Link in
     let link = c.args.link.now in
     let all = c.loop.invariant in
-    let start = outside [] (port.left link) (port.given link) c.args.worker.now.trail.lines.items all.first (port.faults link) in
+    let start = outside [] (port.left link) (port.given link) c.args.worker.now.trail all.first (port.faults link) in
     let stands = c.step.ensures.moves start all.stands in
     record { next = tt; finite = tt; pass = c.step.ensures.pass; held = c.step.ensures.held; first = all.first; dropped = all.dropped; stands = stands; silences = omega (arith, c.loop.invariant.silences, c.step.ensures.silences, c.is_silent.ensures.never_falls); faults = omega (arith, c.loop.invariant.faults, c.step.ensures.faults) }
 
@@ -82,7 +82,7 @@ loop-preserved-in-Reading-connection g c =
     let port = g.L.Link in
     let link = c.args.link.now in
     let all = c.loop.invariant in
-    let start = outside [] (port.left link) (port.given link) c.args.worker.now.trail.lines.items all.first (port.faults link) in
+    let start = outside [] (port.left link) (port.given link) c.args.worker.now.trail all.first (port.faults link) in
     let stands = c.step.ensures.moves start all.stands in
     record { next = tt; finite = tt; pass = c.step.ensures.pass; held = c.step.ensures.held; first = all.first; dropped = all.dropped; stands = stands; silences = omega (arith, c.loop.invariant.silences, c.step.ensures.silences); faults = omega (arith, c.loop.invariant.faults, c.step.ensures.faults) }
 
@@ -91,7 +91,7 @@ loop-preserved-in-Asked-connection g c =
     let port = g.L.Link in
     let link = c.args.link.now in
     let all = c.loop.invariant in
-    let start = outside [] (port.left link) (port.given link) c.args.worker.now.trail.lines.items all.first (port.faults link) in
+    let start = outside [] (port.left link) (port.given link) c.args.worker.now.trail all.first (port.faults link) in
     let stands = c.step.ensures.moves start all.stands in
     record { next = tt; finite = tt; pass = c.step.ensures.pass; held = c.step.ensures.held; first = all.first; dropped = all.dropped; stands = stands; silences = omega (arith, c.loop.invariant.silences, c.step.ensures.silences); faults = omega (arith, c.loop.invariant.faults, c.step.ensures.faults) }
 
@@ -100,6 +100,6 @@ loop-preserved g c =
     let port = g.L.Link in
     let link = c.args.link.now in
     let all = c.loop.invariant in
-    let start = outside [] (port.left link) (port.given link) c.args.worker.now.trail.lines.items all.first (port.faults link) in
+    let start = outside [] (port.left link) (port.given link) c.args.worker.now.trail all.first (port.faults link) in
     let stands = c.step.ensures.moves start all.stands in
     record { next = tt; finite = tt; pass = c.step.ensures.pass; held = c.step.ensures.held; first = all.first; dropped = all.dropped; stands = stands; silences = omega (arith, c.loop.invariant.silences, c.step.ensures.silences); faults = omega (arith, c.loop.invariant.faults, c.step.ensures.faults) }

@@ -15,8 +15,8 @@ invariant-loop g l = record {
   first : Purse;
   dropped : DropsRemoved l.fn.worker.purse first;
   stands : Stands (setting l.site.hosts.now l.site.limit (g.C.Clock.moment l.site.clock.now))
-      (outside [] (g.L.Link.left l.fn.link) (g.L.Link.given l.fn.link) l.fn.worker.trail.lines.items first (g.L.Link.faults l.fn.link))
-      (outside l.connection.reader (g.L.Link.left l.link) (g.L.Link.given l.link) l.worker.trail.lines.items l.worker.purse (g.L.Link.faults l.link))
+      (outside [] (g.L.Link.left l.fn.link) (g.L.Link.given l.fn.link) l.fn.worker.trail first (g.L.Link.faults l.fn.link))
+      (outside l.connection.reader (g.L.Link.left l.link) (g.L.Link.given l.link) l.worker.trail l.worker.purse (g.L.Link.faults l.link))
       l.connection.stage;
   silences : g.B.Bell.silences l.fn.worker.bell ≤ g.B.Bell.silences l.worker.bell;
   faults : g.L.Link.faults l.fn.link ≤ g.L.Link.faults l.link;

@@ -8,8 +8,8 @@ returns-in-Reading-clause-moves g c =
     let port = g.L.Link in
     let site = setting c.args.site.now.hosts.now c.args.site.now.limit (g.C.Clock.moment c.args.site.now.clock.now) in
     let purse = c.args.worker.now.purse in
-    let old = outside c.args.self.now.reader (port.left c.args.link.now) (port.given c.args.link.now) c.args.worker.now.trail.lines.items purse (port.faults c.args.link.now) in
-    let new = outside c.read.new.self.reader (port.left c.read.new.link) (port.given c.read.new.link) c.read.new.trail.lines.items purse (port.faults c.read.new.link) in
+    let old = outside c.args.self.now.reader (port.left c.args.link.now) (port.given c.args.link.now) c.args.worker.now.trail purse (port.faults c.args.link.now) in
+    let new = outside c.read.new.self.reader (port.left c.read.new.link) (port.given c.read.new.link) c.read.new.trail purse (port.faults c.read.new.link) in
     subst (λ stage. Moves site old new stage c.read.result) (sym c.in-Reading.is) (c.read.ensures.moves site purse)
 
 pub returns-in-Owing-clause-moves : goal.returns-in-Owing-clause-moves
@@ -17,7 +17,7 @@ returns-in-Owing-clause-moves g c =
     let port = g.L.Link in
     let site = setting c.args.site.now.hosts.now c.args.site.now.limit (g.C.Clock.moment c.args.site.now.clock.now) in
     let purse = c.args.worker.now.purse in
-    let trail = c.args.worker.now.trail.lines.items in
+    let trail = c.args.worker.now.trail in
     let old = outside c.args.self.now.reader (port.left c.args.link.now) (port.given c.args.link.now) trail purse (port.faults c.args.link.now) in
     let new = outside c.write.new.self.reader (port.left c.write.new.link) (port.given c.write.new.link) trail purse (port.faults c.write.new.link) in
     subst (λ stage. Moves site old new stage c.write.result) (sym c.in-Owing.is) (c.write.ensures.moves site purse trail)

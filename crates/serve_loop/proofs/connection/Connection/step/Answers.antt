@@ -9,6 +9,6 @@ returns-clause-moves g c =
     let site = setting c.args.site.now.hosts.now c.args.site.now.limit (g.C.Clock.moment c.args.site.now.clock.now) in
     let old = c.args.worker.now in
     let new = c.move_on.new in
-    let before = outside c.args.self.now.reader (port.left c.args.link.now) (port.given c.args.link.now) old.trail.lines.items old.purse (port.faults c.args.link.now) in
-    let after = outside new.self.reader (port.left new.link) (port.given new.link) new.worker.trail.lines.items new.worker.purse (port.faults new.link) in
+    let before = outside c.args.self.now.reader (port.left c.args.link.now) (port.given c.args.link.now) old.trail old.purse (port.faults c.args.link.now) in
+    let after = outside new.self.reader (port.left new.link) (port.given new.link) new.worker.trail new.worker.purse (port.faults new.link) in
     subst (λ stage. Moves site before after stage c.move_on.result) c.replace-stage.ensures.value c.move_on.ensures.moves

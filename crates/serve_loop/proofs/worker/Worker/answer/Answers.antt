@@ -1,7 +1,7 @@
 use Rattle.std.proofs.Common.{sym, ap, ◌∙◌, refl, inl}
 use Rattle.serve_loop.specs.Asked.{asked_of}
 use Rattle.serve_loop.specs.Trail.{refusal_text}
-use Rattle.serve_loop.proofs.AnswersLemmas.{answers_from, answers_since, from_same, on_err, on_err_as}
+use Rattle.serve_loop.proofs.AnswersLemmas.{answers_from, on_err, on_err_as}
 use Rattle.serve_loop.proofs.EffectLemmas.{adds_nothing_same}
 use Rattle.serve_loop.proofs.TellingLemmas.{tells_nothing}
 use Rattle.serve_loop.proofs.worker.Worker.answer.Goals as goal
@@ -16,13 +16,7 @@ pub returns-in-Nothing-clause-answers : goal.returns-in-Nothing-clause-answers
 returns-in-Nothing-clause-answers g c =
     let asks = ap (λ b. asked_of c.args.site.now.hosts.now b) (sym c.as_slice.ensures) ∙ sym c.in_ok-asked.ensures ∙ c.in-Nothing.is in
     answers_from c.refuse.result _ c.args.body (refusal_text c.in-Nothing.condition) _ _ _ _ _ c.refuse.ensures.text c.refuse.ensures.line
-    (λ adds. tells_nothing _ c.args.body _ _ _ _ c.in-Nothing.condition asks refl (from_same _ _ _ _ _ c.in_ok-reserve.ensures.same adds))
-
-pub returns-in-Creation-clause-answers : goal.returns-in-Creation-clause-answers
-returns-in-Creation-clause-answers g c = answers_since c.create.result _ _ _ _ _ _ _ c.in_ok-reserve.ensures.same c.create.ensures.answers
-
-pub returns-in-Later-clause-answers : goal.returns-in-Later-clause-answers
-returns-in-Later-clause-answers g c = answers_since c.serve.result _ _ _ _ _ _ _ c.in_ok-reserve.ensures.same c.serve.ensures.answers
+    (λ adds. tells_nothing _ c.args.body _ _ _ _ c.in-Nothing.condition asks refl adds)
 
 pub returns-in-Nothing-clause-lost : goal.returns-in-Nothing-clause-lost
 returns-in-Nothing-clause-lost g c = on_err _ _ (inl (adds_nothing_same _ _ refl))
@@ -32,6 +26,3 @@ returns-in-Later-clause-lost g c = on_err_as c.serve.result _ _ (λ none. inl no
 
 pub returns-in_err-asked-clause-lost : goal.returns-in_err-asked-clause-lost
 returns-in_err-asked-clause-lost g c = on_err _ _ (inl (adds_nothing_same _ _ refl))
-
-pub returns-in_err-reserve-clause-lost : goal.returns-in_err-reserve-clause-lost
-returns-in_err-reserve-clause-lost g c = on_err _ _ (inl (adds_nothing_same _ _ refl))

@@ -23,7 +23,7 @@ returns-in-TableFull-clause-answers g c =
     let site = setting c.args.site.now.hosts.now c.args.site.now.limit (g.C.Clock.moment c.args.site.now.clock.now) in
     let call = table_full c.in_ok-opening.opening c.open.new.self.sessions (known c.args.self.now.purse.directory) (known c.open.new.self.directory) (rw c.in-TableFull.is at c.in_ok-new.ensures.opened) in
     answers_from c.no_room.result site c.args.body (refusal_text UndefinedCondition) _ _ _ _ _ c.no_room.ensures.text c.no_room.ensures.line
-    (λ adds. subst (λ (p : Purse). Tells site c.args.body (refusal_text UndefinedCondition) c.args.self.now.trail.lines.items c.no_room.new.self.trail.lines.items c.args.self.now.purse p) (sym c.no_room.ensures.purse)
+    (λ adds. subst (λ (p : Purse). Tells site c.args.body (refusal_text UndefinedCondition) c.args.self.now.trail c.no_room.new.self.trail c.args.self.now.purse p) (sym c.no_room.ensures.purse)
     (tells_full site c.args.body c.args.request c.args.place _ _ _ _ c.requires.asks call (rw c.in-TableFull.is at c.in_ok-new.ensures.others) adds))
 
 pub returns-in-TableFull-clause-lost : goal.returns-in-TableFull-clause-lost
@@ -39,7 +39,7 @@ returns-in-OpeningsSpent-clause-answers g c =
     let site = setting c.args.site.now.hosts.now c.args.site.now.limit (g.C.Clock.moment c.args.site.now.clock.now) in
     let call = openings_spent c.in_ok-opening.opening c.open.new.self.sessions (known c.args.self.now.purse.directory) (known c.open.new.self.directory) (rw c.in-OpeningsSpent.is at c.in_ok-new.ensures.opened) in
     answers_from c.no_room-in-OpeningsSpent.result site c.args.body (refusal_text UndefinedCondition) _ _ _ _ _ c.no_room-in-OpeningsSpent.ensures.text c.no_room-in-OpeningsSpent.ensures.line
-    (λ adds. subst (λ (p : Purse). Tells site c.args.body (refusal_text UndefinedCondition) c.args.self.now.trail.lines.items c.no_room-in-OpeningsSpent.new.self.trail.lines.items c.args.self.now.purse p) (sym c.no_room-in-OpeningsSpent.ensures.purse)
+    (λ adds. subst (λ (p : Purse). Tells site c.args.body (refusal_text UndefinedCondition) c.args.self.now.trail c.no_room-in-OpeningsSpent.new.self.trail c.args.self.now.purse p) (sym c.no_room-in-OpeningsSpent.ensures.purse)
     (tells_full site c.args.body c.args.request c.args.place _ _ _ _ c.requires.asks call (rw c.in-OpeningsSpent.is at c.in_ok-new.ensures.others) adds))
 
 pub returns-in-OpeningsSpent-clause-lost : goal.returns-in-OpeningsSpent-clause-lost
