@@ -26,7 +26,7 @@ use Rattle.xmpp_backend.specs.declared.backend.Given.{Given}
 use Rattle.xmpp_backend.specs.declared.backend.Given.TheVariants as given
 use Rattle.session_pump.specs.Ends.{Changes, Ends, GivesOn, HasFailed, Shifts}
 use Rattle.session_pump.specs.Taking.{FindsNoRoom, Gives, HasRoom, IsAsked, IsReady, LacksRoom, OnceReady, Refuses, Takes, Tried, called, finds_room, has_room, is_full, lacks_room}
-use Rattle.session_pump.specs.Giving.{ComesFirst, GiveMoves, GivesOnce, GivesTimes, HadNoRoom, HostSide, PollGave, PollsHost, PollsOut, again, asks, does_nothing, fails, finds_nothing, gave_much, gives, had_no_room, had_nothing, had_one_before, has_failed, is_held, is_refused, lets_go, more, most_polls, moves, never, none, polls, wants_memory}
+use Rattle.session_pump.specs.Giving.{ComesFirst, GiveMoves, GivesOnce, GivesTimes, HadNoRoom, HostSide, PollGave, PollsHost, RunsDry, again, asks, does_nothing, fails, finds_nothing, gives, had_no_room, had_nothing, had_one_before, has_failed, is_held, is_refused, lets_go, more, most_polls, moves, never, none, polls, wants_memory}
 use Rattle.session_pump.specs.Pumping.{LineTurns, Lines, line_of}
 use Rattle.session_pump.specs.declared.line.Line.{Line}
 use Rattle.session_pump.specs.declared.line.Stage.TheVariants as stages
@@ -139,9 +139,9 @@ module _ {moment : Option ℕ} {place : ℕ} where
 
   -- it had nothing to give
   pub is_idle : (kept kept' : Option Owing) (e f : Ends) (s : Sessions) (l : Lines) → kept ≡ None → kept' ≡ kept → Shifts (λ told. told) counted_on (λ count. count) e f
-      → PollsOut moment (host place kept e s l) (host place kept' f s l)
+      → RunsDry moment (host place kept e s l) (host place kept' f s l)
   is_idle kept kept' e f s l empty same shifts =
-      idled_as place (PollsOut moment (host place kept e s l)) kept kept' e f s l same shifts (had_nothing f.told none empty shifts.told)
+      idled_as place (RunsDry moment (host place kept e s l)) kept kept' e f s l same shifts (had_nothing f.told none empty shifts.told)
 
   pub idle_moves : (kept kept' : Option Owing) (e f : Ends) (s : Sessions) (l : Lines) → kept ≡ None → kept' ≡ kept → Shifts (λ told. told) counted_on (λ count. count) e f
       → GiveMoves moment (host place kept e s l) (host place kept' f s l)
@@ -158,9 +158,9 @@ module _ {moment : Option ℕ} {place : ℕ} where
 
   -- it failed
   pub failed_so : (kept kept' : Option Owing) (e f : Ends) (s : Sessions) (l : Lines) → kept ≡ None → kept' ≡ kept → HasFailed e f
-      → PollsOut moment (host place kept e s l) (host place kept' f s l)
+      → RunsDry moment (host place kept e s l) (host place kept' f s l)
   failed_so kept kept' e f s l empty same failed =
-      subst (λ (k : Option Owing). PollsOut moment (host place kept e s l) (host place k f s l)) (sym same) (has_failed f none empty failed)
+      subst (λ (k : Option Owing). RunsDry moment (host place kept e s l) (host place k f s l)) (sym same) (has_failed f none empty failed)
 
   pub failure_moves : (kept kept' : Option Owing) (e f : Ends) (s : Sessions) (l : Lines) → kept ≡ None → kept' ≡ kept → HasFailed e f
       → GiveMoves moment (host place kept e s l) (host place kept' f s l)
@@ -196,23 +196,23 @@ module _ {moment : Option ℕ} {place : ℕ} where
   -- something waits before what is kept
   pub waits_behind : (kept : Option Owing) (owing : Owing) (ends : Ends) (s : Sessions) (l : Lines) → kept ≡ Some owing
       → (line : Line) × (first : Owing) × (line_of l owing.number ≡ Some line) × (line.owed ≡ Some first)
-      → PollsOut moment (host place kept ends s l) (host place (Some owing) ends s l)
+      → RunsDry moment (host place kept ends s l) (host place (Some owing) ends s l)
   waits_behind kept owing ends s l is waits =
-      subst (λ (k : Option Owing). PollsOut moment (host place kept ends s l) (host place k ends s l)) is (had_one_before owing waits.1 waits.0 none is waits.2 waits.3)
+      subst (λ (k : Option Owing). RunsDry moment (host place kept ends s l) (host place k ends s l)) is (had_one_before owing waits.1 waits.0 none is waits.2 waits.3)
 
   -- nothing of the host changed since
   pub over_still : {h : HostSide} (kept kept' : Option Owing) (e e' : Ends) (s : Sessions) (l l' : Lines) → kept' ≡ kept → e' ≡ e → l' ≡ l
-      → PollsOut moment h (host place kept e s l) → PollsOut moment h (host place kept' e' s l')
+      → RunsDry moment h (host place kept e s l) → RunsDry moment h (host place kept' e' s l')
   over_still {h} kept kept' e e' s l l' same ends lines over =
-      subst (λ (k : Option Owing). PollsOut moment h (host place k e' s l')) (sym same)
-      (subst (λ (x : Ends). PollsOut moment h (host place kept x s l')) (sym ends)
-      (subst (λ (x : Lines). PollsOut moment h (host place kept e s x)) (sym lines) over))
+      subst (λ (k : Option Owing). RunsDry moment h (host place k e' s l')) (sym same)
+      (subst (λ (x : Ends). RunsDry moment h (host place kept x s l')) (sym ends)
+      (subst (λ (x : Lines). RunsDry moment h (host place kept e s x)) (sym lines) over))
 
   -- there is no room for what is kept, by what the session answered, and its wire isn't open here
   pub has_no_room : (kept : Option Owing) (owing : Owing) (ends : Ends) (s t : Sessions) (l : Lines) → kept ≡ Some owing
       → Turned owing.number s t (Looks (LacksRoom owing.given)) → OthersStay owing.number s t
       → ((line : Line) → line_of l owing.number ≡ Some line → line.host ≡ Some place → line.stage ≢ stages.Opened ends.failures)
-      → PollsOut moment (host place kept ends s l) (host place (Some owing) ends t l)
+      → RunsDry moment (host place kept ends s l) (host place (Some owing) ends t l)
   has_no_room kept owing ends s t l is asked others elsewhere = had_no_room (record {
     before = host place kept ends s l;
     moves = none;
@@ -233,7 +233,7 @@ module _ {moment : Option ℕ} {place : ℕ} where
       → later.number ≡ owing.number → later.given ≡ owing.given → Turned owing.number s t (IsReady owing) → OthersStay owing.number s t
       → Turned owing.number t u (Gives moment owing.given (Ok giving)) → OthersStay owing.number t u
       → ((line : Line) → line_of l owing.number ≡ Some line → line.host ≡ Some place → line.stage ≢ stages.Opened ends.failures)
-      → PollsOut moment (host place kept ends s l) (host place (Some later) ends u l)
+      → RunsDry moment (host place kept ends s l) (host place (Some later) ends u l)
   was_refused kept owing later ends s t u l giving is full number same ready stay turned others elsewhere = had_no_room (record {
     before = host place kept ends s l;
     moves = none;
@@ -292,11 +292,6 @@ times_then first (more rest last) = moves (times_then first rest) last
 pub gave_again : {moment : Option ℕ} {count : ℕ} {h i j : HostSide} → GivesTimes moment count h i → GivesOnce moment i j → GivesTimes moment (count + 1) h j
 gave_again first once = again (times_then first once.1) once.2
 
-times_after : {moment : Option ℕ} {count : ℕ} {h i j : HostSide} → GiveMoves moment h i → GivesTimes moment count i j → GivesTimes moment count h j
-times_after first never = times_then never first
-times_after first (moves rest move) = moves (times_after first rest) move
-times_after first (again rest gave) = again (times_after first rest) gave
-
 no_room_after : {moment : Option ℕ} {h i j : HostSide} → GiveMoves moment h i → HadNoRoom moment i j → HadNoRoom moment h j
 no_room_after first full = record {
   before = full.before;
@@ -314,12 +309,11 @@ no_room_after first full = record {
 }
 
 -- it is at its end after more moves too
-pub over_after : {moment : Option ℕ} {h i j : HostSide} → GiveMoves moment h i → PollsOut moment i j → PollsOut moment h j
+pub over_after : {moment : Option ℕ} {h i j : HostSide} → GiveMoves moment h i → RunsDry moment i j → RunsDry moment h j
 over_after first (had_nothing told rest empty stays) = had_nothing told (gives_then first rest) empty stays
 over_after first (has_failed ends rest empty failed) = has_failed ends (gives_then first rest) empty failed
 over_after first (had_one_before owing before line rest kept is waits) = had_one_before owing before line (gives_then first rest) kept is waits
 over_after first (had_no_room full) = had_no_room (no_room_after first full)
-over_after first (gave_much times rest empty) = gave_much (times_after first times) rest empty
 
 pub looks_as : {P Q : List Entry → Type 0} {k m : Known Entry} → ((log : List Entry) → P log → Q log) → Looks P k m → Looks Q k m
 looks_as {k = k} {m = m} by looks = record { begins = looks.begins; says = by m.seen looks.says; mine = looks.mine; earlier = looks.earlier; learnt = looks.learnt }

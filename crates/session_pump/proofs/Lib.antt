@@ -5,3 +5,5 @@ mod ServingLemmas
 mod GivingLemmas
 mod PlaceLemmas
 mod TurnLemmas
+mod NumberedLemmas
+mod DueLemmas

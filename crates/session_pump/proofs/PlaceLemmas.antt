@@ -36,6 +36,14 @@ any_further {A} test xs ys i x any same inside item fails is =
     let read : x ≡ get_or xs i x = subst (λ (zs : List A). x ≡ get_or zs i x) same item in
     is ∙ ap (list_any test) (drop_more xs i x within) ∙ any_after test (get_or xs i x) (drop (i + 1) xs) (subst (λ (y : A). test y ≡ false) read fails)
 
+-- this one passes
+pub any_here : {A : Type 0} (test : A → Bool) (xs ys : List A) (i : ℕ) (x : A) (any : Bool) → ys ≡ xs → i < length ys → x ≡ get_or ys i x → test x ≡ true
+    → any ≡ list_any test (drop i xs) → any ≡ true
+any_here {A} test xs ys i x any same inside item passes is =
+    let within : i < length xs = subst (λ (zs : List A). i < length zs) same inside in
+    let read : x ≡ get_or xs i x = subst (λ (zs : List A). x ≡ get_or zs i x) same item in
+    is ∙ ap (list_any test) (drop_more xs i x within) ∙ ap (λ (b : Bool). b || list_any test (drop (i + 1) xs)) (subst (λ (y : A). test y ≡ true) read passes)
+
 changes_at : {A : Type 0} (test : A → Bool) (was is : A) (xs : List A) (place : ℕ) → IsFirstPlace test xs place → was ≡ get_or xs place was
     → ChangesFirst test was is xs (set xs place is)
 changes_at test was is [] place found read = absurd found

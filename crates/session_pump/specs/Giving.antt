@@ -105,16 +105,20 @@ pub record HadNoRoom (moment : Option ℕ) (h j : HostSide) : Type 0 where
   pub elsewhere : (line : Line) → IsHere before owing.number line → ⊥
   pub is : j ≡ record before { kept = Some later; sessions = sessions }
 
--- The polls of a host came to their end for this turn: after some moves its back end was polled and had nothing to give, or
--- failed; or it gave something as often as it is polled in a turn, and all of that was given on or is kept with lines; or a session
--- had no room for what is kept, and its wire is open no longer; or the back end gave more on a wire for which something is kept
-pub data PollsOut (moment : Option ℕ) (h : HostSide) : HostSide → Type 0 where
+-- The back end of a host gave all that it had for this turn: after some moves it was polled and had nothing to give, or failed; or a
+-- session had no room for what is kept, and its wire is open no longer; or the back end gave more on a wire for which something is kept
+pub data RunsDry (moment : Option ℕ) (h : HostSide) : HostSide → Type 0 where
   had_nothing : {i : HostSide} (told : Option Told) → GiveMoves moment h i → i.kept ≡ None → StaysAs i.ends.told told
-      → PollsOut moment h (record i { ends = record i.ends { told = told; idle = counted_on i.ends.idle } })
-  has_failed : {i : HostSide} (ends : Ends) → GiveMoves moment h i → i.kept ≡ None → HasFailed i.ends ends → PollsOut moment h (record i { ends = ends })
+      → RunsDry moment h (record i { ends = record i.ends { told = told; idle = counted_on i.ends.idle } })
+  has_failed : {i : HostSide} (ends : Ends) → GiveMoves moment h i → i.kept ≡ None → HasFailed i.ends ends → RunsDry moment h (record i { ends = ends })
   had_one_before : {j : HostSide} (owing first : Owing) (line : Line) → GiveMoves moment h j → j.kept ≡ Some owing
-      → line_of j.lines owing.number ≡ Some line → line.owed ≡ Some first → PollsOut moment h j
-  had_no_room : {j : HostSide} → HadNoRoom moment h j → PollsOut moment h j
+      → line_of j.lines owing.number ≡ Some line → line.owed ≡ Some first → RunsDry moment h j
+  had_no_room : {j : HostSide} → HadNoRoom moment h j → RunsDry moment h j
+
+-- The polls of a host came to their end for this turn: its back end gave all that it had; or it gave something as often as it is
+-- polled in a turn, and all of that was given on or is kept with lines
+pub data PollsOut (moment : Option ℕ) (h : HostSide) : HostSide → Type 0 where
+  ran_dry : {j : HostSide} → RunsDry moment h j → PollsOut moment h j
   gave_much : {i j : HostSide} → GivesTimes moment most_polls h i → GiveMoves moment i j → j.kept ≡ None → PollsOut moment h j
 
 -- they came to their end, or there was no memory

@@ -1,6 +1,8 @@
 pub mod Calling
 pub mod Ends
+pub mod Dues
 pub mod Giving
+pub mod NumberedTurns
 pub mod Places
 pub mod Pumping
 pub mod Sides

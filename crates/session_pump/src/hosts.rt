@@ -42,6 +42,8 @@ pub struct Stand {
     used: usize,
     /// What its back end gave, and no session took yet.
     pub kept: Option<Owing>,
+    /// Whether its back end was polled in the last turn as often as may be, so that it may have more.
+    pub is_behind: bool,
 }
 
 impl Stand {
@@ -122,6 +124,13 @@ impl Stand {
         self.host.end.resume(wire);
     }
 
+    /// Whether its back end may have more than it was polled for.
+    pub(crate) fn has_more(&self) -> bool
+        ensures { result ≡ self.now.is_behind }
+    {
+        self.is_behind
+    }
+
     fn is_named(&self, name: &[u8]) -> bool
         ensures { result ≡ bytes_eq self.now.host.name name.now }
     {
@@ -190,6 +199,7 @@ impl Hosts {
                 failures: 0,
                 used: 0,
                 kept: None,
+                is_behind: false,
             })?;
         }
         Ok(Hosts { stands })
@@ -207,6 +217,17 @@ impl Hosts {
             })?;
         }
         Ok(HostNames::from_vec(names))
+    }
+
+    /// How many back ends of each host have failed. The only error is want of memory.
+    pub(crate) fn failures(&self, alloc: Global) -> Result<Vec<u64>, AllocError>
+        ensures { IfOk result (λ counts. counts.items ≡ map (λ stand. stand.failures) self.now.stands.items) }
+    {
+        let mut counts = Vec::with_capacity(alloc, self.stands.len())?;
+        for stand in &self.stands {
+            counts.push(stand.failures)?;
+        }
+        Ok(counts)
     }
 
     /// Puts a back end in the place of the one of this host. The wires that are open on the old one are so no longer, as after a

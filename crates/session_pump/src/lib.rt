@@ -2,9 +2,11 @@
 // lets time pass for sessions, and removes those that have ended.
 #![tactic(auto)]
 
+mod dues;
 mod giving;
 mod hosts;
 mod line;
+mod numbered;
 mod passing;
 mod polling;
 mod pump;

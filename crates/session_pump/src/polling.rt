@@ -1,12 +1,12 @@
 // What the back ends give is polled and given to the sessions.
-ghost use Rattle.std.specs.Prelude.{◌≡◌, ◌≢◌, ◌+◌, ◌/◌, ℕ, IsTrue, None, Ok, Option, Some, false, sum_by, true};
+ghost use Rattle.std.specs.Prelude.{◌≡◌, ◌≢◌, ◌+◌, ◌/◌, ℕ, IsTrue, None, Ok, OnOk, Option, Some, false, sum_by, true};
 ghost use Rattle.bosh_types.specs.Limits.{most_streams};
 ghost use Rattle.session_table.specs.Purses.{Sessions};
 ghost use Rattle.session_pump.specs.Ends.{ends_of};
 ghost use Rattle.session_pump.specs.Pumping.{Lines, line_of};
 ghost use Rattle.session_pump.specs.declared.line.Line.{Line};
 ghost use Rattle.session_pump.specs.declared.line.Owing.{Owing};
-ghost use Rattle.session_pump.specs.Giving.{ComesFirst, GiveMoves, GivesOnce, PollGave, PollsHost, PollsOut, most_polls};
+ghost use Rattle.session_pump.specs.Giving.{ComesFirst, GiveMoves, GivesOnce, PollGave, PollsHost, RunsDry, most_polls};
 ghost use Rattle.xmpp_backend.specs.Told.{is_proper};
 
 use crate::giving::{Giving, give, may_take};
@@ -44,19 +44,31 @@ pub fn poll_host<R: Wait, C: Clock, B: Bell>(
         (record { place = place; kept = stand.old.kept; ends = ends_of (told stand.old.host.end) (counts stand.old.host.end) stand.old.failures (sum_by (λ spare. (counts spare).faults) stand.old.host.spares.items); sessions = purse.old.sessions; lines = lines.old })
         (record { place = place; kept = stand.new.kept; ends = ends_of (told stand.new.host.end) (counts stand.new.host.end) stand.new.failures (sum_by (λ spare. (counts spare).faults) stand.new.host.spares.items); sessions = purse.new.sessions; lines = lines.new })
         result }
+
+    // Where it isn't behind then, the back end gave all that it had.
+    ensures dry { stand.new.is_behind ≡ false → OnOk result (RunsDry (C.moment clock.now)
+        (record { place = place; kept = stand.old.kept; ends = ends_of (told stand.old.host.end) (counts stand.old.host.end) stand.old.failures (sum_by (λ spare. (counts spare).faults) stand.old.host.spares.items); sessions = purse.old.sessions; lines = lines.old })
+        (record { place = place; kept = stand.new.kept; ends = ends_of (told stand.new.host.end) (counts stand.new.host.end) stand.new.failures (sum_by (λ spare. (counts spare).faults) stand.new.host.spares.items); sessions = purse.new.sessions; lines = lines.new })) }
     ensures name { stand.new.host.name ≡ stand.old.host.name }
     ensures directory { purse.new.directory ≡ purse.old.directory }
     ensures silences { B.silences bell.new ≡ B.silences bell.old }
 {
     for _ in 0..MOST_POLLS {
         if !give_and_poll(rt, purse, lines, place, stand, clock, bell)? {
+            stand.is_behind = false;
             return Ok(());
         }
     }
     let giving = give_kept(rt, purse, lines, place, stand, clock, bell)?;
     match giving {
-        Giving::Done => Ok(()),
-        Giving::Full => Ok(()),
+        Giving::Done => {
+            stand.is_behind = true;
+            Ok(())
+        }
+        Giving::Full => {
+            stand.is_behind = false;
+            Ok(())
+        }
     }
 }
 
@@ -73,7 +85,7 @@ fn give_and_poll<R: Wait, C: Clock, B: Bell>(
     ensures gives { GiveMoves (C.moment clock.now)
         (record { place = place; kept = stand.old.kept; ends = ends_of (told stand.old.host.end) (counts stand.old.host.end) stand.old.failures (sum_by (λ spare. (counts spare).faults) stand.old.host.spares.items); sessions = purse.old.sessions; lines = lines.old })
         (record { place = place; kept = stand.new.kept; ends = ends_of (told stand.new.host.end) (counts stand.new.host.end) stand.new.failures (sum_by (λ spare. (counts spare).faults) stand.new.host.spares.items); sessions = purse.new.sessions; lines = lines.new }) }
-    ensures over { result ≡ Ok false → PollsOut (C.moment clock.now)
+    ensures over { result ≡ Ok false → RunsDry (C.moment clock.now)
         (record { place = place; kept = stand.old.kept; ends = ends_of (told stand.old.host.end) (counts stand.old.host.end) stand.old.failures (sum_by (λ spare. (counts spare).faults) stand.old.host.spares.items); sessions = purse.old.sessions; lines = lines.old })
         (record { place = place; kept = stand.new.kept; ends = ends_of (told stand.new.host.end) (counts stand.new.host.end) stand.new.failures (sum_by (λ spare. (counts spare).faults) stand.new.host.spares.items); sessions = purse.new.sessions; lines = lines.new }) }
     ensures on { result ≡ Ok true → GivesOnce (C.moment clock.now)
@@ -114,7 +126,7 @@ fn give_kept<R: Wait, C: Clock, B: Bell>(
         (record { place = place; kept = stand.old.kept; ends = ends_of (told stand.old.host.end) (counts stand.old.host.end) stand.old.failures (sum_by (λ spare. (counts spare).faults) stand.old.host.spares.items); sessions = purse.old.sessions; lines = lines.old })
         (record { place = place; kept = stand.new.kept; ends = ends_of (told stand.new.host.end) (counts stand.new.host.end) stand.new.failures (sum_by (λ spare. (counts spare).faults) stand.new.host.spares.items); sessions = purse.new.sessions; lines = lines.new }) }
     ensures done { result ≡ Ok Giving.Done → stand.new.kept ≡ None }
-    ensures full { result ≡ Ok Giving.Full → PollsOut (C.moment clock.now)
+    ensures full { result ≡ Ok Giving.Full → RunsDry (C.moment clock.now)
         (record { place = place; kept = stand.old.kept; ends = ends_of (told stand.old.host.end) (counts stand.old.host.end) stand.old.failures (sum_by (λ spare. (counts spare).faults) stand.old.host.spares.items); sessions = purse.old.sessions; lines = lines.old })
         (record { place = place; kept = stand.new.kept; ends = ends_of (told stand.new.host.end) (counts stand.new.host.end) stand.new.failures (sum_by (λ spare. (counts spare).faults) stand.new.host.spares.items); sessions = purse.new.sessions; lines = lines.new }) }
     ensures name { stand.new.host.name ≡ stand.old.host.name }
@@ -229,7 +241,7 @@ fn poll(stand: &mut Stand) -> Result<bool, AllocError>
     ensures polls { (moment : Option ℕ) → (place : ℕ) → (sessions : Sessions) → (lines : Lines) → GiveMoves moment
         (record { place = place; kept = stand.old.kept; ends = ends_of (told stand.old.host.end) (counts stand.old.host.end) stand.old.failures (sum_by (λ spare. (counts spare).faults) stand.old.host.spares.items); sessions = sessions; lines = lines })
         (record { place = place; kept = stand.new.kept; ends = ends_of (told stand.new.host.end) (counts stand.new.host.end) stand.new.failures (sum_by (λ spare. (counts spare).faults) stand.new.host.spares.items); sessions = sessions; lines = lines }) }
-    ensures over { result ≡ Ok false → (moment : Option ℕ) → (place : ℕ) → (sessions : Sessions) → (lines : Lines) → PollsOut moment
+    ensures over { result ≡ Ok false → (moment : Option ℕ) → (place : ℕ) → (sessions : Sessions) → (lines : Lines) → RunsDry moment
         (record { place = place; kept = stand.old.kept; ends = ends_of (told stand.old.host.end) (counts stand.old.host.end) stand.old.failures (sum_by (λ spare. (counts spare).faults) stand.old.host.spares.items); sessions = sessions; lines = lines })
         (record { place = place; kept = stand.new.kept; ends = ends_of (told stand.new.host.end) (counts stand.new.host.end) stand.new.failures (sum_by (λ spare. (counts spare).faults) stand.new.host.spares.items); sessions = sessions; lines = lines }) }
     ensures gave { result ≡ Ok true → (place : ℕ) → (sessions : Sessions) → (lines : Lines) → PollGave

@@ -1,8 +1,10 @@
-ghost use Rattle.std.specs.Prelude.{◌≡◌};
+ghost use Rattle.std.specs.Prelude.{◌≡◌, []};
 ghost use Rattle.std.specs.BTreeMap.{IsEmpty};
+ghost use Rattle.std.specs.List.{list_any};
 
-use crate::hosts::Hosts;
+use crate::hosts::{Hosts, Stand};
 use crate::line::Line;
+use pause_rules::DueIndex;
 use session_table::Purse;
 use std::alloc::Global;
 use std::collections::BTreeMap;
@@ -15,6 +17,8 @@ pub struct Pump {
     pub purse: Purse,
     pub hosts: Hosts,
     pub lines: BTreeMap<u64, Line>,
+    /// When time next has something to do for each of the sessions, as they answered when that was last noted.
+    pub dues: DueIndex,
 }
 
 impl Pump {
@@ -23,12 +27,32 @@ impl Pump {
         ensures purse { result.purse ≡ purse }
         ensures hosts { result.hosts ≡ hosts }
         ensures lines { IsEmpty result.lines }
+        ensures dues { result.dues ≡ [] }
     {
         Pump {
             alloc,
             purse,
             hosts,
             lines: BTreeMap::new(alloc),
+            dues: DueIndex::new(alloc),
         }
     }
+
+    /// Whether the back end of some host was polled in the last turn as often as may be, so that it may have more.
+    pub fn is_behind(&self) -> bool
+        ensures { result ≡ list_any (λ stand. stand.is_behind) self.now.hosts.stands.items }
+    {
+        any_is_behind(self.hosts.stands.as_slice())
+    }
+}
+
+fn any_is_behind(stands: &[Stand]) -> bool
+    ensures { result ≡ list_any (λ stand. stand.is_behind) stands.now }
+{
+    for stand in stands {
+        if stand.has_more() {
+            return true;
+        }
+    }
+    false
 }

@@ -62,8 +62,8 @@ impl Pump {
         }
     }
 
-    // Serves a session that was found.
-    fn serve_found<R: Wait, C: Clock, B: Bell>(
+    /// Serves a session that was found, and is held under this number.
+    pub(crate) fn serve_found<R: Wait, C: Clock, B: Bell>(
         &mut self,
         rt: &R,
         directory: &Gate<Directory>,

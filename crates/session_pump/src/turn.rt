@@ -144,7 +144,8 @@ impl Pump {
         }
     }
 
-    fn live<R: Wait>(
+    /// The live sessions, by the directory. The only error is want of memory.
+    pub(crate) fn live<R: Wait>(
         &mut self,
         rt: &R,
         directory: &Gate<Directory>,
@@ -190,8 +191,8 @@ impl Pump {
         served
     }
 
-    // Polls each host. The error comes when all were polled that could be.
-    fn poll_all<R: Wait, C: Clock, B: Bell>(
+    /// Polls each host. The error comes when all were polled that could be.
+    pub(crate) fn poll_all<R: Wait, C: Clock, B: Bell>(
         &mut self,
         rt: &R,
         clock: &C,
@@ -243,8 +244,8 @@ impl Pump {
         }
     }
 
-    // Tells these sessions that their back ends failed, where one did. The error comes when all were told that could be.
-    fn tell_all<R: Wait, C: Clock, B: Bell>(
+    /// Tells these sessions that their back ends failed, where one did. The error comes when all were told that could be.
+    pub(crate) fn tell_all<R: Wait, C: Clock, B: Bell>(
         &mut self,
         rt: &R,
         clock: &C,
@@ -267,8 +268,11 @@ impl Pump {
     }
 }
 
-// What is answered for two things that were both tried.
-fn both(first: Result<(), AllocError>, second: Result<(), AllocError>) -> Result<(), AllocError>
+/// What is answered for two things that were both tried.
+pub(crate) fn both(
+    first: Result<(), AllocError>,
+    second: Result<(), AllocError>,
+) -> Result<(), AllocError>
     ensures { result ≡ both first second }
 {
     match first {

@@ -7,4 +7,5 @@ pub mod Keeping
 pub mod Entering
 pub mod Replies
 pub mod Serving
+pub mod Timing
 pub mod Purses

@@ -16,6 +16,7 @@ use crate::entry::{Entry, Event};
 use crate::handle::SessionHandle;
 use crate::opening::Opening;
 use crate::sid::{number_in, sid_text};
+use crate::timed::Timed;
 use bosh_types::limits::{MOST_OPENINGS, MOST_SESSIONS};
 use bosh_types::{SharedText, Stanzas, Terms, Text, copy_items};
 use parked_gate::Gate;
@@ -202,7 +203,7 @@ fn start(alloc: Global, number: u64, opening: &Opening) -> Result<Started, Alloc
 {
     let sid = sid_text(alloc, opening.name.as_slice(), number)?;
     let (recorded, answer) = begin(alloc, number, &sid, opening)?;
-    let Ok((gate, pass)) = Gate::new(alloc, recorded) else {
+    let Ok((gate, pass)) = Gate::new(alloc, Timed { recorded }) else {
         return Err(AllocError);
     };
     let Ok(gate) = Arc::new(alloc, gate) else {

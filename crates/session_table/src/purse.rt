@@ -12,6 +12,7 @@ ghost use Rattle.session_table.specs.History.{live_at};
 ghost use Rattle.session_table.specs.Purses.{Holds, IsFound, IsNotHeld, IsNumberOf, KeepsLive, OpensInto, OpensOrNot, OthersStay, StaysBeside, Turned, found_of, held};
 ghost use Rattle.session_table.specs.Replies.{MayOpen};
 ghost use Rattle.session_table.specs.Serving.{PollsAs, WaitsAs};
+ghost use Rattle.session_table.specs.Timing.{IsFirstDue};
 
 use crate::calls::{
     DirectoryCall, DirectoryReply, LiveSession, NewSession, Opened, Question as Asked,
@@ -21,7 +22,7 @@ use crate::handle::SessionHandle;
 use crate::opening::Opening;
 use crate::sid::number_in;
 use bosh_ports::Bell;
-use bosh_types::{Text, Ticket};
+use bosh_types::{Moment, Text, Ticket};
 use parked_gate::{Gate, Pass, Waited};
 use session_journal::{Answer, Call, Found, Question, Reply};
 use std::alloc::{AllocError, Global};
@@ -227,6 +228,19 @@ impl Purse {
     {
         match self.sessions.get_mut(&number) {
             Some(session) => session.look(rt, question),
+            None => unreachable!(),
+        }
+    }
+
+    /// The first moment at which time has something to do for the session with this opening number. It takes no memory.
+    pub fn due<R: Wait>(&mut self, rt: &R, number: u64) -> Option<Moment>
+        requires { IsSome (held self.old.sessions number) }
+        ensures looked { Turned number self.old.sessions self.new.sessions (Looks (λ seen. IsFirstDue seen result)) }
+        ensures others { OthersStay number self.old.sessions self.new.sessions }
+        ensures directory { self.new.directory ≡ self.old.directory }
+    {
+        match self.sessions.get_mut(&number) {
+            Some(session) => session.due(rt),
             None => unreachable!(),
         }
     }

@@ -8,10 +8,12 @@ ghost use Rattle.session_journal.specs.Calls.{call_in};
 ghost use Rattle.session_journal.specs.Seen.{Answers, RepliesTo};
 ghost use Rattle.session_table.specs.Handles.{IsOfSame};
 ghost use Rattle.session_table.specs.Serving.{PollsAs, WaitsAs};
+ghost use Rattle.session_table.specs.Timing.{IsFirstDue};
 
 use crate::handle::SessionHandle;
+use crate::timed::{TimedAnswer, TimedQuestion};
 use bosh_ports::Bell;
-use bosh_types::Ticket;
+use bosh_types::{Moment, Ticket};
 use parked_gate::Waited;
 use session_journal::{Answer, Call, Found, Question, Reply};
 use std::alloc::AllocError;
@@ -36,7 +38,24 @@ impl SessionHandle {
         ensures looked { Looks (λ seen. Answers seen question.now result) (known self.old.pass) (known self.new.pass) }
         ensures learns_once { length (known self.new.pass).learnt ≡ length (known self.old.pass).learnt + 1 }
     {
-        self.gate.look(rt, &mut self.pass, question)
+        let question = TimedQuestion::Session(*question);
+        match self.gate.look(rt, &mut self.pass, &question) {
+            TimedAnswer::Session(answer) => answer,
+            TimedAnswer::Due(_) => unreachable!(),
+        }
+    }
+
+    /// The first moment at which time has something to do for the session, when the pass's turn has come. It takes no memory.
+    pub fn due<R: Wait>(&mut self, rt: &R) -> Option<Moment>
+        ensures same { IsOfSame self.old self.new }
+        ensures number { (known self.new.pass).number ≡ (known self.old.pass).number }
+        ensures looked { Looks (λ seen. IsFirstDue seen result) (known self.old.pass) (known self.new.pass) }
+        ensures learns_once { length (known self.new.pass).learnt ≡ length (known self.old.pass).learnt + 1 }
+    {
+        match self.gate.look(rt, &mut self.pass, &TimedQuestion::Due) {
+            TimedAnswer::Due(due) => due,
+            TimedAnswer::Session(_) => unreachable!(),
+        }
     }
 
     /// What there is for a ticket, when the pass's turn has come: none where its request waits on. It takes no memory.

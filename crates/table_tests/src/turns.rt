@@ -1,4 +1,6 @@
 // A pump between sessions and their back ends.
+mod numbered;
+
 ghost use Rattle.std.specs.Prelude.{◌≡◌, IfOk, IfSome, IsSome, List, [], true, ℕ};
 ghost use Rattle.parked_gate.specs.Passes.{IsPassOf};
 ghost use Rattle.session_attrs.specs.declared.request.Creation.{Creation};

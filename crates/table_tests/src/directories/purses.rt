@@ -156,11 +156,20 @@ fn waits<R: Wait>(rt: &R, purse: &mut Purse, ticket: Ticket) -> bool {
     found.is_none()
 }
 
+/// When time next has something to do for the session, in milliseconds.
+fn due<R: Wait>(rt: &R, purse: &mut Purse) -> Option<u64> {
+    if !holds(purse, 1) {
+        return None;
+    }
+    purse.due(rt, 1).map(|moment| moment.millis())
+}
+
 #[test]
 fn a_session_is_called_through_the_purse(rt: HostRuntime) -> Result<(), Fail> {
     let (directory, pass) = gate(rt.alloc())?;
     let mut purse = Purse::new(rt.alloc(), pass);
     open(&rt, rt.alloc(), &directory, &mut purse)?;
+    assert_eq!(rt; due(&rt, &mut purse), Some(30001));
     let ticket = arrive(&rt, rt.alloc(), &mut purse, FIRST)?.ok_or("not parked")?;
     assert!(rt; waits(&rt, &mut purse, ticket));
     arrive(&rt, rt.alloc(), &mut purse, SECOND)?;

@@ -1,5 +1,5 @@
-use Rattle.std.proofs.Common.{◌∙◌, refl, rules}
-use Rattle.session_pump.specs.Giving.{gave_much, never}
+use Rattle.std.proofs.Common.{◌∙◌, refl, rules, true≢false}
+use Rattle.session_pump.specs.Giving.{gave_much, never, ran_dry}
 use Rattle.session_pump.proofs.GivingLemmas.{gave_again, gave_so_often, gives_then, over_after, polls_err, times_moves}
 use Rattle.session_pump.proofs.polling.poll_host.Goals as goal
 
@@ -16,7 +16,10 @@ pub returns-then-not-branch-clause-gives : goal.returns-then-not-branch-clause-g
 returns-then-not-branch-clause-gives g c = gives_then (times_moves c.loop.invariant.times) c.give_and_poll.ensures.gives
 
 pub returns-then-not-branch-clause-polls : goal.returns-then-not-branch-clause-polls
-returns-then-not-branch-clause-polls g c = over_after (times_moves c.loop.invariant.times) (c.give_and_poll.ensures.over (search rules))
+returns-then-not-branch-clause-polls g c = ran_dry (over_after (times_moves c.loop.invariant.times) (c.give_and_poll.ensures.over (search rules)))
+
+pub returns-then-not-branch-clause-dry : goal.returns-then-not-branch-clause-dry
+returns-then-not-branch-clause-dry g c is = over_after (times_moves c.loop.invariant.times) (c.give_and_poll.ensures.over (search rules))
 
 pub loop-preserved : goal.loop-preserved
 loop-preserved g c = record {
@@ -43,4 +46,10 @@ returns-in-Done-clause-polls g c =
     gave_much (gave_so_often _ _ _ (search rules) c.loop.invariant.times) c.in_ok-giving.ensures.gives (c.in_ok-giving.ensures.done (search rules))
 
 pub returns-in-Full-clause-polls : goal.returns-in-Full-clause-polls
-returns-in-Full-clause-polls g c = over_after (times_moves c.loop.invariant.times) (c.in_ok-giving.ensures.full (search rules))
+returns-in-Full-clause-polls g c = ran_dry (over_after (times_moves c.loop.invariant.times) (c.in_ok-giving.ensures.full (search rules)))
+
+pub returns-in-Full-clause-dry : goal.returns-in-Full-clause-dry
+returns-in-Full-clause-dry g c is = over_after (times_moves c.loop.invariant.times) (c.in_ok-giving.ensures.full (search rules))
+
+pub returns-in-Done-clause-dry : goal.returns-in-Done-clause-dry
+returns-in-Done-clause-dry g c is = absurd (true≢false is)

@@ -1,0 +1,134 @@
+// When time next has something to do for the sessions.
+ghost use Rattle.std.specs.Prelude.{◌≡◌, ◌≢◌, ◌<◌, ℕ, IfOk, OnErr, OnOk};
+ghost use Rattle.std.specs.BTreeMap.{keys};
+ghost use Rattle.std.specs.List.{All, Contains};
+ghost use Rattle.pause_rules.specs.NextDue.{IsLeastMoment, moment_of};
+ghost use Rattle.session_table.specs.Purses.{held};
+ghost use Rattle.session_pump.specs.Dues.{AskDues, AsksDue, IsNoted, IsTakenBy};
+
+use crate::pump::Pump;
+use bosh_types::Moment;
+use pause_rules::DueIndex;
+use std::alloc::AllocError;
+use std::sync::Wait;
+
+impl Pump {
+    /// The first moment at which time has something to do for a session, by what was noted. None where it has nothing to do for any.
+    pub fn first_due(&self) -> Option<Moment>
+        ensures { IsLeastMoment self.now.dues result }
+    {
+        self.dues.first_due()
+    }
+
+    /// Puts the numbers of the sessions that are due by now behind these. They are noted no longer: they are to be served, and to be
+    /// noted anew. The only error is want of memory, and then a number may be noted no longer.
+    pub fn take_due<R: Wait>(
+        &mut self,
+        rt: &R,
+        now: Moment,
+        numbers: &mut Vec<u64>,
+    ) -> Result<(), AllocError>
+        ensures taken { OnOk result ((number : ℕ) → IsTakenBy now self.old.dues self.new.dues numbers.new.items number) }
+        ensures all { OnOk result (All (λ pair. now < pair.1) self.new.dues) }
+        ensures kept { OnOk result ((number : ℕ) → Contains numbers.old.items number → Contains numbers.new.items number) }
+        ensures purse { self.new.purse ≡ self.old.purse }
+        ensures lines { self.new.lines ≡ self.old.lines }
+        ensures hosts { self.new.hosts ≡ self.old.hosts }
+    {
+        take_due(rt, &mut self.dues, now, numbers)
+    }
+
+    /// Asks each session that is held when it is due, and notes that and nothing else. The only error is want of memory, and then some
+    /// sessions aren't noted.
+    pub fn note_all<R: Wait>(&mut self, rt: &R) -> Result<(), AllocError>
+        ensures noted { OnOk result ((number : ℕ) → IsNoted number self.new.purse.sessions self.new.dues) }
+        ensures asked { OnOk result (AskDues self.old.purse.sessions (keys self.old.purse.sessions) self.new.purse.sessions) }
+        ensures directory { self.new.purse.directory ≡ self.old.purse.directory }
+        ensures lines { self.new.lines ≡ self.old.lines }
+        ensures hosts { self.new.hosts ≡ self.old.hosts }
+    {
+        let numbers = self.held_numbers()?;
+        self.dues = DueIndex::new(self.alloc);
+        self.note_for(rt, numbers.as_slice())
+    }
+
+    // The numbers under which sessions are held.
+    fn held_numbers(&self) -> Result<Vec<u64>, AllocError>
+        ensures { IfOk result (λ numbers. numbers.items ≡ keys self.now.purse.sessions) }
+    {
+        let mut numbers = Vec::new(self.alloc);
+        for (number, _) in &self.purse.sessions {
+            numbers.push(*number)?;
+        }
+        Ok(numbers)
+    }
+
+    /// Asks the sessions with these opening numbers when they are due, and notes that. Those that aren't held are noted no longer. The
+    /// only error is want of memory, and then some of them aren't noted anew.
+    pub fn note_for<R: Wait>(&mut self, rt: &R, numbers: &[u64]) -> Result<(), AllocError>
+        ensures noted { OnOk result ((number : ℕ) → Contains numbers.now number → IsNoted number self.new.purse.sessions self.new.dues) }
+        ensures others { (number : ℕ) → (Contains numbers.now number → ⊥) → moment_of self.new.dues number ≡ moment_of self.old.dues number }
+        ensures asked { OnOk result (AskDues self.old.purse.sessions numbers.now self.new.purse.sessions) }
+        ensures directory { self.new.purse.directory ≡ self.old.purse.directory }
+        ensures lines { self.new.lines ≡ self.old.lines }
+        ensures hosts { self.new.hosts ≡ self.old.hosts }
+    {
+        for number in numbers {
+            self.note(rt, *number)?;
+        }
+        Ok(())
+    }
+
+    // Asks the session under this number when it is due, and notes that.
+    fn note<R: Wait>(&mut self, rt: &R, number: u64) -> Result<(), AllocError>
+        ensures noted { OnOk result (IsNoted number self.new.purse.sessions self.new.dues) }
+        ensures others { (other : ℕ) → other ≢ number → moment_of self.new.dues other ≡ moment_of self.old.dues other }
+        ensures asked { AsksDue number self.old.purse.sessions self.new.purse.sessions }
+        ensures directory { self.new.purse.directory ≡ self.old.purse.directory }
+        ensures lines { self.new.lines ≡ self.old.lines }
+        ensures hosts { self.new.hosts ≡ self.old.hosts }
+    {
+        if self.purse.sessions.get(&number).is_none() {
+            self.dues.clear(number);
+            return Ok(());
+        }
+        let due = self.purse.due(rt, number);
+        put_due(&mut self.dues, number, due)
+    }
+}
+
+// Takes the numbers off that are due by now, and puts them behind these. The only error is want of memory.
+fn take_due<R: Wait>(
+    rt: &R,
+    dues: &mut DueIndex,
+    now: Moment,
+    numbers: &mut Vec<u64>,
+) -> Result<(), AllocError>
+    ensures taken { OnOk result ((number : ℕ) → IsTakenBy now dues.old dues.new numbers.new.items number) }
+    ensures all { OnOk result (All (λ pair. now < pair.1) dues.new) }
+    ensures kept { OnOk result ((number : ℕ) → Contains numbers.old.items number → Contains numbers.new.items number) }
+{
+    for _ in rt.forever() {
+        let Some(number) = dues.next_due(now) else {
+            return Ok(());
+        };
+        numbers.push(number)?;
+        dues.clear(number);
+    }
+    unreachable!()
+}
+
+// Notes the moment of a number, or that it has none. The only error is want of memory, and then all is as it was.
+fn put_due(dues: &mut DueIndex, number: u64, due: Option<Moment>) -> Result<(), AllocError>
+    ensures put { OnOk result (moment_of dues.new number ≡ due) }
+    ensures others { (other : ℕ) → other ≢ number → moment_of dues.new other ≡ moment_of dues.old other }
+    ensures err { OnErr result (dues.new ≡ dues.old) }
+{
+    match due {
+        Some(moment) => dues.set(number, moment),
+        None => {
+            dues.clear(number);
+            Ok(())
+        }
+    }
+}
