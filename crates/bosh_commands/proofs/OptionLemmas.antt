@@ -9,7 +9,7 @@ use Rattle.clap.proofs.OnLiterals.{clap_on_literals}
 use Rattle.clap.proofs.WalkLemmas.{first_value-rows}
 use Rattle.bosh_commands.specs.declared.options.ServeOptions.{ServeOptions}
 use Rattle.bosh_commands.specs.declared.options.Wanted.{Wanted}
-use Rattle.bosh_commands.specs.Options.{ShowsWhatIsAsked, number_in, options_by, options_from, options_of, options_wanted, serve_app}
+use Rattle.bosh_commands.specs.Options.{ShowsWhatIsAsked, flag_in, number_in, options_by, options_from, options_of, options_wanted, serve_app}
 
 pub serve_is_simple : is_simple serve_app ≡ true
 unfolding clap_on_literals
@@ -23,14 +23,16 @@ serve_is_free = refl
 pub by_rows : (f : Found) (kinds : Kinds) (rows : List Row) → kinds ≡ [] → rows_of f ≡ rows → options_of (λ id. first_value f id) ≡ options_by kinds rows
 by_rows f kinds rows none are =
     let reads : (id : Text) → first_value f id ≡ first_of id rows = λ id. first_value-rows f id ∙ ap (first_of id) are in
+    let eof = codes "until-eof" in
     let port = codes "port" in
     let workers = codes "workers" in
     let connections = codes "connections" in
     let limit = codes "journal-limit" in
-    ap (λ p. options_from (number_in 1 65535 p) (number_in 1 64 (first_value f workers)) (number_in 0 1048576 (first_value f connections)) (number_in 65536 1099511627776 (first_value f limit))) (reads port)
-    ∙ ap (λ w. options_from (number_in 1 65535 (first_of port rows)) (number_in 1 64 w) (number_in 0 1048576 (first_value f connections)) (number_in 65536 1099511627776 (first_value f limit))) (reads workers)
-    ∙ ap (λ c. options_from (number_in 1 65535 (first_of port rows)) (number_in 1 64 (first_of workers rows)) (number_in 0 1048576 c) (number_in 65536 1099511627776 (first_value f limit))) (reads connections)
-    ∙ ap (λ l. options_from (number_in 1 65535 (first_of port rows)) (number_in 1 64 (first_of workers rows)) (number_in 0 1048576 (first_of connections rows)) (number_in 65536 1099511627776 l)) (reads limit)
+    ap (λ e. options_from (flag_in e) (number_in 1 65535 (first_value f port)) (number_in 1 64 (first_value f workers)) (number_in 0 1048576 (first_value f connections)) (number_in 65536 1099511627776 (first_value f limit))) (reads eof)
+    ∙ ap (λ p. options_from (flag_in (first_of eof rows)) (number_in 1 65535 p) (number_in 1 64 (first_value f workers)) (number_in 0 1048576 (first_value f connections)) (number_in 65536 1099511627776 (first_value f limit))) (reads port)
+    ∙ ap (λ w. options_from (flag_in (first_of eof rows)) (number_in 1 65535 (first_of port rows)) (number_in 1 64 w) (number_in 0 1048576 (first_value f connections)) (number_in 65536 1099511627776 (first_value f limit))) (reads workers)
+    ∙ ap (λ c. options_from (flag_in (first_of eof rows)) (number_in 1 65535 (first_of port rows)) (number_in 1 64 (first_of workers rows)) (number_in 0 1048576 c) (number_in 65536 1099511627776 (first_value f limit))) (reads connections)
+    ∙ ap (λ l. options_from (flag_in (first_of eof rows)) (number_in 1 65535 (first_of port rows)) (number_in 1 64 (first_of workers rows)) (number_in 0 1048576 (first_of connections rows)) (number_in 65536 1099511627776 l)) (reads limit)
     ∙ sym (ap (λ k. options_by k rows) none)
 
 -- where the parser finds a fault, there are no options

@@ -3,6 +3,7 @@ use Rattle.std.specs.Prelude.{ℕ, ◌≡◌, ◌⊎◌, ◌&&◌, nat_le, Bool,
 use Rattle.std.specs.Str.{bytes_eq}
 use Rattle.std.specs.Global.{Global}
 use Rattle.clap.specs.Words.{App, IsAmong, Kinds, Row, Rule, Text, fault_of, first_of, matches_of, new_app, new_rule, with_rule}
+use Rattle.clap.specs.declared.builder.action.ArgAction.TheVariants.{SetTrue}
 use Rattle.clap.specs.declared.error.kind.ErrorKind.TheVariants.{DisplayHelp, DisplayVersion}
 use Rattle.bosh_types.specs.Rid.{rid_of}
 use Rattle.bosh_commands.specs.declared.options.ServeOptions.{ServeOptions}
@@ -22,12 +23,16 @@ connections_rule = record (new_rule (codes "connections")) { long = Some (codes 
 abbrev pub journal_limit_rule : Rule
 journal_limit_rule = record (new_rule (codes "journal-limit")) { long = Some (codes "journal-limit"); value_names = 1; defaults = codes "16777216" ∷ [] }
 
+-- a word that takes no value
+abbrev pub until_eof_rule : Rule
+until_eof_rule = record (new_rule (codes "until-eof")) { long = Some (codes "until-eof"); action = Some SetTrue }
+
 -- the same, and it tells its version
 abbrev pub with_version : App → App
 with_version app = record app { top = record app.top { has_version = true } }
 
 abbrev pub serve_app : App
-serve_app = with_rule (with_rule (with_rule (with_rule (with_version (new_app (codes "serve"))) port_rule) workers_rule) connections_rule) journal_limit_rule
+serve_app = with_rule (with_rule (with_rule (with_rule (with_rule (with_version (new_app (codes "serve"))) port_rule) workers_rule) connections_rule) journal_limit_rule) until_eof_rule
 
 -- the number that a text writes in plain decimal, without a sign or a leading zero
 abbrev pub plain_number : Text → Option ℕ
@@ -42,19 +47,24 @@ abbrev pub number_in : ℕ → ℕ → Option Text → Option ℕ
 number_in least greatest None = None
 number_in least greatest (Some text) = within least greatest (plain_number text)
 
-abbrev pub options_from : Option ℕ → Option ℕ → Option ℕ → Option ℕ → Option ServeOptions
-options_from (Some port) (Some workers) (Some connections) (Some limit) =
-    Some (record { port = port; plan = record { workers = workers; connections = connections; journal_limit = limit } })
-options_from (Some port) (Some workers) (Some connections) None = None
-options_from (Some port) (Some workers) None limit = None
-options_from (Some port) None connections limit = None
-options_from None workers connections limit = None
+-- whether a word that takes no value stands there
+abbrev pub flag_in : Option Text → Bool
+flag_in None = false
+flag_in (Some text) = bytes_eq text (codes "true")
+
+abbrev pub options_from : Bool → Option ℕ → Option ℕ → Option ℕ → Option ℕ → Option ServeOptions
+options_from until_eof (Some port) (Some workers) (Some connections) (Some limit) =
+    Some (record { port = port; until_eof = until_eof; plan = record { workers = workers; connections = connections; journal_limit = limit } })
+options_from until_eof (Some port) (Some workers) (Some connections) None = None
+options_from until_eof (Some port) (Some workers) None limit = None
+options_from until_eof (Some port) None connections limit = None
+options_from until_eof None workers connections limit = None
 
 -- what the texts of the options say: the port from 1 to 65535, 1 to 64 workers, up to 1048576 connections, and a journal of 65,536 to
--- 1,099,511,627,776 counted bytes
+-- 1,099,511,627,776 counted bytes; and whether it ends with its input
 abbrev pub options_of : (Text → Option Text) → Option ServeOptions
 options_of text_of =
-    options_from (number_in 1 65535 (text_of (codes "port"))) (number_in 1 64 (text_of (codes "workers"))) (number_in 0 1048576 (text_of (codes "connections")))
+    options_from (flag_in (text_of (codes "until-eof"))) (number_in 1 65535 (text_of (codes "port"))) (number_in 1 64 (text_of (codes "workers"))) (number_in 0 1048576 (text_of (codes "connections")))
     (number_in 65536 1099511627776 (text_of (codes "journal-limit")))
 
 -- options where the parser of words has no fault to find
@@ -70,6 +80,11 @@ abbrev pub options_wanted : Wanted → Option ServeOptions
 options_wanted (wanted.Shown text) = None
 options_wanted (wanted.Serve options) = Some options
 options_wanted wanted.Nothing = None
+
+-- the server is to end with its input
+abbrev pub ends_with_input : Option ServeOptions → Bool
+ends_with_input None = false
+ends_with_input (Some options) = options.until_eof
 
 -- a text is to be shown
 abbrev pub is_shown : Wanted → Bool
@@ -90,9 +105,12 @@ abbrev pub ShowsWhatIsAsked : Kinds → Bool → Type 0
 ShowsWhatIsAsked kinds shown = (shown ≡ true → MayAsk kinds) × (Asks kinds → shown ≡ true)
 
 -- what the parser of words may find of words of `serve`: faults, or that a text is asked for
+unfoldable pub serve_faults : List Text → Kinds
+serve_faults words = fault_of serve_app words
+
 abbrev pub serve_findings : List (String Global) → Kinds
 serve_findings [] = []
-serve_findings (first ∷ rest) = if bytes_eq (string_bytes first) (codes "serve") then fault_of serve_app (map (λ word. string_bytes word) (first ∷ rest)) else []
+serve_findings (first ∷ rest) = if bytes_eq (string_bytes first) (codes "serve") then serve_faults (map (λ word. string_bytes word) (first ∷ rest)) else []
 
 -- the first word names the command
 abbrev pub serve_options : List (String Global) → Option ServeOptions

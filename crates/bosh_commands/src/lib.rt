@@ -6,6 +6,7 @@ mod client_command;
 mod client_options;
 mod command;
 mod ends;
+mod input_end;
 mod number;
 mod options;
 mod run;
@@ -18,5 +19,5 @@ pub use run::{
     BAD_SCRIPT, BROKEN_RULE, DONE, NO_MEMORY, READ_FAULT, WRITE_FAULT, WRONG_WORDS, run_local,
     status_without_words,
 };
-pub use serve_command::{NET_FAULT, SPAWN_FAULT, run_serve_command};
+pub use serve_command::{NET_FAULT, SPAWN_FAULT, run_serve_command, serves_until_eof};
 pub use wrong_words::{Mistake, mistake_in, wrong_words_text};

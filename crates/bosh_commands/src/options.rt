@@ -1,18 +1,20 @@
 // The words of the command `serve`.
 ghost use Rattle.std.specs.Prelude.{◌≡◌, ◌≢◌, ◌≤◌, ◌⊎◌, ℕ, true, false, IfOk, IfSome, None, map, option_map, string_bytes};
-ghost use Rattle.clap.specs.Words.{app_of, fault_of, first_value, found_of, kind_of};
-ghost use Rattle.bosh_commands.specs.Options.{ShowsWhatIsAsked, is_shown, number_in, options_from, options_in, options_of, options_wanted, plain_number, serve_app};
+ghost use Rattle.clap.specs.Words.{app_of, first_value, found_of, kind_of};
+ghost use Rattle.bosh_commands.specs.Options.{ShowsWhatIsAsked, flag_in, is_shown, number_in, options_from, options_in, options_of, options_wanted, plain_number, serve_app, serve_faults};
 
 use bosh_server::ServePlan;
 use bosh_types::Rid;
 use clap::error::ErrorKind;
-use clap::{Arg, ArgMatches, Command, Error};
+use clap::{Arg, ArgAction, ArgMatches, Command, Error};
 use std::alloc::{AllocError, Global};
 
 /// How the command `serve` is to run.
 #[derive(Clone, Copy, Debug, PartialEq, Eq)]
 pub struct ServeOptions {
     pub port: u16,
+    /// Whether the server ends with its input too.
+    pub until_eof: bool,
     pub plan: ServePlan,
 }
 
@@ -62,6 +64,10 @@ fn serve_command<'a>(alloc: Global) -> Result<Command<'a>, AllocError>
             "How many counted bytes the journal of a session may have, from 65536 to 1099511627776: the request that would pass it ends the session",
         )
         .default_value("16777216");
+    let until_eof = Arg::new(alloc, "until-eof")
+        .long("until-eof")
+        .help("Read standard input, and end where that does")
+        .action(ArgAction::SetTrue);
     Command::new(alloc, "serve")
         .about(
             "Serves XMPP over BOSH at http://127.0.0.1:PORT/http-bind, with an echo at echo.localhost and a room at room.localhost",
@@ -70,13 +76,14 @@ fn serve_command<'a>(alloc: Global) -> Result<Command<'a>, AllocError>
         .arg(port)?
         .arg(workers)?
         .arg(connections)?
-        .arg(journal_limit)
+        .arg(journal_limit)?
+        .arg(until_eof)
 }
 
 /// Reads the words, of which the first is the command's. The only error is want of memory.
 pub fn read_options(alloc: Global, words: &[String]) -> Result<Wanted, AllocError>
     ensures options { IfOk result (λ wanted. options_wanted wanted ≡ options_in (map (λ word. string_bytes word) words.now)) }
-    ensures shows { IfOk result (λ wanted. ShowsWhatIsAsked (fault_of serve_app (map (λ word. string_bytes word) words.now)) (is_shown wanted)) }
+    ensures shows { IfOk result (λ wanted. ShowsWhatIsAsked (serve_faults (map (λ word. string_bytes word) words.now)) (is_shown wanted)) }
 {
     let command = serve_command(alloc)?;
     match command.try_get_matches_from(words) {
@@ -121,17 +128,19 @@ fn options(matches: &ArgMatches<'_>) -> Option<ServeOptions>
         LEAST_JOURNAL,
         GREATEST_JOURNAL,
     );
-    options_from(port, workers, connections, journal_limit)
+    let until_eof = flag(matches.get_str("until-eof"));
+    options_from(until_eof, port, workers, connections, journal_limit)
 }
 
 fn options_from(
+    until_eof: bool,
     port: Option<u32>,
     workers: Option<u32>,
     connections: Option<u32>,
     journal_limit: Option<u64>,
 ) -> Option<ServeOptions>
     requires { IfSome port (λ port. port ≤ 65535) }
-    ensures { result ≡ options_from port workers connections journal_limit }
+    ensures { result ≡ options_from until_eof port workers connections journal_limit }
 {
     let port = port?;
     let workers = workers?;
@@ -139,12 +148,23 @@ fn options_from(
     let journal_limit = journal_limit?;
     Some(ServeOptions {
         port: port as u16,
+        until_eof,
         plan: ServePlan {
             workers,
             connections,
             journal_limit,
         },
     })
+}
+
+// Whether a word that takes no value stands there.
+fn flag(text: Option<&str>) -> bool
+    ensures { result ≡ flag_in (option_map (λ text. text.now) text.entry) }
+{
+    match text {
+        Some(text) => text.as_bytes() == b"true".as_slice(),
+        None => false,
+    }
 }
 
 // The number that the text writes in plain decimal, where it lies within these bounds.

@@ -1,14 +1,16 @@
 // What the command `serve` does over what it is handed.
-ghost use Rattle.std.specs.Prelude.{◌≡◌, ◌≢◌, ◌≤◌, [], ◌∷◌, Contains, IfOk, IfSome, IsSome, None, codes};
+ghost use Rattle.std.specs.Prelude.{◌≡◌, ◌≢◌, ◌≤◌, [], ◌∷◌, Contains, IfOk, IfSome, IsSome, None, codes, false};
 ghost use Rattle.std.specs.Io.KnownBytes.{Appends};
 ghost use Rattle.bosh_ports.specs.Faults.{HasRisen};
-ghost use Rattle.bosh_commands.specs.Options.{Asks, MayAsk, ShowsWhatIsAsked, is_shown, options_wanted, serve_findings, serve_options};
+ghost use Rattle.bosh_commands.specs.Options.{Asks, MayAsk, ShowsWhatIsAsked, ends_with_input, is_shown, options_wanted, serve_findings, serve_options};
 ghost use Rattle.bosh_commands.specs.ServeCommand.{Served, served_line};
 
+use crate::input_end::tell_end;
 use crate::options::{ServeOptions, Wanted, read_options};
 use crate::run::{DONE, NO_MEMORY, WRITE_FAULT, WRONG_WORDS};
 use bosh_ports::{Bell, Sink, give_all};
 use bosh_server::{Outside, Ran, run_workers};
+use client_run::Ready;
 use server_ports::{Clock, Names, Network, Opened, Spawner};
 use session_pump::Host;
 use std::alloc::{AllocError, Global};
@@ -22,11 +24,13 @@ pub const SPAWN_FAULT: u8 = 8;
 
 /// Runs the command that the words name and answers the program's status. `serve` serves these hosts at its port, writes
 /// `serving` to the sink once that takes connections, and how many it served at the end. Where the port can't be had a line of
-/// `errors` says so.
-pub fn run_serve_command<R, K, E, N, C, B, S, M>(
+/// `errors` says so. Where the words say that it ends with its input, the network is to stop at the end of that, or where it
+/// fails; a fault of it is then answered once all else is done.
+pub fn run_serve_command<R, I, K, E, N, C, B, S, M>(
     rt: &R,
     alloc: Global,
     words: &[String],
+    input: &mut I,
     sink: &mut K,
     errors: &mut E,
     outside: &mut Outside<N, C, B, S, M>,
@@ -34,6 +38,7 @@ pub fn run_serve_command<R, K, E, N, C, B, S, M>(
 ) -> u8
 where
     R: Wait + Threads + Copy + Send + Drop + 'static,
+    I: Ready,
     K: Sink,
     E: Sink,
     N: Network,
@@ -42,7 +47,7 @@ where
     B: Bell + Send + Drop + 'static,
     S: Spawner,
     M: Names + Send + Drop + 'static,
-    ensures statuses { Contains (0 ∷ 2 ∷ 5 ∷ 6 ∷ 7 ∷ 8 ∷ []) result }
+    ensures statuses { Contains (0 ∷ 2 ∷ 4 ∷ 5 ∷ 6 ∷ 7 ∷ 8 ∷ []) result }
 
     // A count of faults rises with the status that names it, and with no other.
     ensures net_fault { result ≡ 7 → HasRisen (N.counts outside.old.net).faults (N.counts outside.new.net).faults }
@@ -53,8 +58,15 @@ where
     ensures write_counts { result ≢ 5 → K.faults sink.new ≡ K.faults sink.old }
 
     // Words that say how to serve have another status than 2, and with 0 they were served so.
+    ensures read_fault { result ≡ 4 → HasRisen (I.faults input.old) (I.faults input.new) }
+    ensures read_counts { result ≢ 4 → I.faults input.new ≡ I.faults input.old }
+
+    // The input is looked at only where the words say that the server ends with it, and what it says is not kept.
+    ensures unread { ends_with_input (serve_options words.now) ≡ false → input.new ≡ input.old }
+
     ensures accepted { IsSome (serve_options words.now) → result ≢ 2 }
     ensures done { result ≡ 0 → IfSome (serve_options words.now) (λ options. Served options.plan.connections (N.counts outside.old.net) (N.counts outside.new.net) (K.given sink.old) (K.given sink.new)) }
+    ensures failed { result ≡ 4 → IfSome (serve_options words.now) (λ options. Served options.plan.connections (N.counts outside.old.net) (N.counts outside.new.net) (K.given sink.old) (K.given sink.new)) }
 
     // Other words have the status 2, but for want of memory, where they don't ask for help or the version; where they ask for
     // just that, they have another.
@@ -69,7 +81,19 @@ where
         Err(AllocError) => NO_MEMORY,
         Ok(Wanted::Nothing) => WRONG_WORDS,
         Ok(Wanted::Shown(text)) => status_given(sink, text.as_bytes()),
-        Ok(Wanted::Serve(options)) => serve(rt, alloc, &options, sink, errors, outside, hosts),
+        Ok(Wanted::Serve(options)) => {
+            serve(rt, alloc, &options, input, sink, errors, outside, hosts)
+        }
+    }
+}
+
+/// Whether the words say how to serve, and that the server ends with its input. The only error is want of memory.
+pub fn serves_until_eof(alloc: Global, words: &[String]) -> Result<bool, AllocError>
+    ensures { IfOk result (λ until_eof. until_eof ≡ ends_with_input (serve_options words.now)) }
+{
+    match wanted(alloc, words)? {
+        Wanted::Serve(options) => Ok(options.until_eof),
+        Wanted::Shown(_) | Wanted::Nothing => Ok(false),
     }
 }
 
@@ -101,10 +125,11 @@ pub(crate) fn status_given<K: Sink>(sink: &mut K, text: &[u8]) -> u8
 }
 
 // Serves these hosts as the options have it.
-fn serve<R, K, E, N, C, B, S, M>(
+fn serve<R, I, K, E, N, C, B, S, M>(
     rt: &R,
     alloc: Global,
     options: &ServeOptions,
+    input: &mut I,
     sink: &mut K,
     errors: &mut E,
     outside: &mut Outside<N, C, B, S, M>,
@@ -112,6 +137,7 @@ fn serve<R, K, E, N, C, B, S, M>(
 ) -> u8
 where
     R: Wait + Threads + Copy + Send + Drop + 'static,
+    I: Ready,
     K: Sink,
     E: Sink,
     N: Network,
@@ -120,14 +146,18 @@ where
     B: Bell + Send + Drop + 'static,
     S: Spawner,
     M: Names + Send + Drop + 'static,
-    ensures statuses { Contains (0 ∷ 5 ∷ 6 ∷ 7 ∷ 8 ∷ []) result }
+    ensures statuses { Contains (0 ∷ 4 ∷ 5 ∷ 6 ∷ 7 ∷ 8 ∷ []) result }
     ensures net_fault { result ≡ 7 → HasRisen (N.counts outside.old.net).faults (N.counts outside.new.net).faults }
     ensures net_counts { result ≢ 7 → (N.counts outside.new.net).faults ≡ (N.counts outside.old.net).faults }
     ensures spawn_fault { result ≡ 8 → HasRisen (S.refusals outside.old.spawner) (S.refusals outside.new.spawner) }
     ensures spawn_counts { result ≢ 8 → S.refusals outside.new.spawner ≡ S.refusals outside.old.spawner }
     ensures write_fault { result ≡ 5 → HasRisen (K.faults sink.old) (K.faults sink.new) }
     ensures write_counts { result ≢ 5 → K.faults sink.new ≡ K.faults sink.old }
+    ensures read_fault { result ≡ 4 → HasRisen (I.faults input.old) (I.faults input.new) }
+    ensures read_counts { result ≢ 4 → I.faults input.new ≡ I.faults input.old }
+    ensures unread { options.now.until_eof ≡ false → input.new ≡ input.old }
     ensures done { result ≡ 0 → Served options.now.plan.connections (N.counts outside.old.net) (N.counts outside.new.net) (K.given sink.old) (K.given sink.new) }
+    ensures failed { result ≡ 4 → Served options.now.plan.connections (N.counts outside.old.net) (N.counts outside.new.net) (K.given sink.old) (K.given sink.new) }
 {
     match outside.net.listen(options.port) {
         Opened::Ready => {}
@@ -144,12 +174,14 @@ where
         Err(AllocError) => NO_MEMORY,
         Ok(Ran::NetFault) => NET_FAULT,
         Ok(Ran::SpawnFault) => SPAWN_FAULT,
-        Ok(Ran::Done { connections }) => tell_served(alloc, sink, connections),
+        Ok(Ran::Done { connections }) => {
+            tell_end(rt, alloc, options.until_eof, input, sink, connections)
+        }
     }
 }
 
 // Tells how many links were served.
-fn tell_served<K: Sink>(alloc: Global, sink: &mut K, links: u32) -> u8
+pub(crate) fn tell_served<K: Sink>(alloc: Global, sink: &mut K, links: u32) -> u8
     ensures statuses { Contains (0 ∷ 5 ∷ 6 ∷ []) result }
     ensures given { result ≡ 0 → Appends (K.given sink.old) (K.given sink.new) (served_line links) }
     ensures fault { result ≡ 5 → HasRisen (K.faults sink.old) (K.faults sink.new) }

@@ -1,19 +1,19 @@
 // The program: it hands its words and the real streams to the top calls.
 #![tactic(auto)]
 
+mod serving;
+mod stoppable;
+mod stopper;
 mod typed;
 
+use crate::serving::serve_for_real;
 use crate::typed::{ClosingBell, Shelf, Typed, read_to_shelf};
 use bosh_commands::{
-    NO_MEMORY, WRONG_WORDS, run_client_command, run_local, run_serve_command, status_without_words,
-    wrong_words_text,
+    NO_MEMORY, WRONG_WORDS, run_client_command, run_local, status_without_words, wrong_words_text,
 };
 use bosh_ports::{Bell, ReadSource, RealBell, Sink, WriteSink, give_all};
-use bosh_server::Outside;
-use bosh_types::{Stanzas, Text};
-use client_run::Outside as ClientOutside;
+use client_run::Outside;
 use server_ports::{RealClock, RealNames, TcpNetwork, ThreadSpawner, system_seed};
-use session_pump::Host;
 use std::alloc::{AllocError, Global};
 use std::io::Read;
 use std::net::{Net, TcpListener, TcpStream};
@@ -22,7 +22,6 @@ use std::rt::{Clock, Files};
 use std::sync::{Arc, Wait};
 use std::thread::Threads;
 use std::{env, io, thread};
-use xmpp_backend::{Backend, Echo, Room};
 
 fn main(rt: HostRuntime) -> ExitCode {
     let words = match words(&rt) {
@@ -33,7 +32,9 @@ fn main(rt: HostRuntime) -> ExitCode {
     let mut sink = WriteSink::new(io::writer(&rt));
     let mut errors = WriteSink::new(rt.stderr());
     let status = if is_command(&words, "serve") {
-        serve_for_real(&rt, rt.alloc(), &words, &mut sink, &mut errors).unwrap_or(NO_MEMORY)
+        serve_for_real(&rt, rt.alloc(), &words, rt.stdin(), &mut sink, &mut errors).unwrap_or(
+            NO_MEMORY,
+        )
     } else if is_command(&words, "client") {
         ask_for_real(&rt, rt.alloc(), &words, rt.stdin(), &mut sink, &mut errors).unwrap_or(
             NO_MEMORY,
@@ -71,64 +72,6 @@ fn is_command(words: &[String], name: &str) -> bool {
     }
 }
 
-/// Serves the hosts of the program over the real network, with the real clock, bell, threads and names.
-fn serve_for_real<R, K, E>(
-    rt: &R,
-    alloc: Global,
-    words: &[String],
-    sink: &mut K,
-    errors: &mut E,
-) -> Result<u8, AllocError>
-where
-    R: Wait
-        + Threads
-        + Files
-        + Clock
-        + Net<Listener = TcpListener, Stream = TcpStream>
-        + Copy
-        + Send
-        + Drop
-        + 'static,
-    K: Sink,
-    E: Sink,
-{
-    let Ok(seed) = system_seed(rt) else {
-        return Ok(NO_MEMORY);
-    };
-    let hosts = vec![in alloc;
-        host(
-            alloc,
-            "echo.localhost",
-            Box::new(alloc, Echo::new(alloc))?,
-            Box::new(alloc, Echo::new(alloc))?
-        )?,
-        host(
-            alloc,
-            "room.localhost",
-            Box::new(alloc, Room::new(alloc))?,
-            Box::new(alloc, Room::new(alloc))?
-        )?,
-    ]?;
-    let bell = RealBell::new(alloc, *rt)?;
-    let mut outside = Outside {
-        net: TcpNetwork::new(*rt),
-        clock: RealClock::new(*rt),
-        bell,
-        spawner: ThreadSpawner::new(alloc),
-        names: RealNames::new(alloc, seed),
-    };
-    let status = run_serve_command(rt, alloc, words, sink, errors, &mut outside, hosts);
-    let Outside {
-        net: _net,
-        clock: _clock,
-        bell: _bell,
-        spawner,
-        names: _names,
-    } = outside;
-    spawner.join_all(rt);
-    Ok(status)
-}
-
 /// Runs a client over the real network, with the real clock, bell, threads and names. A thread of its own reads the input, and is left
 /// behind where the client ends before that does.
 fn ask_for_real<R, I, K, E>(
@@ -161,7 +104,7 @@ where
     let bell = RealBell::new(alloc, *rt)?;
     read_apart(rt, input, Arc::try_clone(&shelf)?, bell.share()?)?;
     let mut source = Typed::new(*rt, Arc::try_clone(&shelf)?);
-    let mut outside = ClientOutside {
+    let mut outside = Outside {
         net: TcpNetwork::new(*rt),
         clock: RealClock::new(*rt),
         bell: ClosingBell::new(*rt, bell, shelf),
@@ -177,7 +120,7 @@ where
         &mut outside,
         &mut names,
     );
-    let ClientOutside {
+    let Outside {
         net: _net,
         clock: _clock,
         bell: _bell,
@@ -211,20 +154,4 @@ where
         }
         Err(_) => Err(AllocError),
     }
-}
-
-/// A host with this name, which greets with the features of a stream.
-fn host(
-    alloc: Global,
-    name: &str,
-    end: Box<dyn Backend + Send>,
-    spare: Box<dyn Backend + Send>,
-) -> Result<Host, AllocError> {
-    let features = Text::from_vec(b"<stream:features/>".to_vec(alloc)?);
-    Ok(Host {
-        name: Text::from_vec(name.as_bytes().to_vec(alloc)?),
-        greeting: Stanzas::from_vec(vec![in alloc; features]?),
-        end,
-        spares: vec![in alloc; spare]?,
-    })
 }

@@ -56,7 +56,7 @@ pub(crate) fn new_yard(
     let Ok((directory, pass)) = Gate::new(alloc, Directory::new(alloc)) else {
         return Err(AllocError);
     };
-    let Ok(yard) = Arc::new(alloc, Yard::new(directory, hosts, journal_limit)) else {
+    let Ok(yard) = Arc::new(alloc, Yard::new(alloc, directory, hosts, journal_limit)) else {
         return Err(AllocError);
     };
     Ok((yard, pass))

@@ -3,11 +3,13 @@
 #![tactic(auto)]
 
 mod accepting;
+mod agenda;
 mod crew;
 mod outside;
 mod plan;
 mod pumping;
 mod queue;
+mod rings;
 mod run;
 mod serving;
 mod starting;

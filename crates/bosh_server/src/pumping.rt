@@ -3,13 +3,16 @@ ghost use Rattle.std.specs.Prelude.{◌≡◌, ◌≤◌};
 ghost use Rattle.bosh_ports.specs.Faults.{HasRisen};
 ghost use Rattle.parked_gate.specs.Passes.{IsPassOf};
 
-use crate::yard::{Phase, Post};
+use crate::agenda::Agenda;
+use crate::rings::NotingBell;
+use crate::yard::{Phase, Post, Yard};
 use bosh_ports::{Bell, BellKey};
+use bosh_types::Moment;
 use parked_gate::Gate;
 use server_ports::{Clock, Job, Leave, Spawner, Started, start};
 use session_pump::{Hosts, Pump};
 use session_table::Directory;
-use std::alloc::Global;
+use std::alloc::{AllocError, Global};
 use std::sync::Wait;
 use std::thread::Threads;
 
@@ -17,41 +20,61 @@ use std::thread::Threads;
 /// rest of the job.
 pub(crate) trait Pumped: Drop {
     /// Makes turns of their pump, and waits at the bell between them, until nobody is served any longer.
-    fn pump<R: Wait, C: Clock, B: Bell>(
+    fn pump<R: Wait, C: Clock, B: Bell + Drop>(
         self,
         rt: &R,
         alloc: Global,
         post: Post,
         clock: &C,
-        bell: &mut B,
+        bell: B,
     );
 }
 
 impl Pumped for Hosts {
-    fn pump<R: Wait, C: Clock, B: Bell>(
+    fn pump<R: Wait, C: Clock, B: Bell + Drop>(
         self,
         rt: &R,
         alloc: Global,
         post: Post,
         clock: &C,
-        bell: &mut B,
+        bell: B,
     ) {
         let Post { yard, purse } = post;
         let mut pump = Pump::new(alloc, purse, self);
-        for _ in rt.forever() {
-            bell.tune(BellKey::PUMP);
-            let phase = yard.phase(rt);
-            turn(&mut pump, rt, &yard.directory, clock, bell, phase);
-            if phase == Phase::Over {
-                break;
-            }
-            bell.wait();
-        }
+        let mut bell = NotingBell::new(rt, bell, &yard.rings);
+        make_turns(rt, alloc, &yard, &mut pump, clock, &mut bell);
         yard.end_pump(rt);
     }
 }
 
-// One turn. Where no more links come, every live session is ended before. What wants memory is done in the next turn.
+// Makes turns until nobody is served any longer.
+fn make_turns<R: Wait, C: Clock, B: Bell>(
+    rt: &R,
+    alloc: Global,
+    yard: &Yard,
+    pump: &mut Pump,
+    clock: &C,
+    bell: &mut B,
+)
+    requires { IsPassOf yard.now.directory pump.old.purse.directory }
+{
+    let mut agenda = Agenda::new(alloc);
+    for _ in rt.forever() {
+        bell.tune(BellKey::PUMP);
+        agenda.take_up(rt, &yard.rings);
+        let phase = yard.phase(rt);
+        turn(pump, rt, &yard.directory, clock, bell, phase, &mut agenda);
+        if phase == Phase::Over {
+            return;
+        }
+        if !pump.is_behind() {
+            agenda.rest(rt, &yard.rings, clock, bell, pump.first_due());
+        }
+    }
+}
+
+// One turn: for those who were rung for or are due, or for every session where that is due or no more links come. Where it wants
+// memory, every session is served at once.
 fn turn<R: Wait, C: Clock, B: Bell>(
     pump: &mut Pump,
     rt: &R,
@@ -59,14 +82,77 @@ fn turn<R: Wait, C: Clock, B: Bell>(
     clock: &C,
     bell: &mut B,
     phase: Phase,
+    agenda: &mut Agenda,
 )
     requires { IsPassOf directory.now pump.old.purse.directory }
     ensures { IsPassOf directory.now pump.new.purse.directory }
 {
-    if phase != Phase::Serving {
-        let _ = pump.shut_down(rt, directory, clock, bell);
+    let now = clock.now();
+    if phase == Phase::Serving && !agenda.is_whole_by(now) {
+        if short_turn(pump, rt, directory, clock, bell, agenda, now).is_err() {
+            agenda.hurry();
+        }
+        return;
     }
-    let _ = pump.turn(rt, directory, clock, bell);
+    agenda.hurry();
+    if whole_turn(pump, rt, directory, clock, bell, phase) {
+        agenda.end_round(now);
+    }
+}
+
+// A turn for those who were rung for or are due by now. The only error is want of memory.
+fn short_turn<R: Wait, C: Clock, B: Bell>(
+    pump: &mut Pump,
+    rt: &R,
+    directory: &Gate<Directory>,
+    clock: &C,
+    bell: &mut B,
+    agenda: &mut Agenda,
+    now: Moment,
+) -> Result<(), AllocError>
+    requires { IsPassOf directory.now pump.old.purse.directory }
+    ensures { IsPassOf directory.now pump.new.purse.directory }
+{
+    pump.take_due(rt, now, &mut agenda.numbers)?;
+    agenda.put_in_order();
+    pump.turn_for(rt, directory, clock, bell, agenda.numbers.as_slice())?;
+    pump.note_for(rt, agenda.numbers.as_slice())
+}
+
+// A turn for every session. Where no more links come, every live session is ended before. Whether there was memory for all of it.
+fn whole_turn<R: Wait, C: Clock, B: Bell>(
+    pump: &mut Pump,
+    rt: &R,
+    directory: &Gate<Directory>,
+    clock: &C,
+    bell: &mut B,
+    phase: Phase,
+) -> bool
+    requires { IsPassOf directory.now pump.old.purse.directory }
+    ensures { IsPassOf directory.now pump.new.purse.directory }
+{
+    let shut = shut_down_where_over(pump, rt, directory, clock, bell, phase);
+    let turned = pump.turn(rt, directory, clock, bell);
+    let noted = pump.note_all(rt);
+    shut.is_ok() && turned.is_ok() && noted.is_ok()
+}
+
+// Ends every live session, where no more links come. The only error is want of memory.
+fn shut_down_where_over<R: Wait, C: Clock, B: Bell>(
+    pump: &mut Pump,
+    rt: &R,
+    directory: &Gate<Directory>,
+    clock: &C,
+    bell: &mut B,
+    phase: Phase,
+) -> Result<(), AllocError>
+    requires { IsPassOf directory.now pump.old.purse.directory }
+    ensures { IsPassOf directory.now pump.new.purse.directory }
+{
+    if phase == Phase::Serving {
+        return Ok(());
+    }
+    pump.shut_down(rt, directory, clock, bell)
 }
 
 /// Pumps for hosts.
@@ -102,8 +188,7 @@ where
             bell,
             hosts,
         } = self;
-        let mut bell = bell;
-        hosts.pump(&rt, alloc, post, &clock, &mut bell);
+        hosts.pump(&rt, alloc, post, &clock, bell);
     }
 }
 

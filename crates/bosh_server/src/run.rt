@@ -1,7 +1,7 @@
 // The whole of a server.
 ghost use Rattle.std.specs.Prelude.{◌≡◌, ◌≢◌, ◌≤◌, IfOk, OnErr};
 ghost use Rattle.bosh_ports.specs.Faults.{HasRisen};
-ghost use Rattle.bosh_server.specs.Runs.{RunsBy};
+ghost use Rattle.bosh_server.specs.Runs.{RunsBy, while_last_are_served};
 
 use crate::accepting::accept_all;
 use crate::crew::{Tools, new_yard};
@@ -119,7 +119,7 @@ impl<L: Link + Drop> Works<'_, L> {
             return Ran::SpawnFault;
         }
         let ran = accept_all(rt, &mut outside.net, self.queue, self.connections);
-        self.close_early(rt, &mut outside.bell, ran);
+        self.tell_pump(rt, &mut outside.bell, phase_after(self.connections, ran));
         self.dismiss(rt, &mut outside.bell, started);
         ran
     }
@@ -130,14 +130,6 @@ impl<L: Link + Drop> Works<'_, L> {
         bell.ring(BellKey::PUMP);
     }
 
-    // Where not as many links came as were planned, the sessions are ended while the last links are served.
-    fn close_early<R: Wait, B: Bell>(&self, rt: &R, bell: &mut B, ran: Ran) {
-        let connections = self.connections;
-        if connections == 0 || ran != (Ran::Done { connections }) {
-            self.tell_pump(rt, bell, Phase::Closing);
-        }
-    }
-
     // No more links come: waits until so many workers have served theirs, and then until the pump has ended.
     fn dismiss<R: Wait, B: Bell>(&self, rt: &R, bell: &mut B, workers: u64) {
         self.queue.close(rt);
@@ -145,4 +137,25 @@ impl<L: Link + Drop> Works<'_, L> {
         self.tell_pump(rt, bell, Phase::Over);
         self.yard.wait_for_pump(rt);
     }
+}
+
+// What the pump is to do while the last links are served.
+fn phase_after(planned: u32, ran: Ran) -> Phase
+    ensures { result ≡ while_last_are_served planned ran }
+{
+    match ran {
+        Ran::Done { connections } => phase_after_links(planned, connections),
+        Ran::NetFault => Phase::Closing,
+        Ran::SpawnFault => Phase::Closing,
+    }
+}
+
+// The same, where so many links came.
+fn phase_after_links(planned: u32, links: u32) -> Phase
+    ensures { result ≡ while_last_are_served planned (Ran.Done links) }
+{
+    if 0 < planned && links == planned {
+        return Phase::Serving;
+    }
+    Phase::Closing
 }

@@ -4,6 +4,7 @@ ghost use Rattle.bosh_ports.specs.Faults.{HasRisen};
 ghost use Rattle.parked_gate.specs.Passes.{IsPassOf};
 
 use crate::queue::Queue;
+use crate::rings::NotingBell;
 use crate::starting::{Startup, start_all};
 use crate::yard::{Post, Yard};
 use bosh_ports::{Bell, Link};
@@ -53,17 +54,31 @@ where
         let Post { yard, purse } = post;
         let mut worker = Worker {
             purse,
-            bell,
+            bell: NotingBell::new(&rt, bell, &yard.rings),
             names,
-            trail: Trail::new(alloc),
+            trail: Trail::new(),
         };
-        for _ in rt.forever() {
-            match queue.take(&rt) {
-                Some(link) => serve(&rt, alloc, &yard, &clock, &mut worker, link),
-                None => break,
-            }
-        }
+        serve_all(&rt, alloc, &yard, &queue, &clock, &mut worker);
         yard.end_worker(&rt);
+    }
+}
+
+// Serves the links of the queue until that is closed and empty.
+fn serve_all<R: Wait, L: Link + Drop, C: Clock, B: Bell, M: Names>(
+    rt: &R,
+    alloc: Global,
+    yard: &Yard,
+    queue: &Queue<L>,
+    clock: &C,
+    worker: &mut Worker<B, M>,
+)
+    requires { IsPassOf yard.now.directory worker.old.purse.directory }
+{
+    for _ in rt.forever() {
+        match queue.take(rt) {
+            Some(link) => serve(rt, alloc, yard, clock, worker, link),
+            None => return,
+        }
     }
 }
 
@@ -88,7 +103,7 @@ fn serve<R: Wait, L: Link + Drop, C: Clock, B: Bell, M: Names>(
         limit: yard.journal_limit,
     };
     serve_connection(rt, &site, worker, &mut link);
-    worker.trail = Trail::new(alloc);
+    worker.trail = Trail::new();
     worker.purse.let_all_go();
     link.close();
 }

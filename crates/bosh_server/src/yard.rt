@@ -5,9 +5,11 @@ ghost use Rattle.std.specs.List.{list_all};
 ghost use Rattle.parked_gate.specs.Passes.{IsPassOf};
 ghost use Rattle.session_attrs.specs.Serving.{can_serve};
 
+use crate::rings::Rings;
 use bosh_types::HostNames;
 use parked_gate::Gate;
 use session_table::{Directory, Purse};
+use std::alloc::Global;
 use std::sync::{Arc, Condvar, Mutex, Wait};
 
 /// What the pump is to do.
@@ -35,6 +37,7 @@ struct Progress {
 pub(crate) struct Yard {
     pub(crate) directory: Gate<Directory>,
     pub(crate) hosts: HostNames,
+    pub(crate) rings: Rings,
     // How many counted bytes the journal of a session may have.
     pub(crate) journal_limit: u64,
     progress: Mutex<Progress>,
@@ -53,13 +56,19 @@ pub(crate) struct Post {
 }
 
 impl Yard {
-    pub(crate) fn new(directory: Gate<Directory>, hosts: HostNames, journal_limit: u64) -> Yard
+    pub(crate) fn new(
+        alloc: Global,
+        directory: Gate<Directory>,
+        hosts: HostNames,
+        journal_limit: u64,
+    ) -> Yard
         requires { IsTrue (list_all can_serve hosts) }
         ensures { result.directory ≡ directory }
     {
         Yard {
             directory,
             hosts,
+            rings: Rings::new(alloc),
             journal_limit,
             progress: Mutex::new(Progress {
                 phase: Phase::Serving,

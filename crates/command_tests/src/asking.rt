@@ -200,6 +200,7 @@ where
         inner: MemorySink::new(alloc, Vec::new(alloc)),
         begun,
     };
+    let mut input = QuietSource::new(Vec::new(alloc));
     let mut errors = MemorySink::new(alloc, Vec::new(alloc));
     let mut outside = ServerOutside {
         net: TcpNetwork::new(*rt),
@@ -214,6 +215,7 @@ where
         rt,
         alloc,
         &words,
+        &mut input,
         &mut written,
         &mut errors,
         &mut outside,

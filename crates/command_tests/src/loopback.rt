@@ -2,7 +2,7 @@
 ghost use Rattle.std.specs.Thread.{IsSync};
 
 use bosh_commands::{DONE, run_serve_command};
-use bosh_ports::{Got, Link, MemorySink, RealBell, send_all};
+use bosh_ports::{Got, Link, MemorySink, QuietSource, RealBell, send_all};
 use bosh_server::Outside;
 use bosh_types::{Moment, Rid, Stanzas, Text};
 use server_ports::{Dialled, GivenNames, Network, StillClock, TcpNetwork, ThreadSpawner};
@@ -54,6 +54,7 @@ where
     }
     let hosts = vec![in alloc; echo_host(alloc)?]?;
     let bell = RealBell::new(alloc, *rt)?;
+    let mut input = QuietSource::new(Vec::new(alloc));
     let mut written = MemorySink::new(alloc, Vec::new(alloc));
     let mut errors = MemorySink::new(alloc, Vec::new(alloc));
     let mut outside = Outside {
@@ -69,6 +70,7 @@ where
         rt,
         alloc,
         &words,
+        &mut input,
         &mut written,
         &mut errors,
         &mut outside,

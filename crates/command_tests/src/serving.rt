@@ -1,10 +1,12 @@
 // The command `serve` over a network in memory.
-use bosh_commands::{DONE, NET_FAULT, WRONG_WORDS, run_serve_command};
-use bosh_ports::{MemorySink, SteadyBell};
+use bosh_commands::{
+    DONE, NET_FAULT, READ_FAULT, WRONG_WORDS, run_serve_command, serves_until_eof,
+};
+use bosh_ports::{MemorySink, MemorySource, SteadyBell};
 use bosh_server::Outside;
 use bosh_types::{Moment, Rid};
 use server_ports::{GivenNames, LinkPlan, MemoryNetwork, StillClock, ThreadSpawner};
-use std::alloc::Global;
+use std::alloc::{AllocError, Global};
 use std::rt::Clock;
 use std::sync::Wait;
 use std::test::Fail;
@@ -21,17 +23,34 @@ struct Outcome {
     errors: MemorySink,
 }
 
-// Runs the words over a network of one link, which fails at the listed calls.
+fn words_of(alloc: Global, line: &str) -> Result<Vec<String>, AllocError> {
+    let mut words = Vec::new(alloc);
+    for word in line.split(' ') {
+        words.push(String::from_str(alloc, word)?)?;
+    }
+    Ok(words)
+}
+
+// Runs the words over a network of one link, which fails at the listed calls, and an empty input.
 fn shown<R: Wait + Threads + Copy + Send + Drop + 'static>(
     rt: &R,
     alloc: Global,
     line: &str,
     failing: &[u64],
 ) -> Result<Outcome, Fail> {
-    let mut words = Vec::new(alloc);
-    for word in line.split(' ') {
-        words.push(String::from_str(alloc, word)?)?;
-    }
+    let mut input = MemorySource::new(Vec::new(alloc), Vec::new(alloc));
+    shown_over(rt, alloc, line, failing, &mut input)
+}
+
+// The same over this input.
+fn shown_over<R: Wait + Threads + Copy + Send + Drop + 'static>(
+    rt: &R,
+    alloc: Global,
+    line: &str,
+    failing: &[u64],
+    input: &mut MemorySource,
+) -> Result<Outcome, Fail> {
+    let words = words_of(alloc, line)?;
     let plan = LinkPlan::new(alloc, LATER.to_vec(alloc)?);
     let mut written = MemorySink::new(alloc, Vec::new(alloc));
     let mut errors = MemorySink::new(alloc, Vec::new(alloc));
@@ -50,6 +69,7 @@ fn shown<R: Wait + Threads + Copy + Send + Drop + 'static>(
         rt,
         alloc,
         &words,
+        input,
         &mut written,
         &mut errors,
         &mut outside,
@@ -79,6 +99,46 @@ fn one_link_is_served(rt: HostRuntime) -> Result<(), Fail> {
     Ok(())
 }
 
+// Where the words say so the server ends with its input, and a fault of that is answered after all else.
+#[test]
+fn an_input_that_fails_is_told_at_the_end(rt: HostRuntime) -> Result<(), Fail> {
+    let alloc = rt.alloc();
+    let rows: [(&str, u64, u8); 4] = [
+        ("serve --port 47001 --until-eof", 0, DONE),
+        ("serve --port 47001 --until-eof", 1, READ_FAULT),
+        ("serve --port 47001 --until-eof", 2, READ_FAULT),
+        ("serve --port 47001", 1, DONE),
+    ];
+    for (line, failing, status) in rows {
+        let listed = vec![in alloc; failing]?;
+        let mut input = MemorySource::new(b"bytes".to_vec(alloc)?, listed);
+        let shown = shown_over(&rt, alloc, line, &[], &mut input)?;
+        assert_eq!(rt; shown.status, status, "of {line:?} and {failing}");
+        assert_eq!(rt; shown.written.as_slice(), b"serving\nserved 1\n".as_slice());
+    }
+    Ok(())
+}
+
+#[test]
+fn words_say_whether_a_server_ends_with_its_input(rt: HostRuntime) -> Result<(), Fail> {
+    let rows = [
+        ("serve --port 1 --until-eof", true),
+        ("serve --until-eof --port 1 --connections 2", true),
+        ("serve --port 1", false),
+        ("serve --until-eof", false),
+        ("client --until-eof", false),
+    ];
+    for (line, wanted) in rows {
+        let words = words_of(rt.alloc(), line)?;
+        assert_eq!(rt;
+            serves_until_eof(rt.alloc(), &words)?,
+            wanted,
+            "of {line:?}"
+        );
+    }
+    Ok(())
+}
+
 #[test]
 fn words_that_are_no_command_write_nothing(rt: HostRuntime) -> Result<(), Fail> {
     let lines = [
@@ -92,6 +152,8 @@ fn words_that_are_no_command_write_nothing(rt: HostRuntime) -> Result<(), Fail> 
         "serve --port 5280 --connections 1048577",
         "serve --port 5280 again",
         "serve --port 5280 --port 5281",
+        "serve --port 5280 --until-eof --until-eof",
+        "serve --port 5280 --until-eof=true",
         "client --port 5280",
     ];
     for line in lines {

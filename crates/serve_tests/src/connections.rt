@@ -5,7 +5,7 @@ use bosh_ports::{Bell, ListedBell, MemoryLink, MemorySink, MemorySource};
 use bosh_types::limits::JOURNAL_BYTES;
 use bosh_types::{HostName, HostNames, Moment, Rid, Stanzas, Text};
 use parked_gate::{Gate, Pass};
-use serve_loop::{ConnectionEnd, Site, Trail, TrailLine, Worker, serve_connection};
+use serve_loop::{ConnectionEnd, Site, Trail, Worker, serve_connection};
 use server_ports::{GivenNames, StillClock};
 use session_table::{Directory, Purse};
 use std::alloc::{AllocError, Global};
@@ -32,25 +32,6 @@ fn one_host(alloc: Global) -> Result<HostNames, AllocError> {
     Ok(HostNames::from_vec(hosts))
 }
 
-fn letter(line: &TrailLine) -> u8 {
-    match line {
-        TrailLine::Http(_) => b'h',
-        TrailLine::Entry { .. } => b'e',
-        TrailLine::Opened { .. } => b'o',
-        TrailLine::Unknown { .. } => b'u',
-        TrailLine::NoSession(_) => b'n',
-    }
-}
-
-/// A letter for each line.
-fn letters(alloc: Global, trail: &Trail) -> Result<Vec<u8>, AllocError> {
-    let mut letters = Vec::new(alloc);
-    for traced in trail.lines() {
-        letters.push(letter(&traced.line))?;
-    }
-    Ok(letters)
-}
-
 /// A link over these bytes, which come in pieces of these sizes, and of whose gives these fail.
 fn link_over(
     alloc: Global,
@@ -63,13 +44,6 @@ fn link_over(
     Ok(MemoryLink::new(source, sink, Vec::from_slice(alloc, sizes)?))
 }
 
-/// How a connection ended, and a letter for each line of its trail.
-#[derive(Drop)]
-struct Served {
-    end: ConnectionEnd,
-    trail: Vec<u8>,
-}
-
 /// Serves a link by a worker with this purse and this bell.
 fn serve_by<R: Wait, B: Bell + Drop>(
     rt: &R,
@@ -77,7 +51,7 @@ fn serve_by<R: Wait, B: Bell + Drop>(
     purse: Purse,
     bell: B,
     link: &mut MemoryLink,
-) -> Result<Served, &'static str>
+) -> Result<ConnectionEnd, &'static str>
     requires { IsPassOf site.now.directory.now purse.directory }
 {
     let Some(first) = Rid::new(1) else {
@@ -87,13 +61,9 @@ fn serve_by<R: Wait, B: Bell + Drop>(
         purse,
         bell,
         names: GivenNames::new(site.alloc, b"s", first),
-        trail: Trail::new(site.alloc),
+        trail: Trail::new(),
     };
-    let end = serve_connection(rt, site, &mut worker, link);
-    match letters(site.alloc, &worker.trail) {
-        Ok(trail) => Ok(Served { end, trail }),
-        Err(AllocError) => Err("no memory"),
-    }
+    Ok(serve_connection(rt, site, &mut worker, link))
 }
 
 /// Serves a link at a directory of its own.
@@ -103,7 +73,7 @@ fn serve_at<R: Wait>(
     directory: &Gate<Directory>,
     pass: Pass<Directory>,
     link: &mut MemoryLink,
-) -> Result<Served, &'static str>
+) -> Result<ConnectionEnd, &'static str>
     requires { IsPassOf directory.now pass }
 {
     let clock = StillClock {
@@ -127,25 +97,21 @@ fn serve_alone<R: Wait>(
     rt: &R,
     alloc: Global,
     link: &mut MemoryLink,
-) -> Result<Served, &'static str> {
+) -> Result<ConnectionEnd, &'static str> {
     match Gate::new(alloc, Directory::new(alloc)) {
         Ok((directory, pass)) => serve_at(rt, alloc, &directory, pass, link),
         Err(_) => Err("no memory"),
     }
 }
 
-/// Whether a link is served so: what is written, a letter for each line of the trail, and how it ends.
+/// Whether a link is served so: what is written, and how it ends.
 fn is_served<R: Wait>(
     rt: &R,
     alloc: Global,
     link: &mut MemoryLink,
     wanted: &[u8],
-    trail: &[u8],
     end: ConnectionEnd,
 ) -> Result<bool, &'static str> {
     let seen = serve_alone(rt, alloc, link)?;
-    if seen.end != end || seen.trail.as_slice() != trail {
-        return Ok(false);
-    }
-    Ok(link.as_slice() == wanted)
+    Ok(seen == end && link.as_slice() == wanted)
 }

@@ -15,7 +15,7 @@ fn is_refused<R: Wait>(
     let Ok(mut link) = link_over(alloc, bytes, &[], &[]) else {
         return Err("no memory");
     };
-    is_served(rt, alloc, &mut link, wanted, b"h", ConnectionEnd::Ended)
+    is_served(rt, alloc, &mut link, wanted, ConnectionEnd::Ended)
 }
 
 const BAD_REQUEST: &[u8] =
@@ -66,7 +66,7 @@ fn another_method_or_coding_is_refused(rt: HostRuntime) -> Result<(), Fail> {
         is_refused(
             &rt,
             rt.alloc(),
-            b"GET /http-bind HTTP/1.1\r\nHost: localhost\r\nContent-Length: 68\r\n\r\n",
+            b"PUT /http-bind HTTP/1.1\r\nHost: localhost\r\nContent-Length: 68\r\n\r\n",
             NOT_ALLOWED,
         )?
     );
@@ -79,15 +79,6 @@ const UNKNOWN: &[u8] =
 #[test]
 fn a_link_may_fail(rt: HostRuntime) -> Result<(), Fail> {
     let mut link = link_over(rt.alloc(), UNKNOWN, &[], &[1])?;
-    assert!(rt;
-        is_served(
-            &rt,
-            rt.alloc(),
-            &mut link,
-            b"",
-            b"u",
-            ConnectionEnd::WriteFault,
-        )?
-    );
+    assert!(rt; is_served(&rt, rt.alloc(), &mut link, b"", ConnectionEnd::WriteFault)?);
     Ok(())
 }

@@ -89,7 +89,8 @@ fn one_host(alloc: Global, end: Box<dyn Backend + Send>) -> Result<Vec<Host>, Al
     ]?)
 }
 
-// Serves the links of the network to their end, over a clock that stands. The spawner refuses the listed jobs.
+// Serves the links of the network to their end, over a clock that stands: so the pump looks at every session as it starts and as it
+// ends, and between only at those that were rung for. The spawner refuses the listed jobs.
 fn served<R: Wait + Threads + Clock + Copy + Send + Drop + 'static>(
     rt: &R,
     alloc: Global,

@@ -1,7 +1,7 @@
 use Rattle.std.proofs.Common.{◌≡◌, ◌≢◌, [], List, map, string_bytes, subst, true, ◌∙◌}
 use Rattle.clap.specs.Words.{App, FailsBy, HasMatchesOf, Text, app_of, fault_of, found_of, is_simple_and_free, kind_of, matches_of}
 use Rattle.clap.specs.declared.error.kind.ErrorKind.TheVariants.{OutOfMemory}
-use Rattle.bosh_commands.specs.Options.{is_shown, options_in, serve_app}
+use Rattle.bosh_commands.specs.Options.{is_shown, options_in, serve_app, serve_faults}
 use Rattle.bosh_commands.proofs.OptionLemmas.{asked_by_fault, asked_by_none, by_fault, by_rows, none_wanted, serve_is_free, serve_is_simple}
 use Rattle.bosh_commands.proofs.options.read_options.Goals as goal
 
@@ -14,6 +14,7 @@ returns-in-Ok-clause-options c =
     c.wanted_by.ensures.options ∙ by_rows (found_of c.in-Ok.matches) (fault_of serve_app words) (matches_of serve_app words) none rows.0
 
 pub returns-in-Ok-clause-shows : goal.returns-in-Ok-clause-shows
+unfolding serve_faults
 returns-in-Ok-clause-shows c =
     let words : List Text = map (λ word. string_bytes word) c.args.words.now in
     let app_is : app_of c.in_ok-command.command ≡ serve_app = c.in_ok-command.ensures in
@@ -30,6 +31,7 @@ returns-in-Err-clause-options c =
     (by_fault (fault_of serve_app words) (matches_of serve_app words) c.in-Err.error has)
 
 pub returns-in-Err-clause-shows : goal.returns-in-Err-clause-shows
+unfolding serve_faults
 returns-in-Err-clause-shows c =
     let words : List Text = map (λ word. string_bytes word) c.args.words.now in
     let app_is : app_of c.in_ok-command.command ≡ serve_app = c.in_ok-command.ensures in

@@ -1,9 +1,10 @@
 use Rattle.std.proofs.Common.{◌≡◌, ◌∙◌, [], ◌∷◌, Bool, Some, ap, ap₂, codes, false, true}
 use Rattle.std.proofs.lemmas.Result.{IfOk-weaker}
+use Rattle.clap.specs.declared.builder.action.ArgAction.TheVariants.{SetTrue}
 use Rattle.clap.specs.declared.builder.arg.Arg.{Arg}
 use Rattle.clap.specs.Simple.{app_of_fields}
 use Rattle.clap.specs.Words.{Rule, app_of, new_app, rule_of, with_rule}
-use Rattle.bosh_commands.specs.Options.{connections_rule, journal_limit_rule, port_rule, with_version, workers_rule}
+use Rattle.bosh_commands.specs.Options.{connections_rule, journal_limit_rule, port_rule, until_eof_rule, with_version, workers_rule}
 use Rattle.bosh_commands.proofs.options.serve_command.Goals as goal
 
 pub returns : goal.returns
@@ -29,6 +30,10 @@ returns c =
     ∙ ap (λ (r : Rule). record r { defaults = codes "16777216" ∷ [] }) (ap rule_of c.help-4.ensures ∙ ap rule_of c.value_name-4.ensures
     ∙ ap (λ (r : Rule). record r { value_names = 1 }) (ap rule_of c.long-4.ensures
     ∙ ap (λ (r : Rule). record r { long = Some (codes "journal-limit") }) c.new-4.ensures.rule)) in
+    let until_eof_is : rule_of c.action-until_eof.result ≡ until_eof_rule =
+    ap rule_of c.action-until_eof.ensures
+    ∙ ap (λ (r : Rule). record r { action = Some SetTrue }) (ap rule_of c.help-5.ensures ∙ ap rule_of c.long-5.ensures
+    ∙ ap (λ (r : Rule). record r { long = Some (codes "until-eof") }) c.new-5.ensures.rule) in
     let port_local : global c.required-port.result ≡ false =
     ap global c.required-port.ensures ∙ ap global c.help.ensures ∙ ap global c.value_name.ensures ∙ ap global c.long.ensures ∙ c.new.ensures.optional.1 in
     let workers_local : global c.default_value-workers.result ≡ false =
@@ -37,11 +42,15 @@ returns c =
     ap global c.default_value-connections.ensures ∙ ap global c.help-3.ensures ∙ ap global c.value_name-3.ensures ∙ ap global c.long-3.ensures ∙ c.new-3.ensures.optional.1 in
     let journal_limit_local : global c.default_value-journal_limit.result ≡ false =
     ap global c.default_value-journal_limit.ensures ∙ ap global c.help-4.ensures ∙ ap global c.value_name-4.ensures ∙ ap global c.long-4.ensures ∙ c.new-4.ensures.optional.1 in
-    let bare : app_of c.about.result ≡ new_app (codes "serve") = ap app_of_fields c.about.ensures ∙ c.new-5.ensures.app in
+    let until_eof_local : global c.action-until_eof.result ≡ false =
+    ap global c.action-until_eof.ensures ∙ ap global c.help-5.ensures ∙ ap global c.long-5.ensures ∙ c.new-5.ensures.optional.1 in
+    let bare : app_of c.about.result ≡ new_app (codes "serve") = ap app_of_fields c.about.ensures ∙ c.new-6.ensures.app in
     let told : app_of c.version.result ≡ with_version (new_app (codes "serve")) = ap app_of_fields c.version.ensures ∙ ap with_version bare in
     let one : app_of c.in_ok-arg.field-0 ≡ with_rule (with_version (new_app (codes "serve"))) port_rule = c.in_ok-arg.ensures.shape port_local ∙ ap₂ with_rule told port_is in
     let two : app_of c.in_ok-arg-2.field-0 ≡ with_rule (with_rule (with_version (new_app (codes "serve"))) port_rule) workers_rule =
     c.in_ok-arg-2.ensures.shape workers_local ∙ ap₂ with_rule one workers_is in
     let three : app_of c.in_ok-arg-3.field-0 ≡ with_rule (with_rule (with_rule (with_version (new_app (codes "serve"))) port_rule) workers_rule) connections_rule =
     c.in_ok-arg-3.ensures.shape connections_local ∙ ap₂ with_rule two connections_is in
-    IfOk-weaker c.arg-4.result _ _ (λ command adds. adds.shape journal_limit_local ∙ ap₂ with_rule three journal_limit_is) c.arg-4.ensures
+    let four : app_of c.in_ok-arg-4.field-0 ≡ with_rule (with_rule (with_rule (with_rule (with_version (new_app (codes "serve"))) port_rule) workers_rule) connections_rule) journal_limit_rule =
+    c.in_ok-arg-4.ensures.shape journal_limit_local ∙ ap₂ with_rule three journal_limit_is in
+    IfOk-weaker c.arg-5.result _ _ (λ command adds. adds.shape until_eof_local ∙ ap₂ with_rule four until_eof_is) c.arg-5.ensures

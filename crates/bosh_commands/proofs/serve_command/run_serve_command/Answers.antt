@@ -1,5 +1,8 @@
-use Rattle.bosh_commands.proofs.StatusLemmas.{of_command}
+use Rattle.bosh_commands.proofs.StatusLemmas.{of_command, of_given}
 use Rattle.bosh_commands.proofs.serve_command.run_serve_command.Goals as goal
 
 pub returns-in-Ok-Serve-clause-statuses : goal.returns-in-Ok-Serve-clause-statuses
 returns-in-Ok-Serve-clause-statuses g c = of_command _ c.serve.ensures.statuses
+
+pub returns-in-Ok-Shown-clause-statuses : goal.returns-in-Ok-Shown-clause-statuses
+returns-in-Ok-Shown-clause-statuses g c = of_given _ c.status_given.ensures.statuses

@@ -2,13 +2,20 @@ use Rattle.std.proofs.Common.{subst, refl, lit<}
 use Rattle.std.proofs.KnownBytes.{Appends-trans}
 use Rattle.server_ports.specs.Counts.{Counts}
 use Rattle.bosh_server.specs.Runs.{Accepts, IsEnough, RunsBy}
+use Rattle.bosh_commands.proofs.StatusLemmas.{of_end}
 use Rattle.bosh_commands.proofs.serve_command.serve.Goals as goal
 
+pub returns-in-Err-run_workers-clause-statuses : goal.returns-in-Err-run_workers-clause-statuses
+returns-in-Err-run_workers-clause-statuses g c = (3, lit< tt, refl)
+
+pub returns-in-Ok-Done-clause-statuses : goal.returns-in-Ok-Done-clause-statuses
+returns-in-Ok-Done-clause-statuses g c = of_end _ c.tell_end.ensures.statuses
+
 pub returns-in-Ok-NetFault-clause-statuses : goal.returns-in-Ok-NetFault-clause-statuses
-returns-in-Ok-NetFault-clause-statuses g c = (3, lit< tt, refl)
+returns-in-Ok-NetFault-clause-statuses g c = (4, lit< tt, refl)
 
 pub returns-in-Ok-SpawnFault-clause-statuses : goal.returns-in-Ok-SpawnFault-clause-statuses
-returns-in-Ok-SpawnFault-clause-statuses g c = (4, lit< tt, refl)
+returns-in-Ok-SpawnFault-clause-statuses g c = (5, lit< tt, refl)
 
 pub returns-in-Ok-Done-clause-done : goal.returns-in-Ok-Done-clause-done
 returns-in-Ok-Done-clause-done g c =
@@ -21,5 +28,19 @@ returns-in-Ok-Done-clause-done g c =
       links = n;
       accepts = subst (λ (old : Counts). Accepts old new n) same runs.0;
       enough = subst (λ (old : Counts). IsEnough planned old new n) same runs.1;
-      written = Appends-trans _ _ _ _ _ c.in-Ok.ensures.given (c.tell_served.ensures.given zero);
+      written = Appends-trans _ _ _ _ _ c.in-Ok.ensures.given (c.tell_end.ensures.given zero);
+    }
+
+pub returns-in-Ok-Done-clause-failed : goal.returns-in-Ok-Done-clause-failed
+returns-in-Ok-Done-clause-failed g c =
+    let n = c.in-Ok-Done.connections in
+    let new = g.N.Network.counts c.run_workers.new.outside.net in
+    let same = c.in-Ready.ensures.counts in
+    let planned = c.args.options.now.plan.connections in
+    let runs = subst (RunsBy planned (g.N.Network.counts c.listen.new.self) new) c.in-Ok-Done.field-0-is c.in-Ok-Done.ensures.runs in
+    λ four. record {
+      links = n;
+      accepts = subst (λ (old : Counts). Accepts old new n) same runs.0;
+      enough = subst (λ (old : Counts). IsEnough planned old new n) same runs.1;
+      written = Appends-trans _ _ _ _ _ c.in-Ok.ensures.given (c.tell_end.ensures.given_too four);
     }
