@@ -1,0 +1,9 @@
+// Tests over the public calls of `xmpp_stream`.
+#![tactic(auto)]
+
+#[cfg(test)]
+mod cutting;
+#[cfg(test)]
+mod texts;
+#[cfg(test)]
+mod wires;
