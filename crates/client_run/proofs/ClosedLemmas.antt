@@ -20,6 +20,7 @@ use Rattle.client_run.specs.declared.entry.Entry.{Entry}
 use Rattle.client_run.specs.declared.worked.Worked.{Worked}
 use Rattle.client_run.specs.declared.worked.Worked.TheVariants as worked
 use Rattle.client_run.specs.Adding.{by_call, is_entry, is_terminate}
+use Rattle.client_run.specs.Alarms.{is_raised}
 use Rattle.client_run.specs.History.{Enters, client_in}
 use Rattle.client_run.specs.Queueing.{QueuesBy}
 use Rattle.client_run.specs.Running.{IsEndOf, IsToilOf, has_closed, is_end_of, is_failed, is_refusal, is_toil_of, takes_no_more}
@@ -73,28 +74,29 @@ closed_by old new queueings.TooLong c = absurd (never_long c.says.plain (queue_n
 and_both : (a b : Bool) → a ≡ true → b ≡ true → (a && b) ≡ true
 and_both a b one two = ap (λ x. x && b) one ∙ two
 
-pub end_closed : (worked : Result Worked AllocError) (old new : Known Entry) (counts : Counts) (queued : Queued) → QueuesBy calls.Terminate old new (Ok queued) → is_failed worked ≡ true → IsToilOf worked old counts → IsEndOf worked new counts
+pub end_closed : (worked : Result Worked AllocError) (old new : Known Entry) (counts : Counts) (heard alarm : Known ℕ) (queued : Queued) → QueuesBy calls.Terminate old new (Ok queued) → is_raised alarm.seen ≡ true → is_failed worked ≡ true
+    → IsToilOf worked old counts heard → IsEndOf worked new counts alarm
 unfolding is_end_of is_toil_of
-end_closed (Ok worked.Done) old new counts queued queues failed toil = absurd (cc)
-end_closed (Ok (worked.Ended condition)) old new counts queued queues failed toil = absurd (cc)
-end_closed (Ok worked.DialFault) old new counts queued queues failed toil = and_both (nat_lt 0 counts.faults) (has_closed new) toil (closed_by old new queued queues)
-end_closed (Ok worked.ReadFault) old new counts queued queues failed toil = and_both (nat_lt 0 counts.faults) (has_closed new) toil (closed_by old new queued queues)
-end_closed (Ok worked.WriteFault) old new counts queued queues failed toil = and_both (nat_lt 0 counts.faults) (has_closed new) toil (closed_by old new queued queues)
-end_closed (Ok (worked.Refused status)) old new counts queued queues failed toil = and_both (is_refusal status counts) (has_closed new) toil (closed_by old new queued queues)
-end_closed (Ok worked.Silent) old new counts queued queues failed toil = absurd (cc)
-end_closed (Err error) old new counts queued queues failed toil = refl
+end_closed (Ok worked.Done) old new counts heard alarm queued queues raised failed toil = absurd (cc)
+end_closed (Ok (worked.Ended condition)) old new counts heard alarm queued queues raised failed toil = absurd (cc)
+end_closed (Ok worked.DialFault) old new counts heard alarm queued queues raised failed toil = and_both (nat_lt 0 counts.faults) _ toil (and_both (has_closed new) _ (closed_by old new queued queues) raised)
+end_closed (Ok worked.ReadFault) old new counts heard alarm queued queues raised failed toil = and_both (nat_lt 0 counts.faults) _ toil (and_both (has_closed new) _ (closed_by old new queued queues) raised)
+end_closed (Ok worked.WriteFault) old new counts heard alarm queued queues raised failed toil = and_both (nat_lt 0 counts.faults) _ toil (and_both (has_closed new) _ (closed_by old new queued queues) raised)
+end_closed (Ok (worked.Refused status)) old new counts heard alarm queued queues raised failed toil = and_both (is_refusal status counts) _ toil (and_both (has_closed new) _ (closed_by old new queued queues) raised)
+end_closed (Ok worked.Silent) old new counts heard alarm queued queues raised failed toil = absurd (cc)
+end_closed (Err error) old new counts heard alarm queued queues raised failed toil = raised
 
-pub end_over : (worked : Result Worked AllocError) (known : Known Entry) (counts : Counts) → is_failed worked ≡ false → IsToilOf worked known counts → IsEndOf worked known counts
+pub end_over : (worked : Result Worked AllocError) (known : Known Entry) (counts : Counts) (alarm : Known ℕ) → is_failed worked ≡ false → IsToilOf worked known counts alarm → IsEndOf worked known counts alarm
 unfolding is_end_of is_toil_of
-end_over (Ok worked.Done) known counts over toil = toil
-end_over (Ok (worked.Ended condition)) known counts over toil = toil
-end_over (Ok worked.DialFault) known counts over toil = absurd (cc)
-end_over (Ok worked.ReadFault) known counts over toil = absurd (cc)
-end_over (Ok worked.WriteFault) known counts over toil = absurd (cc)
-end_over (Ok (worked.Refused status)) known counts over toil = absurd (cc)
-end_over (Ok worked.Silent) known counts over toil = refl
-end_over (Err error) known counts over toil = absurd (cc)
+end_over (Ok worked.Done) known counts alarm over toil = toil
+end_over (Ok (worked.Ended condition)) known counts alarm over toil = toil
+end_over (Ok worked.DialFault) known counts alarm over toil = absurd (cc)
+end_over (Ok worked.ReadFault) known counts alarm over toil = absurd (cc)
+end_over (Ok worked.WriteFault) known counts alarm over toil = absurd (cc)
+end_over (Ok (worked.Refused status)) known counts alarm over toil = absurd (cc)
+end_over (Ok worked.Silent) known counts alarm over toil = toil
+end_over (Err error) known counts alarm over toil = absurd (cc)
 
-pub end_wanted : (error : AllocError) (known : Known Entry) (counts : Counts) → IsEndOf (Err error) known counts
+pub end_wanted : (error : AllocError) (known : Known Entry) (counts : Counts) (alarm : Known ℕ) → is_raised alarm.seen ≡ true → IsEndOf (Err error) known counts alarm
 unfolding is_end_of
-end_wanted error known counts = refl
+end_wanted error known counts alarm raised = raised

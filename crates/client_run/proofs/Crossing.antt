@@ -17,7 +17,9 @@ use Rattle.bosh_types.specs.contracts.shared.SharedText as SharedText
 use Rattle.parked_gate.specs.contracts.gate.Gate as Gate
 use Rattle.parked_gate.specs.contracts.pass.Pass as Pass
 use Rattle.parked_gate.specs.declared.object.Object.{Ghosts}
+use Rattle.client_run.specs.contracts.alarm.Alarm as Alarm
 use Rattle.client_run.specs.contracts.call.Call as Call
+use Rattle.client_run.specs.contracts.ear.Ear as Ear
 use Rattle.client_run.specs.contracts.ends.End as End
 use Rattle.client_run.specs.contracts.ends.Ends as Ends
 use Rattle.client_run.specs.contracts.job.Post as Post
@@ -60,15 +62,22 @@ call = search (rid, moment, crosses) depth 200 fits 100000
 pub object : IsSend ClientObject.the_row
 object = search (client, call, crosses) depth 200 fits 100000
 
--- a place at the gate
+-- an alarm behind a gate
+alarm : IsSend Alarm.the_row
+alarm = search (crosses) depth 200 fits 100000
+
+-- the places at the gates
 module _ (J : RattleType) (n : naming.Ghosts J.Denot) where
+  ear : IsSend J → IsSend (Ear.the_field J n).row
+  ear j = search (alarm, crosses) depth 200 fits 100000
+
   pub post : IsSend J → IsSend (Post.the_field J n).row
-  post j = search (object, crosses) depth 200 fits 100000
+  post j = search (object, ear, crosses) depth 200 fits 100000
 
 -- the ends of workers
 module _ (J N L : RattleType) (n : naming.Ghosts J.Denot) (k : network.Ghosts N.Denot L.Denot) (l : link.Ghosts L.Denot) where
   end_send : IsSend J → IsSend N → IsSend (End.the_row J N L n k l)
-  end_send j s = search (object, crosses) depth 200 fits 100000
+  end_send j s = search (object, ear, crosses) depth 200 fits 100000
 
   pub ends_send : IsSend J → IsSend N → IsSend (Ends.the_row J N L n k l)
   ends_send j s = search (end_send, crosses) depth 200 fits 100000

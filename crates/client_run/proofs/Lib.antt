@@ -1,4 +1,5 @@
 pub mod AddingLemmas
+pub mod AlarmLemmas
 pub mod AttendLemmas
 pub mod CarriedLemmas
 pub mod ClosedLemmas
@@ -9,6 +10,7 @@ pub mod HandingLemmas
 pub mod HistoryLemmas
 pub mod InputLemmas
 pub mod LineLemmas
+pub mod LingerLemmas
 pub mod MoveLemmas
 pub mod OrderLemmas
 pub mod RanLemmas

@@ -18,11 +18,13 @@ use Rattle.client_run.specs.declared.running.ClientRan.{ClientRan}
 use Rattle.client_run.specs.declared.running.ClientRan.TheVariants as ran
 use Rattle.client_run.specs.declared.talking.Talked.{Talked}
 use Rattle.client_run.specs.declared.talking.Talked.TheVariants as talked
+use Rattle.client_run.specs.Adding.{AddsOnly, is_hand_out}
 use Rattle.client_run.specs.Handed.{Handed, Hands, goes_on, hands_out, none}
 use Rattle.client_run.specs.Handing.{Out}
 use Rattle.client_run.specs.Input.{PutsAll, TakesNoMore, WasFull}
+use Rattle.client_run.specs.Lingering.{LingersBy, Spoke}
 use Rattle.client_run.specs.Queueing.{AsksLast, AsksToEnd, GoesFurther, QueuesBy}
-use Rattle.client_run.specs.Ran.{ConversesBy, FinishesBy, HasTalked, InOrder, IsUnhired, Scene, scene_of, well}
+use Rattle.client_run.specs.Ran.{FinishesBy, HasTalked, InOrder, IsUnhired, Scene, scene_of, well}
 use Rattle.client_run.specs.Running.{Gathers, TakesBoth}
 use Rattle.client_run.specs.Talking.{Talk, Talks}
 use Rattle.client_run.proofs.HandedLemmas.{talks_handed}
@@ -113,39 +115,42 @@ ordered_spawn input s t reads writes asks = (reads, writes, asks)
 -- The whole.
 
 module _ (input : Option (List ℕ)) (s : Scene) (mid all new : Known Entry) (reads writes last_writes : ℕ) (refusals : ℕ) (counts : Counts) (t : Result Attended AllocError) (g : Gathered)
-    (converses : ConversesBy input s.known mid s.reads reads s.writes writes t) (gathers : Gathers mid all s.counts counts g) (takes : TakesBoth all.seen s.counts counts g) (goes : GoesFurther all new) (refused : refusals ≡ s.refusals) where
+    (converses : LingersBy input s.known mid s.reads reads s.writes writes t) (gathers : Gathers mid all s.counts counts g) (takes : TakesBoth all.seen s.counts counts g) (goes : GoesFurther all new) (refused : refusals ≡ s.refusals) where
   abbrev later : Scene
   later = scene_of new counts refusals reads last_writes
 
   on : GoesFurther mid new
   on = further_both mid all new (further_seen mid all gathers.begins gathers.mine) goes
 
-  talked_by : PutsAll input s.known mid ⊎ TakesNoMore mid → PutsAll input s.known mid ⊎ TakesNoMore mid ⊎ WasFull s.known.seen mid.seen
-  talked_by (inl puts) = inl puts
-  talked_by (inr takes) = inr (inl takes)
+  talked_by : (said : Known Entry) → PutsAll input s.known said ⊎ TakesNoMore said → PutsAll input s.known said ⊎ TakesNoMore said ⊎ WasFull s.known.seen said.seen
+  talked_by said (inl puts) = inl puts
+  talked_by said (inr takes) = inr (inl takes)
 
-  well_talked : (stuck : Bool) → ConversesBy input s.known mid s.reads reads s.writes writes (Ok (well stuck)) → HasTalked input s.known new × (reads ≡ s.reads) × (writes ≡ s.writes)
-  unfolding ConversesBy
-  well_talked true so = (record { mid = mid; adds = so.0; done = inr (inr so.1); later = on }, so.2, so.3)
-  well_talked false so = (record { mid = mid; adds = so.0; done = talked_by so.1; later = on }, so.2, so.3)
+  since : (said : Known Entry) → StartsWith mid.seen said.seen → AddsOnly is_hand_out said mid → GoesFurther said new
+  since said begins handed = further_both said mid new (record { begins = begins; adds = record { added = handed.added; mine = handed.mine; holds = tt } }) on
+
+  well_talked : (stuck : Bool) → LingersBy input s.known mid s.reads reads s.writes writes (Ok (well stuck)) → HasTalked input s.known new × (reads ≡ s.reads) × (writes ≡ s.writes)
+  unfolding LingersBy
+  well_talked true so = (record { mid = so.0.mid; adds = so.0.adds; done = inr (inr so.0.holds); later = since so.0.mid so.0.begins so.0.handed }, so.1, so.2)
+  well_talked false so = (record { mid = so.0.mid; adds = so.0.adds; done = talked_by so.0.mid so.0.holds; later = since so.0.mid so.0.begins so.0.handed }, so.1, so.2)
 
   done_tells : (stuck : Bool) → t ≡ Ok (well stuck) → HasTalked input s.known new × (reads ≡ s.reads) × (writes ≡ s.writes)
-  done_tells stuck is = well_talked stuck (subst (ConversesBy input s.known mid s.reads reads s.writes writes) is converses)
+  done_tells stuck is = well_talked stuck (subst (LingersBy input s.known mid s.reads reads s.writes writes) is converses)
 
   bad_tells : (n : ℕ) → t ≡ Ok (attended.Bad n) → AsksToEnd s.known new × (reads ≡ s.reads)
-  unfolding ConversesBy
+  unfolding LingersBy
   bad_tells n is =
-      let bad = subst (ConversesBy input s.known mid s.reads reads s.writes writes) is converses in
-      (asks_later s.known mid new bad.1.asks on, bad.2)
+      let bad = subst (LingersBy input s.known mid s.reads reads s.writes writes) is converses in
+      (asks_later s.known mid new bad.1 on, bad.2)
 
   read_tells : t ≡ Ok attended.ReadFault → AsksToEnd s.known new
-  unfolding ConversesBy
-  read_tells is = asks_later s.known mid new (subst (ConversesBy input s.known mid s.reads reads s.writes writes) is converses).1.asks on
+  unfolding LingersBy
+  read_tells is = asks_later s.known mid new (subst (LingersBy input s.known mid s.reads reads s.writes writes) is converses).1 on
 
   write_tells : t ≡ Ok attended.WriteFault → new ≡ all → AsksLast s.known new × (reads ≡ s.reads)
-  unfolding ConversesBy asks_later
+  unfolding LingersBy asks_later
   write_tells is same =
-      let failed = subst (ConversesBy input s.known mid s.reads reads s.writes writes) is converses in
+      let failed = subst (LingersBy input s.known mid s.reads reads s.writes writes) is converses in
       (record { asks = asks_later s.known mid new failed.1.asks on; last = ap (λ known. known.mine) same ∙ gathers.mine ∙ failed.1.last }, failed.2)
 
   pub ordered_finished : (result : Result ClientRan AllocError) → FinishesBy t g all new writes last_writes result → InOrder input s later result

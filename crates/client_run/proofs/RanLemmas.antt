@@ -30,6 +30,7 @@ use Rattle.client_run.specs.Attending.{AttendsBy}
 use Rattle.client_run.specs.Handing.{Drains, Out, Writes, WritesLast, line, nothing}
 use Rattle.client_run.specs.History.{After}
 use Rattle.client_run.specs.Input.{IsFirstBad, PutsAll, TakesNoMore, WasFull}
+use Rattle.client_run.specs.Lingering.{LingersBy, Spoke}
 use Rattle.client_run.specs.Queueing.{AsksLast}
 use Rattle.client_run.specs.Ran.{Closes, Concludes, ConversesBy, EndsWith, FinishesBy, IsSpent, Ran, RanBy, Scene, WasEmptied, ran_by, ran_spent, scene_of, well}
 use Rattle.client_run.specs.Running.{Gathers, GatheredTells, IsOver, TakesBoth, WasOver, is_done}
@@ -205,7 +206,7 @@ unfolding RanBy
 ran_spawn input s t risen = risen
 
 module _ (input : Option (List ℕ)) (s : Scene) (mid all new : Known Entry) (reads writes last_writes : ℕ) (refusals : ℕ) (counts : Counts) (t : Result Attended AllocError) (g : Gathered)
-    (converses : ConversesBy input s.known mid s.reads reads s.writes writes t) (gathers : Gathers mid all s.counts counts g) (takes : TakesBoth all.seen s.counts counts g) (falls : s.writes ≤ writes) (last_falls : writes ≤ last_writes) where
+    (converses : LingersBy input s.known mid s.reads reads s.writes writes t) (gathers : Gathers mid all s.counts counts g) (takes : TakesBoth all.seen s.counts counts g) (falls : s.writes ≤ writes) (last_falls : writes ≤ last_writes) where
   abbrev pub later : Scene
   later = scene_of new counts refusals reads last_writes
 
@@ -216,31 +217,33 @@ module _ (input : Option (List ℕ)) (s : Scene) (mid all new : Known Entry) (re
   over_tells is = subst (GatheredTells all.seen s.counts counts) is gathers.tells
 
   bad_tells : (n : ℕ) → t ≡ Ok (attended.Bad n) → IfSome input (λ bytes. IsFirstBad (lines_of bytes) n)
-  unfolding ConversesBy
-  bad_tells n is = (subst (ConversesBy input s.known mid s.reads reads s.writes writes) is converses).0
+  unfolding LingersBy
+  bad_tells n is = (subst (LingersBy input s.known mid s.reads reads s.writes writes) is converses).0
 
   read_tells : t ≡ Ok attended.ReadFault → HasRisen s.reads reads
-  unfolding ConversesBy
-  read_tells is = (subst (ConversesBy input s.known mid s.reads reads s.writes writes) is converses).0
+  unfolding LingersBy
+  read_tells is = (subst (LingersBy input s.known mid s.reads reads s.writes writes) is converses).0
 
   write_tells : t ≡ Ok attended.WriteFault → HasRisen s.writes writes
-  unfolding ConversesBy
-  write_tells is = (subst (ConversesBy input s.known mid s.reads reads s.writes writes) is converses).0
+  unfolding LingersBy
+  write_tells is = (subst (LingersBy input s.known mid s.reads reads s.writes writes) is converses).0
 
   refused_tells : (status : ℕ) → g ≡ gathered.Refused status → (status ≢ 200) × HasRisen s.counts.dialled counts.dialled
   refused_tells status is = subst (GatheredTells all.seen s.counts counts) is gathers.tells
 
-  well_adds : (stuck : Bool) → ConversesBy input s.known mid s.reads reads s.writes writes (Ok (well stuck)) → Adds s.known mid (IsTalk input)
-  unfolding ConversesBy
-  well_adds true so = so.0
-  well_adds false so = so.0
+  well_adds : (stuck : Bool) → LingersBy input s.known mid s.reads reads s.writes writes (Ok (well stuck)) → Adds s.known mid (IsTalk input)
+  unfolding LingersBy
+  well_adds true so = adds_last input s.known so.0.mid so.0.mid mid mid so.0.adds refl so.0.handed refl
+  well_adds false so = adds_last input s.known so.0.mid so.0.mid mid mid so.0.adds refl so.0.handed refl
 
   done_tells : (stuck : Bool) → t ≡ Ok (well stuck) → Adds s.known mid (IsTalk input)
-  done_tells stuck is = well_adds stuck (subst (ConversesBy input s.known mid s.reads reads s.writes writes) is converses)
+  done_tells stuck is = well_adds stuck (subst (LingersBy input s.known mid s.reads reads s.writes writes) is converses)
 
   full_tells : (stuck : Bool) → stuck ≡ true → t ≡ Ok (well stuck) → WasFull s.known.seen mid.seen
-  unfolding ConversesBy
-  full_tells true was is = (subst (ConversesBy input s.known mid s.reads reads s.writes writes) is converses).1
+  unfolding LingersBy
+  full_tells true was is =
+      let so = (subst (LingersBy input s.known mid s.reads reads s.writes writes) is converses).0 in
+      record { log = so.holds.log; since = so.holds.since; until = starts_later so.holds.log so.mid.seen mid.seen so.holds.until so.begins; full = so.holds.full }
   full_tells false was is = absurd (cc)
 
   full_later : StartsWith new.seen mid.seen → WasFull s.known.seen mid.seen → WasFull s.known.seen new.seen

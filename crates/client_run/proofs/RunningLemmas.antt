@@ -28,9 +28,10 @@ use Rattle.client_run.specs.declared.worked.Worked.{Worked}
 use Rattle.client_run.specs.declared.worked.Worked.TheVariants as worked
 use Rattle.client_run.specs.declared.worked.Worked.TheVariants.{Refused}
 use Rattle.client_run.specs.Adding.{AddsOnly, is_entry, is_of_worker}
+use Rattle.client_run.specs.Alarms.{has_heard}
 use Rattle.client_run.specs.Calls.{call_in}
 use Rattle.client_run.specs.History.{After, client_begun, client_by, client_from, client_in}
-use Rattle.client_run.specs.Running.{BothFinished, EndTold, Finished, GatheredTells, Gathers, IsEndOf, IsOver, IsToilOf, TakesBoth, TakesOne, WasOver, finishes, gathered_of, is_end_of, is_refusal, is_over, is_toil_of, is_over_by, worse_of}
+use Rattle.client_run.specs.Running.{BothFinished, EndTold, Finished, GatheredTells, Gathers, IsEndOf, IsOver, IsToilOf, TakesBoth, TakesOne, WasOver, finishes, gathered_of, is_end_of, is_refusal, is_over, is_silent, is_toil_of, is_over_by, worse_of}
 use Rattle.client_run.specs.Worked.{IsDone, Works, has_read, is_fault}
 use Rattle.client_run.specs.Working.{Setting, Side, side_of}
 use Rattle.client_run.proofs.RiseLemmas.{moves_count, starts_later}
@@ -154,7 +155,7 @@ pub all_kept : (old new : Known Entry) → list_all (is_entry is_of_worker) old.
 all_kept old new all adds =
     ap (λ es. list_all (is_entry is_of_worker) es) adds.mine ∙ list_all-append (is_entry is_of_worker) old.mine adds.added ∙ ap (λ b. b && list_all (is_entry is_of_worker) adds.added) all ∙ adds.holds
 
-module _ (setting : Setting) (start : Side) (known : Known Entry) (events : Option (List Event)) (counts : Counts) where
+module _ (setting : Setting) (start : Side) (known : Known Entry) (events : Option (List Event)) (counts : Counts) (alarm : Known ℕ) where
   some_test : (n : ℕ) → 0 < n → nat_lt 0 n ≡ true
   some_test n some = grind (arith, nat_tests, some)
 
@@ -167,25 +168,25 @@ module _ (setting : Setting) (start : Side) (known : Known Entry) (events : Opti
   -- a worker whose own entries were requests and answers alone before
   pub end_by : (worked : Worked) → Works setting start known events counts None (Ok worked)
       → (is_fault worked ≡ true → HasRisen start.counts.faults counts.faults) → (has_read worked ≡ true → HasRisen start.counts.dialled counts.dialled)
-      → ((status : ℕ) → worked ≡ Refused status → status ≢ 200) → list_all (is_entry is_of_worker) known.mine ≡ true → IsToilOf (Ok worked) known counts
+      → ((status : ℕ) → worked ≡ Refused status → status ≢ 200) → list_all (is_entry is_of_worker) known.mine ≡ true → (is_silent worked ≡ true → has_heard alarm ≡ true) → IsToilOf (Ok worked) known counts alarm
   unfolding is_toil_of
-  end_by worked.Done works fault dialled refused mine =
+  end_by worked.Done works fault dialled refused mine heard =
       finishing (record { plain = works.ends.plain; is = works.ends.is; holds = done_over works.ends.plain works.ends.holds })
       (some_risen start.counts.dialled counts.dialled (dialled refl) (moves_count setting start (side_of known events counts None works.hand works.row) works.moves).dialled) mine
-  end_by (worked.Ended condition) works fault dialled refused mine =
+  end_by (worked.Ended condition) works fault dialled refused mine heard =
       finishing (record { plain = works.ends.plain; is = works.ends.is; holds = inl (ended_is (end_of works.ends.plain) _ works.ends.holds) })
       (some_risen start.counts.dialled counts.dialled (dialled refl) (moves_count setting start (side_of known events counts None works.hand works.row) works.moves).dialled) mine
-  end_by worked.DialFault works fault dialled refused mine = some_test counts.faults (some_risen start.counts.faults counts.faults (fault refl) (moves_count setting start (side_of known events counts None works.hand works.row) works.moves).faults)
-  end_by worked.ReadFault works fault dialled refused mine = some_test counts.faults (some_risen start.counts.faults counts.faults (fault refl) (moves_count setting start (side_of known events counts None works.hand works.row) works.moves).faults)
-  end_by worked.WriteFault works fault dialled refused mine = some_test counts.faults (some_risen start.counts.faults counts.faults (fault refl) (moves_count setting start (side_of known events counts None works.hand works.row) works.moves).faults)
-  end_by (worked.Refused status) works fault dialled refused mine =
+  end_by worked.DialFault works fault dialled refused mine heard = some_test counts.faults (some_risen start.counts.faults counts.faults (fault refl) (moves_count setting start (side_of known events counts None works.hand works.row) works.moves).faults)
+  end_by worked.ReadFault works fault dialled refused mine heard = some_test counts.faults (some_risen start.counts.faults counts.faults (fault refl) (moves_count setting start (side_of known events counts None works.hand works.row) works.moves).faults)
+  end_by worked.WriteFault works fault dialled refused mine heard = some_test counts.faults (some_risen start.counts.faults counts.faults (fault refl) (moves_count setting start (side_of known events counts None works.hand works.row) works.moves).faults)
+  end_by (worked.Refused status) works fault dialled refused mine heard =
       and_both (not (status == 200)) (nat_lt 0 counts.dialled) (other_test status (refused status refl))
       (some_test counts.dialled (some_risen start.counts.dialled counts.dialled (dialled refl) (moves_count setting start (side_of known events counts None works.hand works.row) works.moves).dialled))
-  end_by worked.Silent works fault dialled refused mine = refl
+  end_by worked.Silent works fault dialled refused mine heard = heard refl
 
-pub end_wanting : (error : AllocError) (known : Known Entry) (counts : Counts) → IsToilOf (Err error) known counts
+pub end_wanting : (error : AllocError) (known : Known Entry) (counts : Counts) (alarm : Known ℕ) → IsToilOf (Err error) known counts alarm
 unfolding is_toil_of
-end_wanting error known counts = refl
+end_wanting error known counts alarm = refl
 
 -- Ends that are taken.
 
@@ -196,7 +197,7 @@ falls_added : (old theirs : ℕ) → old ≤ added old theirs
 falls_added old theirs = omega arith
 
 module _ (old new other : Known Entry) (counts later theirs : Counts) (begins : StartsWith new.seen old.seen) (others : StartsWith new.seen other.seen) (mine : new.mine ≡ old.mine)
-    (faults : RisesWith counts.faults later.faults theirs.faults) (back : later ≡ record counts { faults = later.faults; dialled = added counts.dialled theirs.dialled }) where
+    (faults : RisesWith counts.faults later.faults theirs.faults) (back : later ≡ record counts { faults = later.faults; dialled = added counts.dialled theirs.dialled }) (alarm : Known ℕ) where
   dialled_is : later.dialled ≡ added counts.dialled theirs.dialled
   dialled_is = ap (λ c. c.dialled) back
 
@@ -210,7 +211,7 @@ module _ (old new other : Known Entry) (counts later theirs : Counts) (begins : 
         subst (HasRisen counts.dialled) (sym dialled_is) (risen_added counts.dialled theirs.dialled (ltb-true 0 theirs.dialled (from_and (nat_lt 0 theirs.dialled) _ parts.1).0)),
       )
 
-  tells_by : (worked : Result Worked AllocError) → IsEndOf worked other theirs → GatheredTells new.seen counts later (gathered_of worked)
+  tells_by : (worked : Result Worked AllocError) → IsEndOf worked other theirs alarm → GatheredTells new.seen counts later (gathered_of worked)
   unfolding is_end_of
   tells_by (Ok worked.Done) end = finished_tells end
   tells_by (Ok (worked.Ended condition)) end = finished_tells end
@@ -223,7 +224,7 @@ module _ (old new other : Known Entry) (counts later theirs : Counts) (begins : 
   tells_by (Ok worked.Silent) end = tt
   tells_by (Err error) end = tt
 
-  pub gathered_by : (worked : Result Worked AllocError) (result : Gathered) → result ≡ gathered_of worked → IsEndOf worked other theirs → Gathers old new counts later result
+  pub gathered_by : (worked : Result Worked AllocError) (result : Gathered) → result ≡ gathered_of worked → IsEndOf worked other theirs alarm → Gathers old new counts later result
   gathered_by worked result is end = record {
     begins = begins;
     mine = mine;
@@ -232,8 +233,8 @@ module _ (old new other : Known Entry) (counts later theirs : Counts) (begins : 
     tells = subst (GatheredTells new.seen counts later) (sym is) (tells_by worked end);
   }
 
-  pub taken_by : (worked : Result Worked AllocError) (result : Gathered) → result ≡ gathered_of worked → IsEndOf worked other theirs → TakesOne new.seen counts later result
-  taken_by worked result is end = record { end = record { worked = worked; known = other; share = theirs; begins = others; tells = end; is = is }; dialled = dialled_is }
+  pub taken_by : (worked : Result Worked AllocError) (result : Gathered) → result ≡ gathered_of worked → IsEndOf worked other theirs alarm → TakesOne new.seen counts later result
+  taken_by worked result is end = record { end = record { worked = worked; known = other; share = theirs; alarm = alarm; begins = others; tells = end; is = is }; dialled = dialled_is }
 
 -- both tell
 both_tell : (seen last : List Entry) (a b c : Counts) (first second : Gathered) → StartsWith last seen → a.faults ≤ b.faults → b.faults ≤ c.faults → a.dialled ≤ b.dialled → b.dialled ≤ c.dialled
@@ -262,7 +263,7 @@ gathered_both old mid new a b c first second result one two is = record {
 }
 
 told_later : (seen last : List Entry) (result : Gathered) → StartsWith last seen → EndTold seen result → EndTold last result
-told_later seen last result later told = record { worked = told.worked; known = told.known; share = told.share; begins = starts_later told.known.seen seen last told.begins later; tells = told.tells; is = told.is }
+told_later seen last result later told = record { worked = told.worked; known = told.known; share = told.share; alarm = told.alarm; begins = starts_later told.known.seen seen last told.begins later; tells = told.tells; is = told.is }
 
 pub taken_both : (seen last : List Entry) (a b c : Counts) (first second result : Gathered) → StartsWith last seen → TakesOne seen a b first → TakesOne last b c second → result ≡ worse_of first second → TakesBoth last a c result
 unfolding told_later
@@ -307,19 +308,19 @@ finished_as seen known share begins is =
       refl,
     )
 
-finished_by : (seen : List Entry) (worked : Result Worked AllocError) (known : Known Entry) (share : Counts) → StartsWith seen known.seen → IsEndOf worked known share → gathered.Over ≡ gathered_of worked → (f : Finished seen) × (f.share ≡ share)
+finished_by : (seen : List Entry) (worked : Result Worked AllocError) (known : Known Entry) (share : Counts) (alarm : Known ℕ) → StartsWith seen known.seen → IsEndOf worked known share alarm → gathered.Over ≡ gathered_of worked → (f : Finished seen) × (f.share ≡ share)
 unfolding is_end_of
-finished_by seen (Ok worked.Done) known share begins tells is = finished_as seen known share begins tells
-finished_by seen (Ok (worked.Ended condition)) known share begins tells is = finished_as seen known share begins tells
-finished_by seen (Ok worked.DialFault) known share begins tells is = absurd (cc)
-finished_by seen (Ok worked.ReadFault) known share begins tells is = absurd (cc)
-finished_by seen (Ok worked.WriteFault) known share begins tells is = absurd (cc)
-finished_by seen (Ok (worked.Refused status)) known share begins tells is = absurd (cc)
-finished_by seen (Ok worked.Silent) known share begins tells is = absurd (cc)
-finished_by seen (Err error) known share begins tells is = absurd (cc)
+finished_by seen (Ok worked.Done) known share alarm begins tells is = finished_as seen known share begins tells
+finished_by seen (Ok (worked.Ended condition)) known share alarm begins tells is = finished_as seen known share begins tells
+finished_by seen (Ok worked.DialFault) known share alarm begins tells is = absurd (cc)
+finished_by seen (Ok worked.ReadFault) known share alarm begins tells is = absurd (cc)
+finished_by seen (Ok worked.WriteFault) known share alarm begins tells is = absurd (cc)
+finished_by seen (Ok (worked.Refused status)) known share alarm begins tells is = absurd (cc)
+finished_by seen (Ok worked.Silent) known share alarm begins tells is = absurd (cc)
+finished_by seen (Err error) known share alarm begins tells is = absurd (cc)
 
 finished_told : (seen : List Entry) (result : Gathered) → result ≡ gathered.Over → (told : EndTold seen result) → (f : Finished seen) × (f.share ≡ told.share)
-finished_told seen result is told = finished_by seen told.worked told.known told.share told.begins told.tells (sym is ∙ told.is)
+finished_told seen result is told = finished_by seen told.worked told.known told.share told.alarm told.begins told.tells (sym is ∙ told.is)
 
 pub both_finished : (seen : List Entry) (old new : Counts) (result : Gathered) → result ≡ gathered.Over → TakesBoth seen old new result → BothFinished seen old new
 both_finished seen old new result is both =

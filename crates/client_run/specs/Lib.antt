@@ -1,4 +1,5 @@
 pub mod Adding
+pub mod Alarms
 pub mod Asking
 pub mod Attending
 pub mod Calls
@@ -8,6 +9,7 @@ pub mod Handing
 pub mod History
 pub mod Input
 pub mod Lines
+pub mod Lingering
 pub mod Queueing
 pub mod Ran
 pub mod Running

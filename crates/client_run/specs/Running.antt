@@ -17,6 +17,7 @@ use Rattle.client_run.specs.declared.attending.Attended.TheVariants as attended
 use Rattle.client_run.specs.declared.worked.Worked.{Worked}
 use Rattle.client_run.specs.declared.worked.Worked.TheVariants as worked
 use Rattle.client_run.specs.Adding.{is_entry, is_of_worker, is_terminate}
+use Rattle.client_run.specs.Alarms.{has_heard, is_raised}
 use Rattle.client_run.specs.History.{After, client_in}
 
 -- no more comes of a client: it ended, or no request id is left
@@ -47,33 +48,34 @@ has_closed known = list_any (is_entry is_terminate) known.mine || takes_no_more 
 abbrev pub is_refusal : ℕ → Counts → Bool
 is_refusal status counts = not (status == 200) && nat_lt 0 counts.dialled
 
--- what a worker tells of its pass and its share where it leaves its work: this, or that the share failed
-unfoldable pub is_toil_of : Result Worked AllocError → Known Entry → Counts → Bool
-is_toil_of (Ok worked.Done) known counts = finishes known counts
-is_toil_of (Ok (worked.Ended condition)) known counts = finishes known counts
-is_toil_of (Ok worked.DialFault) known counts = nat_lt 0 counts.faults
-is_toil_of (Ok worked.ReadFault) known counts = nat_lt 0 counts.faults
-is_toil_of (Ok worked.WriteFault) known counts = nat_lt 0 counts.faults
-is_toil_of (Ok (worked.Refused status)) known counts = is_refusal status counts
-is_toil_of (Ok worked.Silent) known counts = true
-is_toil_of (Err error) known counts = true
+-- What a worker tells of its pass, its share and its place at the alarm where it leaves its work: this, or that the share failed. It
+-- leaves silent only where it has heard the alarm, which it did not raise
+unfoldable pub is_toil_of : Result Worked AllocError → Known Entry → Counts → Known ℕ → Bool
+is_toil_of (Ok worked.Done) known counts alarm = finishes known counts
+is_toil_of (Ok (worked.Ended condition)) known counts alarm = finishes known counts
+is_toil_of (Ok worked.DialFault) known counts alarm = nat_lt 0 counts.faults
+is_toil_of (Ok worked.ReadFault) known counts alarm = nat_lt 0 counts.faults
+is_toil_of (Ok worked.WriteFault) known counts alarm = nat_lt 0 counts.faults
+is_toil_of (Ok (worked.Refused status)) known counts alarm = is_refusal status counts
+is_toil_of (Ok worked.Silent) known counts alarm = has_heard alarm
+is_toil_of (Err error) known counts alarm = true
 
-abbrev pub IsToilOf : Result Worked AllocError → Known Entry → Counts → Type 0
-IsToilOf worked known counts = IsTrue (is_toil_of worked known counts)
+abbrev pub IsToilOf : Result Worked AllocError → Known Entry → Counts → Known ℕ → Type 0
+IsToilOf worked known counts alarm = IsTrue (is_toil_of worked known counts alarm)
 
--- what its end tells: the same, and that a terminate was queued where the share failed
-unfoldable pub is_end_of : Result Worked AllocError → Known Entry → Counts → Bool
-is_end_of (Ok worked.Done) known counts = finishes known counts
-is_end_of (Ok (worked.Ended condition)) known counts = finishes known counts
-is_end_of (Ok worked.DialFault) known counts = nat_lt 0 counts.faults && has_closed known
-is_end_of (Ok worked.ReadFault) known counts = nat_lt 0 counts.faults && has_closed known
-is_end_of (Ok worked.WriteFault) known counts = nat_lt 0 counts.faults && has_closed known
-is_end_of (Ok (worked.Refused status)) known counts = is_refusal status counts && has_closed known
-is_end_of (Ok worked.Silent) known counts = true
-is_end_of (Err error) known counts = true
+-- what its end tells: the same; and where it failed the alarm was raised, and where the share did a terminate was queued
+unfoldable pub is_end_of : Result Worked AllocError → Known Entry → Counts → Known ℕ → Bool
+is_end_of (Ok worked.Done) known counts alarm = finishes known counts
+is_end_of (Ok (worked.Ended condition)) known counts alarm = finishes known counts
+is_end_of (Ok worked.DialFault) known counts alarm = nat_lt 0 counts.faults && (has_closed known && is_raised alarm.seen)
+is_end_of (Ok worked.ReadFault) known counts alarm = nat_lt 0 counts.faults && (has_closed known && is_raised alarm.seen)
+is_end_of (Ok worked.WriteFault) known counts alarm = nat_lt 0 counts.faults && (has_closed known && is_raised alarm.seen)
+is_end_of (Ok (worked.Refused status)) known counts alarm = is_refusal status counts && (has_closed known && is_raised alarm.seen)
+is_end_of (Ok worked.Silent) known counts alarm = has_heard alarm
+is_end_of (Err error) known counts alarm = is_raised alarm.seen
 
-abbrev pub IsEndOf : Result Worked AllocError → Known Entry → Counts → Type 0
-IsEndOf worked known counts = IsTrue (is_end_of worked known counts)
+abbrev pub IsEndOf : Result Worked AllocError → Known Entry → Counts → Known ℕ → Type 0
+IsEndOf worked known counts alarm = IsTrue (is_end_of worked known counts alarm)
 
 abbrev pub is_done : Attended → Bool
 is_done attended.Done = true
@@ -107,7 +109,7 @@ pub record WasOver (seen : List Entry) : Type 0 where
   pub begins : StartsWith seen log
   pub over : After log IsOver
 
--- a worker that left since the other one had failed tells nothing of its own, as one that had no memory
+-- a worker that left since it had heard the alarm tells nothing of its own, as one that had no memory
 abbrev pub gathered_of : Result Worked AllocError → Gathered
 gathered_of (Ok worked.Done) = gathered.Over
 gathered_of (Ok (worked.Ended condition)) = gathered.Over
@@ -131,13 +133,15 @@ worse_of gathered.NoMemory (gathered.Refused status) = gathered.Refused status
 worse_of gathered.NoMemory gathered.Over = gathered.NoMemory
 worse_of gathered.NoMemory gathered.NoMemory = gathered.NoMemory
 
--- the end of a worker that was taken: what it came to tells this of its pass and its share, and what its pass saw is seen
+-- the end of a worker that was taken: what it came to tells this of its pass, its share and its place at the alarm, and what its pass
+-- saw is seen
 pub record EndTold (seen : List Entry) (result : Gathered) : Type 0 where
   pub worked : Result Worked AllocError
   pub known : Known Entry
   pub share : Counts
+  pub alarm : Known ℕ
   pub begins : StartsWith seen known.seen
-  pub tells : IsEndOf worked known share
+  pub tells : IsEndOf worked known share alarm
   pub is : result ≡ gathered_of worked
 
 -- one end was taken, and what its share dialled is counted

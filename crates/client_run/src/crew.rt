@@ -4,6 +4,7 @@ ghost use Rattle.std.specs.Arc.{arc_value};
 ghost use Rattle.bosh_ports.specs.Faults.{HasRisen};
 ghost use Rattle.parked_gate.specs.Passes.{IsPassOf, gate_of, known};
 
+use crate::ear::Ear;
 use crate::ends::{Ends, Naming};
 use crate::job::{Post, WorkerJob};
 use crate::object::ClientObject;
@@ -32,10 +33,11 @@ where
     pub(crate) ends: &'c Arc<Ends<J, N>>,
 }
 
-/// A worker with a pass and a share of its own: none where the network gives no share. The only error is want of memory, which
+/// A worker with places and a share of its own: none where the network gives no share. The only error is want of memory, which
 /// comes before a share is asked for.
 fn hire<J, R, N, C, B>(
     crew: &Crew<'_, J, R, N, C>,
+    ear: &mut Ear<J>,
     pass: &mut Pass<ClientObject>,
     net: &mut N,
     bell: &mut B,
@@ -56,6 +58,7 @@ where
     let gate = Arc::try_clone(crew.gate)?;
     let ends = Arc::try_clone(crew.ends)?;
     let bell = bell.share()?;
+    let ear = ear.split(crew.rt)?;
     let share = match net.share() {
         Shared::Net(share) => share,
         Shared::Failed => return Ok(None),
@@ -64,6 +67,7 @@ where
     let post = Post {
         gate,
         pass: own,
+        ear,
         of: PhantomData,
     };
     Ok(Some(WorkerJob {
@@ -95,6 +99,7 @@ where
 /// Both workers: none where the network gives no share for one. The only error is want of memory.
 pub(crate) fn hire_both<J, R, N, C, B>(
     crew: &Crew<'_, J, R, N, C>,
+    ear: &mut Ear<J>,
     pass: &mut Pass<ClientObject>,
     net: &mut N,
     bell: &mut B,
@@ -112,11 +117,11 @@ where
     ensures hired { IfOk result (λ both. IfSome both (λ _. N.counts net.new ≡ N.counts net.old)) }
     ensures failed { IfOk result (λ both. IfNone both (HasRisen (N.counts net.old).faults (N.counts net.new).faults)) }
 {
-    let first = match hire(crew, pass, net, bell)? {
+    let first = match hire(crew, ear, pass, net, bell)? {
         Some(first) => first,
         None => return Ok(None),
     };
-    match hire(crew, pass, net, bell)? {
+    match hire(crew, ear, pass, net, bell)? {
         Some(second) => Ok(Some(Both { first, second })),
         None => Ok(None),
     }

@@ -3,6 +3,7 @@ ghost use Rattle.std.specs.Prelude.{◌≡◌, []};
 ghost use Rattle.parked_gate.specs.Passes.{home_of, known};
 ghost use Rattle.client_run.specs.Running.{IsEndOf};
 
+use crate::ear::Ear;
 use crate::object::ClientObject;
 use crate::worked::Worked;
 use parked_gate::Pass;
@@ -11,28 +12,33 @@ use std::alloc::{AllocError, Global};
 use std::marker::{Brand, PhantomData};
 use std::sync::{Condvar, Mutex, Wait};
 
-/// Which gate it is. What comes back from another thread carries this as a name.
+/// Which gate it is, and which that of the alarm. What comes back from another thread carries these as its name.
 pub(crate) trait Naming {
     ghost use Rattle.parked_gate.specs.Passes.{GateId};
 
     ghost gate: { GateId };
+
+    ghost alarm: { GateId };
 }
 
 impl Naming for Brand {
     ghost use Rattle.std.specs.Prelude.{[]};
 
     ghost gate = { record { words = 0; slots = 0; views_name = 0; atom = 0; block = 0; offset = 0; slot_names = [] } };
+
+    ghost alarm = { record { words = 0; slots = 0; views_name = 0; atom = 0; block = 0; offset = 0; slot_names = [] } };
 }
 
-/// How a worker ended, with its pass of the gate and its share of the network.
+/// How a worker ended, with its pass of the gate, its share of the network and its place at the alarm.
 #[derive(Drop)]
 pub(crate) struct End<J: Naming, N: Network + Drop> {
     pub(crate) worked: Result<Worked, AllocError>,
     pub(crate) pass: Pass<ClientObject>,
     pub(crate) share: N,
+    pub(crate) ear: Ear<J>,
     pub(crate) of: PhantomData<J>,
     pub(crate) ghost home: { home_of pass ≡ J.gate },
-    pub(crate) ghost tells: { IsEndOf worked (known pass) (N.counts share) },
+    pub(crate) ghost tells: { IsEndOf worked (known pass) (N.counts share) (known ear.pass) },
 }
 
 /// The ends of workers, with room for all of them from the start.
@@ -40,7 +46,6 @@ pub(crate) struct End<J: Naming, N: Network + Drop> {
 pub(crate) struct Ends<J: Naming, N: Network + Drop> {
     list: Mutex<Vec<End<J, N>>>,
     came: Condvar,
-    has_failed: Mutex<bool>,
 }
 
 impl<J: Naming, N: Network + Drop> Ends<J, N> {
@@ -49,17 +54,7 @@ impl<J: Naming, N: Network + Drop> Ends<J, N> {
         Ok(Ends {
             list: Mutex::new(list),
             came: Condvar::new(),
-            has_failed: Mutex::new(false),
         })
-    }
-
-    /// A worker has failed.
-    pub(crate) fn fail<R: Wait>(&self, rt: &R) {
-        *self.has_failed.lock(rt) = true;
-    }
-
-    pub(crate) fn has_failed<R: Wait>(&self, rt: &R) -> bool {
-        *self.has_failed.lock(rt)
     }
 
     /// Puts an end behind the others. It takes no memory.
@@ -74,6 +69,11 @@ impl<J: Naming, N: Network + Drop> Ends<J, N> {
     /// Whether an end stands here.
     pub(crate) fn has_one<R: Wait>(&self, rt: &R) -> bool {
         !self.list.lock(rt).is_empty()
+    }
+
+    /// Whether two ends stand here.
+    pub(crate) fn has_both<R: Wait>(&self, rt: &R) -> bool {
+        self.list.lock(rt).len() >= 2
     }
 
     /// Takes an end, once there is one.

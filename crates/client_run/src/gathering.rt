@@ -42,6 +42,7 @@ pub(crate) fn gather_one<J: Naming, R: Wait, N: Network + Drop>(
         worked,
         pass: other,
         share,
+        ear: _,
         of: _,
     } = ends.take(rt);
     gate.join(pass, other);

@@ -6,6 +6,7 @@ ghost use Rattle.client_run.specs.Queueing.{AsksToEnd};
 ghost use Rattle.client_run.specs.Running.{IsEndOf, IsToilOf, is_failed, is_silent};
 ghost use Rattle.server_ports.specs.Counts.{Counts};
 
+use crate::ear::Ear;
 use crate::ends::{End, Ends, Naming};
 use crate::object::ClientObject;
 use crate::queueing::terminate;
@@ -23,15 +24,17 @@ use std::sync::{Arc, Wait};
 /// The key of the ring by which a worker tells that it has ended, so that nothing more is taken or will be sent.
 pub const OVER: BellKey = BellKey(1);
 
-/// A place of its own at the gate of a client.
+/// Places of its own at the gate of a client and at the alarm of the crew.
 #[derive(Drop)]
 pub(crate) struct Post<J: Naming> {
     pub(crate) gate: Arc<Gate<ClientObject>>,
     pub(crate) pass: Pass<ClientObject>,
+    pub(crate) ear: Ear<J>,
     pub(crate) of: PhantomData<J>,
     pub(crate) ghost here: { gate_of (arc_value gate) ≡ J.gate },
     pub(crate) ghost fits: { IsPassOf (arc_value gate) pass },
     pub(crate) ghost fresh: { (known pass).mine ≡ [] },
+    pub(crate) ghost unraised: { (known ear.pass).mine ≡ [] },
 }
 
 /// Works for a client over a share of the network.
@@ -74,13 +77,18 @@ where
             bell,
             ends,
         } = self;
-        let Post { gate, pass, of } = post;
+        let Post {
+            gate,
+            pass,
+            ear,
+            of,
+        } = post;
         let mut pass = pass;
         let mut share = share;
         let mut watch = Watch {
             rt,
             bell,
-            ends,
+            ear,
             silences: 0,
         };
         let site = Site {
@@ -90,28 +98,37 @@ where
             port,
         };
         let worked = toil(&rt, &site, &mut pass, &mut share, &mut watch);
-        let worked = close_failed(&rt, &gate, &mut pass, &mut watch, worked);
-        watch.ends.put(
+        let Watch {
+            rt,
+            bell,
+            ear,
+            silences: _,
+        } = watch;
+        let mut bell = bell;
+        let mut ear = ear;
+        let worked = close_failed(&rt, &gate, &mut pass, &mut bell, &mut ear, worked);
+        ends.put(
             &rt,
             End {
                 worked,
                 pass,
                 share,
+                ear,
                 of,
             },
         );
-        watch.ring(BellKey::PUMP);
-        watch.ring(OVER);
+        bell.ring(BellKey::PUMP);
+        bell.ring(OVER);
     }
 }
 
-// Works until the worker ends by something else than a silent bell, or the other one failed. The only error is want of memory.
+// Works until the worker ends by something else than a silent bell, or has heard the alarm. The only error is want of memory.
 fn toil<J, R, N, C, B>(
     rt: &R,
     site: &Site<'_, C>,
     pass: &mut Pass<ClientObject>,
     share: &mut N,
-    watch: &mut Watch<J, R, N, B>,
+    watch: &mut Watch<J, R, B>,
 ) -> Result<Worked, AllocError>
 where
     J: Naming,
@@ -123,7 +140,7 @@ where
     requires pass { IsPassOf site.now.gate.now pass.old }
     requires fresh { (known pass.old).mine ≡ [] }
     ensures pass { IsPassOf site.now.gate.now pass.new }
-    ensures tells { IsToilOf result (known pass.new) (N.counts share.new) }
+    ensures tells { IsToilOf result (known pass.new) (N.counts share.new) (known watch.new.ear.pass) }
 {
     for _ in rt.forever() {
         let worked = match work(rt, site, pass, share, watch) {
@@ -133,7 +150,7 @@ where
         if !is_silent(&worked) {
             return Ok(worked);
         }
-        if watch.ends.has_failed(rt) {
+        if watch.ear.hears(rt) {
             return Ok(worked);
         }
     }
@@ -172,43 +189,40 @@ pub(crate) fn is_failed(worked: &Result<Worked, AllocError>) -> bool
 
 // Where a worker failed, the other one is to end the session, or to end where it can't: what it came to, or want of memory where no
 // terminate could be queued.
-fn close_failed<J, R, N, B>(
-    rt: &R,
-    gate: &Gate<ClientObject>,
-    pass: &mut Pass<ClientObject>,
-    watch: &mut Watch<J, R, N, B>,
-    worked: Result<Worked, AllocError>,
-) -> Result<Worked, AllocError>
-where
-    J: Naming,
-    R: Wait + Copy + Drop,
-    N: Network + Drop,
-    B: Bell + Drop,
-    requires { IsPassOf gate.now pass.old }
-    ensures pass { IsPassOf gate.now pass.new }
-    ensures tells { (counts : Counts) → IsToilOf worked (known pass.old) counts → IsEndOf result (known pass.new) counts }
-    ensures asks { is_failed worked ≡ true → AsksToEnd (known pass.old) (known pass.new) }
-{
-    if is_failed(&worked) {
-        watch.ends.fail(rt);
-        return close(rt, gate, pass, watch, worked);
-    }
-    worked
-}
-
-// The session is to end.
-fn close<R: Wait, B: Bell>(
+fn close_failed<J: Naming, R: Wait, B: Bell>(
     rt: &R,
     gate: &Gate<ClientObject>,
     pass: &mut Pass<ClientObject>,
     bell: &mut B,
+    ear: &mut Ear<J>,
     worked: Result<Worked, AllocError>,
 ) -> Result<Worked, AllocError>
     requires { IsPassOf gate.now pass.old }
     ensures pass { IsPassOf gate.now pass.new }
-    ensures tells { (counts : Counts) → is_failed worked ≡ true → IsToilOf worked (known pass.old) counts → IsEndOf result (known pass.new) counts }
+    ensures tells { (counts : Counts) → IsToilOf worked (known pass.old) counts (known ear.old.pass) → IsEndOf result (known pass.new) counts (known ear.new.pass) }
+    ensures asks { is_failed worked ≡ true → AsksToEnd (known pass.old) (known pass.new) }
+{
+    if is_failed(&worked) {
+        return close(rt, gate, pass, bell, ear, worked);
+    }
+    worked
+}
+
+// The alarm is raised, and the session is to end.
+fn close<J: Naming, R: Wait, B: Bell>(
+    rt: &R,
+    gate: &Gate<ClientObject>,
+    pass: &mut Pass<ClientObject>,
+    bell: &mut B,
+    ear: &mut Ear<J>,
+    worked: Result<Worked, AllocError>,
+) -> Result<Worked, AllocError>
+    requires { IsPassOf gate.now pass.old }
+    ensures pass { IsPassOf gate.now pass.new }
+    ensures tells { (counts : Counts) → is_failed worked ≡ true → IsToilOf worked (known pass.old) counts (known ear.old.pass) → IsEndOf result (known pass.new) counts (known ear.new.pass) }
     ensures asks { AsksToEnd (known pass.old) (known pass.new) }
 {
+    ear.raise(rt);
     match terminate(rt, gate, pass, bell) {
         Ok(_) => worked,
         Err(AllocError) => Err(AllocError),

@@ -2,18 +2,21 @@
 // thread gives it lines and writes what it hands out.
 #![tactic(auto)]
 
+mod alarm;
 mod asking;
 mod attending;
 mod call;
 mod carrying;
 mod crew;
 mod draining;
+mod ear;
 mod ends;
 mod entry;
 mod fault;
 mod gathering;
 mod job;
 mod line;
+mod lingering;
 mod object;
 mod queueing;
 mod ready;

@@ -5,6 +5,7 @@ ghost use Rattle.parked_gate.specs.Passes.{IsPassOf, gate_of, known};
 ghost use Rattle.client_run.specs.Attending.{is_attend_whole};
 ghost use Rattle.client_run.specs.Handed.{GoesOn, Handed, is_whole};
 ghost use Rattle.client_run.specs.Handing.{Out, out_of};
+ghost use Rattle.client_run.specs.Lingering.{is_linger_whole};
 ghost use Rattle.client_run.specs.Queueing.{AsksToEnd};
 ghost use Rattle.client_run.specs.Ran.{Concludes, ConversesBy, FinishesBy, InOrder, RanBy, ran_by, ran_spent, scene_of, well};
 ghost use Rattle.client_run.specs.Running.{is_done};
@@ -13,8 +14,10 @@ use crate::asking::look;
 use crate::attending::{Attended, attend};
 use crate::crew::{Both, Crew, hire_both, start_both};
 use crate::draining::{Written, drain};
+use crate::ear::{Ear, Siren};
 use crate::ends::{Ends, Naming};
 use crate::gathering::{Gathered, gather_one, gather_two};
+use crate::lingering::linger;
 use crate::object::ClientObject;
 use crate::queueing::terminate;
 use crate::ready::Ready;
@@ -41,7 +44,7 @@ pub enum ClientRan {
     Bad { line: u64 },
     /// The source failed.
     ReadFault,
-    /// The sink failed while talking, or at what was handed out last where no worker ended by a fault.
+    /// The sink failed while talking, or before both workers had ended; or at what was handed out last, where no worker ended by a fault.
     WriteFault,
     /// A line found the queue full, and no request id is left, so that nobody empties it.
     Stuck,
@@ -70,7 +73,7 @@ pub struct Outside<N, C, B, P> {
 
 /// Runs a client over an input: two workers send what it has to send, and take its answers, while this thread puts the lines of
 /// the input and writes what is handed out, as soon as either comes. Whatever wakes the source rings the bell for the pump too.
-/// Before the answer both workers ended, and what was handed out last is written. A worker that ends rings the bell with the key
+/// Before the answer both workers ended, and what was handed out meanwhile and last is written. A worker that ends rings the bell with the key
 /// `OVER`. Where anything fails, a terminate is queued. The only error is want of memory. The jobs wait for this thread, so the
 /// spawner has to give threads.
 pub fn run_client<R, S, K, N, C, B, P>(
@@ -106,10 +109,14 @@ where
     ensures written { Handed (is_whole result) (out_of (known pass.old) (K.given sink.old)) (out_of (known pass.new) (K.given sink.new)) (K.faults sink.old) (K.faults sink.new) }
     ensures sink_faults { K.faults sink.old ≤ K.faults sink.new }
 {
-    run_named::<Brand, R, S, K, N, C, B, P>(rt, place, pass, source, sink, outside)
+    let siren = match Siren::new(place.alloc) {
+        Ok(siren) => siren,
+        Err(AllocError) => return Err(AllocError),
+    };
+    run_named::<Brand, R, S, K, N, C, B, P>(rt, place, pass, source, sink, outside, siren)
 }
 
-// The same at a gate with a name.
+// The same at gates with a name.
 fn run_named<J, R, S, K, N, C, B, P>(
     rt: &R,
     place: &Place<'_>,
@@ -117,6 +124,7 @@ fn run_named<J, R, S, K, N, C, B, P>(
     source: &mut S,
     sink: &mut K,
     outside: &mut Outside<N, C, B, P>,
+    siren: Siren,
 ) -> Result<ClientRan, AllocError>
 where
     J: Naming + Send + Sync + 'static,
@@ -130,6 +138,7 @@ where
     P: Spawner,
     requires pass { IsPassOf (arc_value place.now.gate.now) pass.old }
     requires named { gate_of (arc_value place.now.gate.now) ≡ J.gate }
+    requires alarm { gate_of (arc_value siren.gate) ≡ J.alarm }
     ensures pass { IsPassOf (arc_value place.now.gate.now) pass.new }
     ensures ran { RanBy (S.left source.old) (scene_of (known pass.old) (N.counts outside.old.net) (P.refusals outside.old.spawner) (S.faults source.old) (K.faults sink.old))
         (scene_of (known pass.new) (N.counts outside.new.net) (P.refusals outside.new.spawner) (S.faults source.new) (K.faults sink.new)) result }
@@ -139,6 +148,7 @@ where
     ensures sink_faults { K.faults sink.old ≤ K.faults sink.new }
 {
     let Place { alloc, gate, port } = *place;
+    let mut ear = Ear::new(siren);
     let ends = match new_ends::<J, N>(alloc) {
         Ok(ends) => ends,
         Err(AllocError) => return Err(AllocError),
@@ -151,7 +161,7 @@ where
         port,
         ends: &ends,
     };
-    let hired = match hire_both(&crew, pass, &mut outside.net, &mut outside.bell) {
+    let hired = match hire_both(&crew, &mut ear, pass, &mut outside.net, &mut outside.bell) {
         Ok(hired) => hired,
         Err(AllocError) => return Err(AllocError),
     };
@@ -185,6 +195,7 @@ where
         &mut outside.bell,
         &ends,
     );
+    let talked = linger(rt, gate, pass, sink, &mut outside.bell, &ends, talked);
     let gathered = gather_two(rt, gate, pass, &mut outside.net, &ends);
     finish(rt, gate, pass, sink, talked, gathered)
 }
@@ -283,7 +294,7 @@ fn finish<R: Wait, K: Sink>(
     ensures pass { IsPassOf gate.now pass.new }
     ensures finishes { FinishesBy talked gathered (known pass.old) (known pass.new) (K.faults sink.old) (K.faults sink.new) result }
     ensures written { (start : Out) (faults : ℕ) → faults ≤ K.faults sink.old
-        → Handed (is_attend_whole talked) start (out_of (known pass.old) (K.given sink.old)) faults (K.faults sink.old)
+        → Handed (is_linger_whole talked) start (out_of (known pass.old) (K.given sink.old)) faults (K.faults sink.old)
         → Handed (is_whole result) start (out_of (known pass.new) (K.given sink.new)) faults (K.faults sink.new) }
     ensures sink_faults { K.faults sink.old ≤ K.faults sink.new }
 {
@@ -294,14 +305,8 @@ fn finish<R: Wait, K: Sink>(
     match talked {
         Attended::Done => end(rt, gate, pass, sink, gathered, false),
         Attended::Stuck => end(rt, gate, pass, sink, gathered, true),
-        Attended::Bad { line } => {
-            let _ = drain(rt, gate, pass, sink);
-            Ok(ClientRan::Bad { line })
-        }
-        Attended::ReadFault => {
-            let _ = drain(rt, gate, pass, sink);
-            Ok(ClientRan::ReadFault)
-        }
+        Attended::Bad { line } => Ok(ClientRan::Bad { line }),
+        Attended::ReadFault => Ok(ClientRan::ReadFault),
         Attended::WriteFault => Ok(ClientRan::WriteFault),
     }
 }

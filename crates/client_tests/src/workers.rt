@@ -14,6 +14,7 @@ use std::alloc::{AllocError, Global};
 use std::sync::Wait;
 use std::test::Fail;
 
+mod lingering;
 mod runs;
 mod talks;
 
@@ -54,6 +55,10 @@ fn object_from(alloc: Global, first: u64, wait: u32) -> Result<ClientObject, &'s
 
 const CREATED: &[u8] =
     b"HTTP/1.1 200 OK\r\nContent-Length: 60\r\n\r\n<body xmlns='http://jabber.org/protocol/httpbind' sid='s1'/>";
+
+/// The same with a stanza.
+const GREETED: &[u8] =
+    b"HTTP/1.1 200 OK\r\nContent-Length: 70\r\n\r\n<body xmlns='http://jabber.org/protocol/httpbind' sid='s1'><a/></body>";
 
 const ENDED: &[u8] =
     b"HTTP/1.1 200 OK\r\nContent-Length: 68\r\n\r\n<body xmlns='http://jabber.org/protocol/httpbind' type='terminate'/>";

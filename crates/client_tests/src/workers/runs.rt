@@ -1,7 +1,7 @@
 // A whole client over a network in memory, whose workers run one after the other before it talks.
 ghost use Rattle.parked_gate.specs.Passes.{IsPassOf};
 
-use crate::workers::{CREATED, ENDED, GONE, MISSING, object, object_from, plan};
+use crate::workers::{CREATED, ENDED, GONE, GREETED, MISSING, object, object_from, plan};
 use bosh_client::Queued;
 use bosh_ports::{MemorySink, MemorySource, SteadyBell};
 use bosh_types::{Condition, Moment};
@@ -74,15 +74,15 @@ impl Network for Shares {
     }
 }
 
-/// How a client runs that has a terminate queued, over this input. Its first worker's link gives `CREATED` and the last response, and
-/// `missing` more links say that there is no such page. The listed questions to the spawner are refused.
+/// How a client runs that has a terminate queued, over this input. Its first worker's link gives these two responses, and `missing` more
+/// links say that there is no such page. The listed takes and gives fail, and the listed questions to the spawner are refused.
 fn runs<R: Wait + Threads + Copy + Send + Drop + 'static>(
     rt: &R,
     alloc: Global,
     input: &[u8],
-    last: &[u8],
+    responses: [&[u8]; 2],
     missing: usize,
-    refused: &[u64],
+    failing: [&[u64]; 3],
 ) -> Result<ClientRan, Fail> {
     let Ok((gate, pass)) = Gate::new(alloc, object(alloc, 60)?) else {
         return Err("no memory".into());
@@ -92,11 +92,11 @@ fn runs<R: Wait + Threads + Copy + Send + Drop + 'static>(
     if !matches!(&queued, Ok(Reply::Queued(Queued::Done))) {
         return Err("not queued".into());
     }
-    let mut first = vec![in alloc; plan(alloc, &[CREATED, last], &[], &[])?]?;
+    let mut first = vec![in alloc; plan(alloc, &responses, &[], &[])?]?;
     for _ in 0..missing {
         first.push(plan(alloc, &[MISSING], &[], &[])?)?;
     }
-    runs_at(rt, alloc, gate, pass, first, input, refused)
+    runs_at(rt, alloc, gate, pass, first, input, failing)
 }
 
 // The same of this client, whose first worker has these links.
@@ -107,7 +107,7 @@ fn runs_at<R: Wait + Threads + Copy + Send + Drop + 'static>(
     pass: Pass<ClientObject>,
     first: Vec<LinkPlan>,
     input: &[u8],
-    refused: &[u64],
+    failing: [&[u64]; 3],
 ) -> Result<ClientRan, Fail>
     requires { IsPassOf gate pass }
 {
@@ -121,8 +121,10 @@ fn runs_at<R: Wait + Threads + Copy + Send + Drop + 'static>(
         own: MemoryNetwork::new(alloc, Vec::new(alloc), Vec::new(alloc)),
         plans: vec![in alloc; second, first]?,
     };
-    let mut source = MemorySource::new(Vec::from_slice(alloc, input)?, Vec::new(alloc));
-    let mut sink = MemorySink::new(alloc, Vec::new(alloc));
+    let [takes, gives, refused] = failing;
+    let takes = Vec::from_slice(alloc, takes)?;
+    let mut source = MemorySource::new(Vec::from_slice(alloc, input)?, takes);
+    let mut sink = MemorySink::new(alloc, Vec::from_slice(alloc, gives)?);
     let refused = Vec::from_slice(alloc, refused)?;
     let mut outside = Outside {
         net,
@@ -150,20 +152,84 @@ fn runs_at<R: Wait + Threads + Copy + Send + Drop + 'static>(
 
 #[test]
 fn the_first_cause_is_answered(rt: HostRuntime) -> Result<(), Fail> {
-    // The input, the last answer, how many further links say that there is no such page, the refused questions, and how the client ran.
-    let rows: [(&[u8], &[u8], usize, &[u64], ClientRan); 8] = [
-        (b"", ENDED, 0, &[], ClientRan::Done),
-        (b"<m/>\n", ENDED, 0, &[], ClientRan::Done),
-        (b"", GONE, 0, &[], ClientRan::Ended(Condition::ItemNotFound)),
-        (b"<m>\n", GONE, 0, &[], ClientRan::Bad { line: 1 }),
-        (b"", b"HTTP/1.1", 0, &[], ClientRan::NetFault),
-        (b"", ENDED, 0, &[1], ClientRan::SpawnFault),
-        (b"<m>\n", ENDED, 0, &[2], ClientRan::SpawnFault),
-        (b"", MISSING, 2, &[], ClientRan::Refused { status: 404 }),
+    // The input, the two answers, how many further links say that there is no such page, the takes, the gives and the questions that
+    // fail, and how the client ran.
+    let rows: [(&[u8], [&[u8]; 2], usize, [&[u64]; 3], ClientRan); 11] = [
+        (b"", [CREATED, ENDED], 0, [&[], &[], &[]], ClientRan::Done),
+        (
+            b"<m/>\n",
+            [GREETED, ENDED],
+            0,
+            [&[], &[], &[]],
+            ClientRan::Done,
+        ),
+        (
+            b"",
+            [CREATED, GONE],
+            0,
+            [&[], &[], &[]],
+            ClientRan::Ended(Condition::ItemNotFound),
+        ),
+        (
+            b"<m>\n",
+            [CREATED, GONE],
+            0,
+            [&[], &[], &[]],
+            ClientRan::Bad { line: 1 },
+        ),
+        (
+            b"",
+            [CREATED, b"HTTP/1.1"],
+            0,
+            [&[], &[], &[]],
+            ClientRan::NetFault,
+        ),
+        (
+            b"",
+            [CREATED, ENDED],
+            0,
+            [&[], &[], &[1]],
+            ClientRan::SpawnFault,
+        ),
+        (
+            b"<m>\n",
+            [CREATED, ENDED],
+            0,
+            [&[], &[], &[2]],
+            ClientRan::SpawnFault,
+        ),
+        (
+            b"",
+            [CREATED, MISSING],
+            2,
+            [&[], &[], &[]],
+            ClientRan::Refused { status: 404 },
+        ),
+        (
+            b"<m/>\n",
+            [CREATED, GONE],
+            0,
+            [&[1], &[], &[]],
+            ClientRan::ReadFault,
+        ),
+        (
+            b"",
+            [GREETED, GONE],
+            0,
+            [&[], &[1], &[]],
+            ClientRan::WriteFault,
+        ),
+        (
+            b"",
+            [GREETED, MISSING],
+            2,
+            [&[], &[2], &[]],
+            ClientRan::WriteFault,
+        ),
     ];
-    for (input, last, missing, refused, ran) in rows {
+    for (input, responses, missing, failing, ran) in rows {
         assert_eq!(rt;
-            runs(&rt, rt.alloc(), input, last, missing, refused)?,
+            runs(&rt, rt.alloc(), input, responses, missing, failing)?,
             ran,
             "of {input:?}"
         );
@@ -186,7 +252,7 @@ fn a_full_queue_that_nobody_empties_ends_it(rt: HostRuntime) -> Result<(), Fail>
         };
         let first = vec![in alloc; plan(alloc, &[CREATED], &[], &[])?]?;
         assert_eq!(rt;
-            runs_at(&rt, alloc, gate, pass, first, &input, &[])?,
+            runs_at(&rt, alloc, gate, pass, first, &input, [&[], &[], &[]])?,
             ran,
             "of {lines}"
         );

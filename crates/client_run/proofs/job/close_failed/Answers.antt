@@ -8,7 +8,7 @@ pub returns-then-is_failed-clause-tells : goal.returns-then-is_failed-clause-tel
 returns-then-is_failed-clause-tells g c = λ counts toil. c.close.ensures.tells counts (sym c.is_failed.ensures ∙ c.if-is_failed.true) toil
 
 pub returns-clause-tells : goal.returns-clause-tells
-returns-clause-tells g c = λ counts toil. end_over c.args.worked (known c.args.pass.now) counts (sym c.is_failed.ensures ∙ c.if-is_failed.false) toil
+returns-clause-tells g c = λ counts toil. end_over c.args.worked (known c.args.pass.now) counts (known c.args.ear.now.pass) (sym c.is_failed.ensures ∙ c.if-is_failed.false) toil
 
 pub returns-then-is_failed-clause-asks : goal.returns-then-is_failed-clause-asks
 returns-then-is_failed-clause-asks g c = λ failed. c.close.ensures.asks

@@ -4,9 +4,9 @@ use Rattle.parked_gate.specs.Passes.{known}
 use Rattle.client_run.specs.declared.attending.Attended.TheVariants as attended
 use Rattle.client_run.proofs.RanLemmas.{finish_as, finish_failed, finish_read, finish_wanting, finish_written}
 use Rattle.client_run.specs.Handing.{out_of}
-use Rattle.client_run.specs.Attending.{is_attend_whole}
-use Rattle.client_run.specs.Handed.{Handed, is_write_whole}
-use Rattle.client_run.proofs.HandedLemmas.{drained, handed_less}
+use Rattle.client_run.specs.Lingering.{is_linger_whole}
+use Rattle.client_run.specs.Handed.{Handed}
+use Rattle.client_run.proofs.HandedLemmas.{handed_less}
 use Rattle.client_run.proofs.running.finish.Goals as goal
 
 pub returns-in-Err-clause-finishes : goal.returns-in-Err-clause-finishes
@@ -30,31 +30,23 @@ pub returns-in-WriteFault-clause-finishes : goal.returns-in-WriteFault-clause-fi
 returns-in-WriteFault-clause-finishes g c = finish_written c.args.talked _ _ _ _ _ (c.in-Ok.is ∙ ap (λ t. Ok t) c.in-WriteFault.is) refl
 
 pub returns-in-Err-clause-written : goal.returns-in-Err-clause-written
-returns-in-Err-clause-written g c = λ start faults falls before. handed_less (is_attend_whole c.args.talked) _ _ _ _ before
+returns-in-Err-clause-written g c = λ start faults falls before. handed_less (is_linger_whole c.args.talked) _ _ _ _ before
 
 pub returns-in-WriteFault-clause-written : goal.returns-in-WriteFault-clause-written
-returns-in-WriteFault-clause-written g c = λ start faults falls before. handed_less (is_attend_whole c.args.talked) _ _ _ _ before
+returns-in-WriteFault-clause-written g c = λ start faults falls before. handed_less (is_linger_whole c.args.talked) _ _ _ _ before
 
 pub returns-in-Done-clause-written : goal.returns-in-Done-clause-written
 returns-in-Done-clause-written g c = λ start faults falls before.
     c.end.ensures.written start faults falls
-    (subst (λ t. Handed (is_attend_whole t) start (out_of (known c.args.pass.now) (g.K.Sink.given c.args.sink.now)) faults (g.K.Sink.faults c.args.sink.now)) (c.in-Ok.is ∙ ap (λ t. Ok t) c.in-Done.is) before)
+    (subst (λ t. Handed (is_linger_whole t) start (out_of (known c.args.pass.now) (g.K.Sink.given c.args.sink.now)) faults (g.K.Sink.faults c.args.sink.now)) (c.in-Ok.is ∙ ap (λ t. Ok t) c.in-Done.is) before)
 
 pub returns-in-Stuck-clause-written : goal.returns-in-Stuck-clause-written
 returns-in-Stuck-clause-written g c = λ start faults falls before.
     c.end-in-Stuck.ensures.written start faults falls
-    (subst (λ t. Handed (is_attend_whole t) start (out_of (known c.args.pass.now) (g.K.Sink.given c.args.sink.now)) faults (g.K.Sink.faults c.args.sink.now)) (c.in-Ok.is ∙ ap (λ t. Ok t) c.in-Stuck.is) before)
+    (subst (λ t. Handed (is_linger_whole t) start (out_of (known c.args.pass.now) (g.K.Sink.given c.args.sink.now)) faults (g.K.Sink.faults c.args.sink.now)) (c.in-Ok.is ∙ ap (λ t. Ok t) c.in-Stuck.is) before)
 
 pub returns-in-Bad-clause-written : goal.returns-in-Bad-clause-written
-returns-in-Bad-clause-written g c = λ start faults falls before.
-    handed_less (is_write_whole c.drain.result) _ _ _ _
-    (drained _ _ _ _ _ _ c.drain.result falls c.drain.ensures.faults
-    (subst (λ t. Handed (is_attend_whole t) start (out_of (known c.args.pass.now) (g.K.Sink.given c.args.sink.now)) faults (g.K.Sink.faults c.args.sink.now)) (c.in-Ok.is ∙ ap (λ t. Ok t) c.in-Bad.is) before)
-    c.drain.ensures.drains c.drain.ensures.fault)
+returns-in-Bad-clause-written g c = λ start faults falls before. handed_less (is_linger_whole c.args.talked) _ _ _ _ before
 
 pub returns-in-ReadFault-clause-written : goal.returns-in-ReadFault-clause-written
-returns-in-ReadFault-clause-written g c = λ start faults falls before.
-    handed_less (is_write_whole c.drain-in-ReadFault.result) _ _ _ _
-    (drained _ _ _ _ _ _ c.drain-in-ReadFault.result falls c.drain-in-ReadFault.ensures.faults
-    (subst (λ t. Handed (is_attend_whole t) start (out_of (known c.args.pass.now) (g.K.Sink.given c.args.sink.now)) faults (g.K.Sink.faults c.args.sink.now)) (c.in-Ok.is ∙ ap (λ t. Ok t) c.in-ReadFault.is) before)
-    c.drain-in-ReadFault.ensures.drains c.drain-in-ReadFault.ensures.fault)
+returns-in-ReadFault-clause-written g c = λ start faults falls before. handed_less (is_linger_whole c.args.talked) _ _ _ _ before

@@ -1,4 +1,4 @@
-use Rattle.std.proofs.Common.{◌≡◌, false, refl, subst}
+use Rattle.std.proofs.Common.{◌≡◌, arith, false, refl, subst}
 use Rattle.std.specs.Prelude.{IfNone, IfSome}
 use Rattle.bosh_ports.specs.Faults.{HasRisen}
 use Rattle.parked_gate.specs.Passes.{known}
@@ -10,6 +10,7 @@ use Rattle.client_run.proofs.RanLemmas.{ran_finished, ran_net, ran_spawn, ran_wa
 use Rattle.client_run.specs.Attending.{is_attend_whole}
 use Rattle.client_run.specs.Handed.{Handed}
 use Rattle.client_run.specs.Handing.{out_of}
+use Rattle.client_run.specs.Lingering.{is_linger_whole}
 use Rattle.client_run.proofs.HandedLemmas.{falls_same, goes_both, goes_gathered, goes_queued, goes_same, handed_none, handed_then, still}
 use Rattle.client_run.proofs.OrderLemmas.{asks_since, further_handed, further_is, ordered_finished, ordered_spawn, ordered_unhired, ordered_wanting}
 use Rattle.client_run.proofs.running.run_named.Goals as goal
@@ -27,15 +28,21 @@ returns-in-None-clause-ran g c =
 pub returns-clause-ran : goal.returns-clause-ran
 returns-clause-ran g c =
     let hired = subst (λ h. IfSome h (λ _. g.N.Network.counts c.hire_both.new.net ≡ g.N.Network.counts c.args.outside.now.net)) c.in-Some.is c.in-Ok-hire_both.ensures.hired in
+    let hired_known = c.in-Ok-hire_both.ensures.known in
+    let start = out_of (known c.args.pass.now) (g.K.Sink.given c.args.sink.now) in
+    let said = out_of (known c.converse-talked.new.pass) (g.K.Sink.given c.converse-talked.new.sink) in
+    let goes = further_handed (is_attend_whole c.converse-talked.result) start said (g.K.Sink.faults c.args.sink.now) (g.K.Sink.faults c.converse-talked.new.sink)
+    (subst (λ k. Handed (is_attend_whole c.converse-talked.result) (out_of k (g.K.Sink.given c.args.sink.now)) said (g.K.Sink.faults c.args.sink.now) (g.K.Sink.faults c.converse-talked.new.sink)) hired_known c.converse-talked.ensures.written) in
+    let lingers = c.linger-talked.ensures.lingers (g.S.Source.left c.args.source.now) (known c.args.pass.now) (g.S.Source.faults c.args.source.now) (g.S.Source.faults c.converse-talked.new.source) (g.K.Sink.faults c.args.sink.now) c.converse-talked.ensures.sink_faults goes
+    (subst (λ k. ConversesBy (g.S.Source.left c.args.source.now) k (known c.converse-talked.new.pass) (g.S.Source.faults c.args.source.now) (g.S.Source.faults c.converse-talked.new.source) (g.K.Sink.faults c.args.sink.now) (g.K.Sink.faults c.converse-talked.new.sink) c.converse-talked.result) hired_known c.converse-talked.ensures.converses) in
     ran_finished (g.S.Source.left c.args.source.now)
     (scene_of (known c.args.pass.now) (g.N.Network.counts c.args.outside.now.net) (g.P.Spawner.refusals c.args.outside.now.spawner) (g.S.Source.faults c.args.source.now) (g.K.Sink.faults c.args.sink.now))
-    (known c.converse-talked.new.pass) (known c.gather_two-gathered.new.pass) (known c.finish.new.pass) (g.S.Source.faults c.converse-talked.new.source) (g.K.Sink.faults c.converse-talked.new.sink) (g.K.Sink.faults c.finish.new.sink)
-    (g.P.Spawner.refusals c.start_both-started.new.spawner) (g.N.Network.counts c.gather_two-gathered.new.net) c.converse-talked.result c.gather_two-gathered.result
-    (subst (λ k. ConversesBy (g.S.Source.left c.args.source.now) k (known c.converse-talked.new.pass) (g.S.Source.faults c.args.source.now) (g.S.Source.faults c.converse-talked.new.source) (g.K.Sink.faults c.args.sink.now) (g.K.Sink.faults c.converse-talked.new.sink) c.converse-talked.result)
-    c.in-Ok-hire_both.ensures.known c.converse-talked.ensures.converses)
-    (subst (λ n. Gathers (known c.converse-talked.new.pass) (known c.gather_two-gathered.new.pass) n (g.N.Network.counts c.gather_two-gathered.new.net) c.gather_two-gathered.result) hired c.gather_two-gathered.ensures.gathers)
+    (known c.linger-talked.new.pass) (known c.gather_two-gathered.new.pass) (known c.finish.new.pass) (g.S.Source.faults c.converse-talked.new.source) (g.K.Sink.faults c.linger-talked.new.sink) (g.K.Sink.faults c.finish.new.sink)
+    (g.P.Spawner.refusals c.start_both-started.new.spawner) (g.N.Network.counts c.gather_two-gathered.new.net) c.linger-talked.result c.gather_two-gathered.result
+    lingers
+    (subst (λ n. Gathers (known c.linger-talked.new.pass) (known c.gather_two-gathered.new.pass) n (g.N.Network.counts c.gather_two-gathered.new.net) c.gather_two-gathered.result) hired c.gather_two-gathered.ensures.gathers)
     (subst (λ n. TakesBoth (known c.gather_two-gathered.new.pass).seen n (g.N.Network.counts c.gather_two-gathered.new.net) c.gather_two-gathered.result) hired c.gather_two-gathered.ensures.takes)
-    c.converse-talked.ensures.sink_faults c.finish.ensures.sink_faults c.finish.result c.finish.ensures.finishes
+    (omega (arith, c.converse-talked.ensures.sink_faults, c.linger-talked.ensures.sink_faults)) c.finish.ensures.sink_faults c.finish.result c.finish.ensures.finishes
 
 pub returns-then-started-ne2-clause-ran : goal.returns-then-started-ne2-clause-ran
 returns-then-started-ne2-clause-ran g c = ran_spawn _ _ _ (c.start_both-started.ensures.refused c.if-started-ne2.true)
@@ -61,10 +68,12 @@ pub returns-clause-written : goal.returns-clause-written
 returns-clause-written g c =
     let start = out_of (known c.args.pass.now) (g.K.Sink.given c.args.sink.now) in
     let said = out_of (known c.converse-talked.new.pass) (g.K.Sink.given c.converse-talked.new.sink) in
-    c.finish.ensures.written start (g.K.Sink.faults c.args.sink.now) c.converse-talked.ensures.sink_faults
-    (handed_then (is_attend_whole c.converse-talked.result) start said (known c.gather_two-gathered.new.pass) (g.K.Sink.faults c.args.sink.now) (g.K.Sink.faults c.converse-talked.new.sink) (g.K.Sink.faults c.converse-talked.new.sink) (falls_same _)
-    (subst (λ k. Handed (is_attend_whole c.converse-talked.result) (out_of k (g.K.Sink.given c.args.sink.now)) said (g.K.Sink.faults c.args.sink.now) (g.K.Sink.faults c.converse-talked.new.sink)) c.hire_both.ensures.known c.converse-talked.ensures.written)
-    (goes_gathered (known c.converse-talked.new.pass) (known c.gather_two-gathered.new.pass) c.gather_two-gathered.ensures.gathers.begins c.gather_two-gathered.ensures.gathers.mine))
+    let lingered = out_of (known c.linger-talked.new.pass) (g.K.Sink.given c.linger-talked.new.sink) in
+    c.finish.ensures.written start (g.K.Sink.faults c.args.sink.now) (omega (arith, c.converse-talked.ensures.sink_faults, c.linger-talked.ensures.sink_faults))
+    (handed_then (is_linger_whole c.linger-talked.result) start lingered (known c.gather_two-gathered.new.pass) (g.K.Sink.faults c.args.sink.now) (g.K.Sink.faults c.linger-talked.new.sink) (g.K.Sink.faults c.linger-talked.new.sink) (falls_same _)
+    (c.linger-talked.ensures.written start (g.K.Sink.faults c.args.sink.now) c.converse-talked.ensures.sink_faults
+    (subst (λ k. Handed (is_attend_whole c.converse-talked.result) (out_of k (g.K.Sink.given c.args.sink.now)) said (g.K.Sink.faults c.args.sink.now) (g.K.Sink.faults c.converse-talked.new.sink)) c.hire_both.ensures.known c.converse-talked.ensures.written))
+    (goes_gathered (known c.linger-talked.new.pass) (known c.gather_two-gathered.new.pass) c.gather_two-gathered.ensures.gathers.begins c.gather_two-gathered.ensures.gathers.mine))
 
 pub returns-in-Err-clause-ordered : goal.returns-in-Err-clause-ordered
 returns-in-Err-clause-ordered g c = ordered_wanting _ _ _ _
@@ -85,16 +94,22 @@ returns-then-started-ne2-clause-ordered g c =
 pub returns-clause-ordered : goal.returns-clause-ordered
 returns-clause-ordered g c =
     let hired = subst (λ h. IfSome h (λ _. g.N.Network.counts c.hire_both.new.net ≡ g.N.Network.counts c.args.outside.now.net)) c.in-Some.is c.in-Ok-hire_both.ensures.hired in
+    let hired_known = c.in-Ok-hire_both.ensures.known in
+    let start = out_of (known c.args.pass.now) (g.K.Sink.given c.args.sink.now) in
+    let said = out_of (known c.converse-talked.new.pass) (g.K.Sink.given c.converse-talked.new.sink) in
+    let goes = further_handed (is_attend_whole c.converse-talked.result) start said (g.K.Sink.faults c.args.sink.now) (g.K.Sink.faults c.converse-talked.new.sink)
+    (subst (λ k. Handed (is_attend_whole c.converse-talked.result) (out_of k (g.K.Sink.given c.args.sink.now)) said (g.K.Sink.faults c.args.sink.now) (g.K.Sink.faults c.converse-talked.new.sink)) hired_known c.converse-talked.ensures.written) in
+    let lingers = c.linger-talked.ensures.lingers (g.S.Source.left c.args.source.now) (known c.args.pass.now) (g.S.Source.faults c.args.source.now) (g.S.Source.faults c.converse-talked.new.source) (g.K.Sink.faults c.args.sink.now) c.converse-talked.ensures.sink_faults goes
+    (subst (λ k. ConversesBy (g.S.Source.left c.args.source.now) k (known c.converse-talked.new.pass) (g.S.Source.faults c.args.source.now) (g.S.Source.faults c.converse-talked.new.source) (g.K.Sink.faults c.args.sink.now) (g.K.Sink.faults c.converse-talked.new.sink) c.converse-talked.result) hired_known c.converse-talked.ensures.converses) in
     ordered_finished (g.S.Source.left c.args.source.now)
     (scene_of (known c.args.pass.now) (g.N.Network.counts c.args.outside.now.net) (g.P.Spawner.refusals c.args.outside.now.spawner) (g.S.Source.faults c.args.source.now) (g.K.Sink.faults c.args.sink.now))
-    (known c.converse-talked.new.pass) (known c.gather_two-gathered.new.pass) (known c.finish.new.pass) (g.S.Source.faults c.converse-talked.new.source) (g.K.Sink.faults c.converse-talked.new.sink) (g.K.Sink.faults c.finish.new.sink)
-    (g.P.Spawner.refusals c.start_both-started.new.spawner) (g.N.Network.counts c.gather_two-gathered.new.net) c.converse-talked.result c.gather_two-gathered.result
-    (subst (λ k. ConversesBy (g.S.Source.left c.args.source.now) k (known c.converse-talked.new.pass) (g.S.Source.faults c.args.source.now) (g.S.Source.faults c.converse-talked.new.source) (g.K.Sink.faults c.args.sink.now) (g.K.Sink.faults c.converse-talked.new.sink) c.converse-talked.result)
-    c.in-Ok-hire_both.ensures.known c.converse-talked.ensures.converses)
-    (subst (λ n. Gathers (known c.converse-talked.new.pass) (known c.gather_two-gathered.new.pass) n (g.N.Network.counts c.gather_two-gathered.new.net) c.gather_two-gathered.result) hired c.gather_two-gathered.ensures.gathers)
+    (known c.linger-talked.new.pass) (known c.gather_two-gathered.new.pass) (known c.finish.new.pass) (g.S.Source.faults c.converse-talked.new.source) (g.K.Sink.faults c.linger-talked.new.sink) (g.K.Sink.faults c.finish.new.sink)
+    (g.P.Spawner.refusals c.start_both-started.new.spawner) (g.N.Network.counts c.gather_two-gathered.new.net) c.linger-talked.result c.gather_two-gathered.result
+    lingers
+    (subst (λ n. Gathers (known c.linger-talked.new.pass) (known c.gather_two-gathered.new.pass) n (g.N.Network.counts c.gather_two-gathered.new.net) c.gather_two-gathered.result) hired c.gather_two-gathered.ensures.gathers)
     (subst (λ n. TakesBoth (known c.gather_two-gathered.new.pass).seen n (g.N.Network.counts c.gather_two-gathered.new.net) c.gather_two-gathered.result) hired c.gather_two-gathered.ensures.takes)
-    (further_handed _ (out_of (known c.gather_two-gathered.new.pass) (g.K.Sink.given c.converse-talked.new.sink)) (out_of (known c.finish.new.pass) (g.K.Sink.given c.finish.new.sink)) _ _
-    (c.finish.ensures.written (out_of (known c.gather_two-gathered.new.pass) (g.K.Sink.given c.converse-talked.new.sink)) (g.K.Sink.faults c.converse-talked.new.sink) (falls_same _)
-    (handed_none (is_attend_whole c.converse-talked.result) _ _ _ _ (still (known c.gather_two-gathered.new.pass)) refl)))
+    (further_handed _ (out_of (known c.gather_two-gathered.new.pass) (g.K.Sink.given c.linger-talked.new.sink)) (out_of (known c.finish.new.pass) (g.K.Sink.given c.finish.new.sink)) _ _
+    (c.finish.ensures.written (out_of (known c.gather_two-gathered.new.pass) (g.K.Sink.given c.linger-talked.new.sink)) (g.K.Sink.faults c.linger-talked.new.sink) (falls_same _)
+    (handed_none (is_linger_whole c.linger-talked.result) _ _ _ _ (still (known c.gather_two-gathered.new.pass)) refl)))
     (c.start_both-started.ensures.all c.if-started-ne2.false)
     c.finish.result c.finish.ensures.finishes
