@@ -1,7 +1,8 @@
 // A pump between sessions and their back ends.
+mod failing;
 mod numbered;
 
-ghost use Rattle.std.specs.Prelude.{◌≡◌, IfOk, IfSome, IsSome, List, [], true, ℕ};
+ghost use Rattle.std.specs.Prelude.{◌≡◌, ◌⊎◌, IfOk, IfSome, IsSome, List, [], codes, true, ℕ};
 ghost use Rattle.parked_gate.specs.Passes.{IsPassOf};
 ghost use Rattle.session_attrs.specs.declared.request.Creation.{Creation};
 ghost use Rattle.session_attrs.specs.declared.request.Kind.TheVariants as kinds;
@@ -11,7 +12,7 @@ ghost use Rattle.session_table.specs.Purses.{held};
 ghost use Rattle.session_table.specs.Replies.{MayOpen};
 
 use body_cutter::cut;
-use bosh_ports::SteadyBell;
+use bosh_ports::{Bell, SteadyBell};
 use bosh_types::limits::JOURNAL_BYTES;
 use bosh_types::{Moment, Row, SharedText, Stanzas, Text, Ticket};
 use parked_gate::Gate;
@@ -105,8 +106,8 @@ fn no_stanzas(alloc: Global) -> Stanzas
     Stanzas::from_vec(Vec::new(alloc))
 }
 
-/// A creation for example.org, which greets nobody.
-fn an_opening(alloc: Global) -> Result<Opening, &'static str>
+/// A creation for example.org, which greets nobody, or for example.com.
+fn an_opening(alloc: Global, is_elsewhere: bool) -> Result<Opening, &'static str>
     ensures { IfOk result MayOpen }
 {
     let Some(request) = request_in(alloc, CREATION) else {
@@ -115,20 +116,30 @@ fn an_opening(alloc: Global) -> Result<Opening, &'static str>
     if !is_creation(&request) {
         return Err("no creation");
     }
-    match opening_with(alloc, request) {
+    match opening_with(alloc, request, host_name(is_elsewhere)) {
         Ok(opening) => Ok(opening),
         Err(AllocError) => Err("no memory"),
     }
 }
 
-fn opening_with(alloc: Global, request: Request) -> Result<Opening, AllocError>
+fn host_name(is_elsewhere: bool) -> &'static [u8]
+    ensures { (result.now ≡ codes "example.com") ⊎ (result.now ≡ codes "example.org") }
+{
+    if is_elsewhere {
+        return b"example.com";
+    }
+    b"example.org"
+}
+
+fn opening_with(alloc: Global, request: Request, host: &'static [u8]) -> Result<Opening, AllocError>
+    requires host { (host.now ≡ codes "example.com") ⊎ (host.now ≡ codes "example.org") }
     requires read { IsReadFrom CREATION.now request }
     requires creation { (creation : Creation) × (request.kind ≡ kinds.Creation creation) }
     ensures { IfOk result MayOpen }
 {
     Ok(Opening {
         name: text(alloc, b"s")?,
-        host: shared(alloc, b"example.org")?,
+        host: shared(alloc, host)?,
         greeting: no_stanzas(alloc),
         request,
         body: shared(alloc, CREATION)?,
@@ -192,13 +203,18 @@ struct Scene {
 
 /// A scene with one host.
 fn set_up<R: Wait>(rt: &R, alloc: Global, host: Host) -> Result<Scene, &'static str> {
+    let Ok(hosts) = only(alloc, host) else {
+        return Err("no memory");
+    };
+    set_up_over(rt, alloc, hosts)
+}
+
+/// A scene with these hosts.
+fn set_up_over<R: Wait>(rt: &R, alloc: Global, hosts: Hosts) -> Result<Scene, &'static str> {
     let Ok((directory, mut mine)) = Gate::new(alloc, Directory::new(alloc)) else {
         return Err("no memory");
     };
     let theirs = directory.split(rt, &mut mine);
-    let Ok(hosts) = only(alloc, host) else {
-        return Err("no memory");
-    };
     let worker = Purse::new(alloc, mine);
     let pump = Pump::new(alloc, Purse::new(alloc, theirs), hosts);
     Ok(Scene {
@@ -222,8 +238,17 @@ fn host(
     end: Box<dyn Backend + Send>,
     spares: Vec<Box<dyn Backend + Send>>,
 ) -> Result<Host, AllocError> {
+    host_named(alloc, b"example.org", end, spares)
+}
+
+fn host_named(
+    alloc: Global,
+    name: &[u8],
+    end: Box<dyn Backend + Send>,
+    spares: Vec<Box<dyn Backend + Send>>,
+) -> Result<Host, AllocError> {
     Ok(Host {
-        name: text(alloc, b"example.org")?,
+        name: text(alloc, name)?,
         greeting: no_stanzas(alloc),
         end,
         spares,
@@ -232,7 +257,12 @@ fn host(
 
 /// Opens a session through the worker.
 fn open<R: Wait>(rt: &R, scene: &mut Scene) -> Result<(), &'static str> {
-    let opening = an_opening(scene.alloc)?;
+    open_at(rt, scene, false)
+}
+
+/// Opens a session at example.com or at example.org.
+fn open_at<R: Wait>(rt: &R, scene: &mut Scene, is_elsewhere: bool) -> Result<(), &'static str> {
+    let opening = an_opening(scene.alloc, is_elsewhere)?;
     match scene.worker.open(rt, &scene.directory, opening) {
         Ok(NewSession::Opened { .. }) => Ok(()),
         _ => Err("not opened"),
@@ -271,19 +301,38 @@ fn holds(purse: &Purse, number: u64) -> bool
 
 /// One turn of the pump at this moment. How many sessions are live after it.
 fn turn<R: Wait>(rt: &R, scene: &mut Scene, at: u64) -> Result<usize, AllocError> {
+    turn_with(rt, scene, at, &mut SteadyBell)
+}
+
+/// The same with this bell.
+fn turn_with<R: Wait, B: Bell>(
+    rt: &R,
+    scene: &mut Scene,
+    at: u64,
+    bell: &mut B,
+) -> Result<usize, AllocError> {
     let clock = StillClock {
         moment: Moment::from_millis(at),
     };
-    let mut bell = SteadyBell;
-    scene.pump.turn(rt, &scene.directory, &clock, &mut bell)
+    scene.pump.turn(rt, &scene.directory, &clock, bell)
 }
 
 /// What there is for a ticket of the first session.
 fn collected<R: Wait>(rt: &R, scene: &mut Scene, ticket: Ticket) -> Option<SharedText> {
-    if !holds(&scene.worker, 1) {
+    collected_for(rt, scene, 1, ticket)
+}
+
+/// What there is for a ticket of the session under this number.
+fn collected_for<R: Wait>(
+    rt: &R,
+    scene: &mut Scene,
+    number: u64,
+    ticket: Ticket,
+) -> Option<SharedText> {
+    if !holds(&scene.worker, number) {
         return None;
     }
-    match scene.worker.poll(rt, 1, ticket) {
+    match scene.worker.poll(rt, number, ticket) {
         Some(Found::Answer(text)) => Some(text),
         _ => None,
     }
