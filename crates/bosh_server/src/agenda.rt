@@ -2,10 +2,10 @@
 ghost use Rattle.std.specs.Prelude.{◌≡◌, ◌≤◌, ◌<◌, ◌+◌, ◌-◌, ◌^◌, IfSome, false, min, true};
 
 use crate::rings::Rings;
-use bosh_ports::Bell;
+use bosh_ports::{Bell, BellKey};
 use bosh_types::Moment;
 use server_ports::Clock;
-use std::alloc::Global;
+use std::alloc::{AllocError, Global};
 use std::sync::Wait;
 
 /// How long the pump serves only those that were rung for or are due, in milliseconds: then it looks at every session.
@@ -16,6 +16,10 @@ const ROUND: u64 = 10_000;
 pub(crate) struct Agenda {
     /// The opening numbers of those who were rung for or are due.
     pub(crate) numbers: Vec<u64>,
+    /// Those that the pump gave something in its last turn.
+    pub(crate) given: Vec<u64>,
+    /// Those of them that are over by that.
+    pub(crate) over: Vec<u64>,
     // When every session is served next.
     whole_at: Moment,
 }
@@ -27,6 +31,8 @@ impl Agenda {
     {
         Agenda {
             numbers: Vec::new(alloc),
+            given: Vec::new(alloc),
+            over: Vec::new(alloc),
             whole_at: Moment::from_millis(0),
         }
     }
@@ -43,6 +49,34 @@ impl Agenda {
     pub(crate) fn put_in_order(&mut self) {
         self.numbers.sort_unstable();
         self.numbers.dedup();
+    }
+
+    /// Takes up to whom the pump gave something in its last turn, each once. Where there was no memory for one of them, every session is
+    /// served at once.
+    pub(crate) fn take_given<R: Wait>(&mut self, rt: &R, given: &Rings) {
+        self.over.clear();
+        self.given.clear();
+        if !given.take(rt, &mut self.given) {
+            self.hurry();
+        }
+        self.given.sort_unstable();
+        self.given.dedup();
+    }
+
+    /// Those who are over by what the pump gave them are to be served, as if they were rung for. Where not all were found, every session
+    /// is served at once.
+    pub(crate) fn serve_over<R: Wait>(
+        &mut self,
+        rt: &R,
+        found: Result<(), AllocError>,
+        rings: &Rings,
+    ) {
+        for number in &self.over {
+            rings.note(rt, BellKey(*number));
+        }
+        if found.is_err() {
+            self.hurry();
+        }
     }
 
     /// Whether every session is to be served by now.

@@ -4,7 +4,7 @@ ghost use Rattle.bosh_ports.specs.Faults.{HasRisen};
 ghost use Rattle.parked_gate.specs.Passes.{IsPassOf};
 
 use crate::agenda::Agenda;
-use crate::rings::NotingBell;
+use crate::rings::{NotingBell, Rings};
 use crate::yard::{Phase, Post, Yard};
 use bosh_ports::{Bell, BellKey};
 use bosh_types::Moment;
@@ -41,17 +41,20 @@ impl Pumped for Hosts {
     ) {
         let Post { yard, purse } = post;
         let mut pump = Pump::new(alloc, purse, self);
-        let mut bell = NotingBell::new(rt, bell, &yard.rings);
-        make_turns(rt, alloc, &yard, &mut pump, clock, &mut bell);
+        let given = Rings::new(alloc);
+        let mut bell = NotingBell::new(rt, bell, &given);
+        make_turns(rt, alloc, &yard, &given, &mut pump, clock, &mut bell);
         yard.end_pump(rt);
     }
 }
 
-// Makes turns until nobody is served any longer.
+// Makes turns until nobody is served any longer. A session that the pump itself rang for, since it gave it something, is no reason for
+// another turn, unless it is over by that.
 fn make_turns<R: Wait, C: Clock, B: Bell>(
     rt: &R,
     alloc: Global,
     yard: &Yard,
+    given: &Rings,
     pump: &mut Pump,
     clock: &C,
     bell: &mut B,
@@ -67,6 +70,9 @@ fn make_turns<R: Wait, C: Clock, B: Bell>(
         if phase == Phase::Over {
             return;
         }
+        agenda.take_given(rt, given);
+        let found = pump.note_given(rt, agenda.given.as_slice(), &mut agenda.over);
+        agenda.serve_over(rt, found, &yard.rings);
         if !pump.is_behind() {
             agenda.rest(rt, &yard.rings, clock, bell, pump.first_due());
         }

@@ -65,7 +65,7 @@ impl Rings {
     }
 
     /// Notes a ring, where it is for a session.
-    fn note<R: Wait>(&self, rt: &R, key: BellKey) {
+    pub(crate) fn note<R: Wait>(&self, rt: &R, key: BellKey) {
         if key == BellKey::PUMP {
             return;
         }

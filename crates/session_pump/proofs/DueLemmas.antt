@@ -23,7 +23,7 @@ use Rattle.parked_gate.specs.Passes.{Looks, known}
 use Rattle.session_table.specs.declared.handle.SessionHandle.{SessionHandle}
 use Rattle.session_table.specs.Purses.{OthersStay, Sessions, Turned, held}
 use Rattle.session_table.specs.Timing.{IsFirstDue}
-use Rattle.session_pump.specs.Dues.{AskDues, AsksDue, Dues, IsDueOf, IsNoted, IsTakenBy, asked, asked_none, asked_one, not_held, stays, was_due}
+use Rattle.session_pump.specs.Dues.{AskDues, AsksDue, Dues, IsDueOf, IsNoted, IsOver, IsTakenBy, asked, asked_none, asked_one, not_held, stays, was_due}
 
 -- a pair of the index is the moment of its number
 moment_is : (dues : Dues) (number moment : ℕ) → IsByNumber dues → Contains dues (number, moment) → moment_of dues number ≡ Some moment
@@ -77,7 +77,7 @@ noted_none number sessions old new none found =
     subst (λ (o : Option SessionHandle). IsDueOf o (moment_of new number)) (sym none) (cleared_at old new number found)
 
 -- the moment that the session answered is noted
-pub noted_so : (number : ℕ) (old new : Sessions) (dues : Dues) (due : Option ℕ) (result : Result ⊤ AllocError) → Turned number old new (Looks (λ seen. IsFirstDue seen due))
+pub noted_so : {T : Type 0} (number : ℕ) (old new : Sessions) (dues : Dues) (due : Option ℕ) (result : Result T AllocError) → Turned number old new (Looks (λ seen. IsFirstDue seen due))
     → OnOk result (moment_of dues number ≡ due) → OnOk result (IsNoted number new dues)
 noted_so number old new dues due (Ok done) turned put =
     subst (λ (o : Option SessionHandle). IsDueOf o (moment_of dues number)) (sym turned.is) (subst (λ (d : Option ℕ). IsFirstDue (known turned.after.pass).seen d) (sym put) turned.says.says)
@@ -114,6 +114,37 @@ pub ask_more : (numbers : List ℕ) (i number : ℕ) (old l m : Sessions) → i 
     → AskDues old (take (i + 1) numbers) m
 ask_more numbers i number old l m within read before asks =
     subst (λ (xs : List ℕ). AskDues old xs m) (sym (take_more numbers i number within ∙ ap (λ (n : ℕ). take i numbers ++ n ∷ []) (sym read))) (asked_one number before asks)
+
+-- another of these numbers stood before
+earlier_among : (numbers : List ℕ) (i number other : ℕ) → i < length numbers → number ≡ get_or numbers i number → other ≢ number → Contains (take (i + 1) numbers) other
+    → Contains (take i numbers) other
+earlier_among numbers i number other within read apart among = among_these (Contains-append_cases (take i numbers) (number ∷ []) other
+    (subst (λ (xs : List ℕ). Contains xs other) (take_more numbers i number within ∙ ap (λ (n : ℕ). take i numbers ++ n ∷ []) (sym read)) among))
+  where
+    among_these : Contains (take i numbers) other ⊎ Contains (number ∷ []) other → Contains (take i numbers) other
+    among_these (inl here) = here
+    among_these (inr one) = absurd (apart (only other number one))
+
+-- those of these that are over stand among others, where one more was asked
+pub over_more : (numbers : List ℕ) (i number : ℕ) (l m : Sessions) (old new : Dues) (first longer : List ℕ) → i < length numbers → number ≡ get_or numbers i number
+    → ((other : ℕ) → Contains (take i numbers) other → IsOver other l old → Contains first other) → (IsOver number m new → Contains longer number)
+    → ((other : ℕ) → Contains first other → Contains longer other) → AsksDue number l m → ((other : ℕ) → other ≢ number → moment_of new other ≡ moment_of old other)
+    → (other : ℕ) → Contains (take (i + 1) numbers) other → IsOver other m new → Contains longer other
+over_more numbers i number l m old new first longer within read before here kept asks stay other among over = by (eqb_tells other number)
+  where
+    by : ((nat_eq other number ≡ true) × (other ≡ number)) ⊎ ((nat_eq other number ≡ false) × (other ≢ number)) → Contains longer other
+    by (inl (e, same)) = subst (λ (n : ℕ). Contains longer n) (sym same) (here (subst (λ (n : ℕ). IsOver n m new) same over))
+    by (inr (e, apart)) = kept other (before other (earlier_among numbers i number other within read apart among)
+        (subst (λ (o : Option SessionHandle). IsSome o) (asked_apart number other l m apart asks) over.0, sym (stay other apart) ∙ over.1))
+
+pub over_first : (numbers : List ℕ) (sessions : Sessions) (dues : Dues) (longer : List ℕ) (other : ℕ) → Contains (take 0 numbers) other → IsOver other sessions dues → Contains longer other
+over_first numbers sessions dues longer other among over = absurd (omega (arith, among.1))
+
+-- all of these that are over stand among others
+pub over_all : (numbers : List ℕ) (i : ℕ) (sessions : Sessions) (dues : Dues) (longer : List ℕ) → length numbers ≤ i
+    → ((other : ℕ) → Contains (take i numbers) other → IsOver other sessions dues → Contains longer other)
+    → (other : ℕ) → Contains numbers other → IsOver other sessions dues → Contains longer other
+over_all numbers i sessions dues longer whole found other among = found other (subst (λ (xs : List ℕ). Contains xs other) (sym (take_all i numbers whole)) among)
 
 -- what is noted of these, where one more is noted
 pub noted_more : (numbers : List ℕ) (i number : ℕ) (l m : Sessions) (old new : Dues) → i < length numbers → number ≡ get_or numbers i number

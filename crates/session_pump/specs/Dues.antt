@@ -1,5 +1,5 @@
 -- When time next has something to do for the sessions of a pump.
-use Rattle.std.specs.Prelude.{◌≡◌, ◌≤◌, ◌++◌, ◌∷◌, ℕ, List, [], Option, Some, None}
+use Rattle.std.specs.Prelude.{◌≡◌, ◌≤◌, ◌++◌, ◌∷◌, ℕ, List, [], IsSome, Option, Some, None}
 use Rattle.std.specs.List.{Contains}
 use Rattle.pause_rules.specs.NextDue.{moment_of}
 use Rattle.parked_gate.specs.Passes.{Looks, known}
@@ -19,6 +19,10 @@ IsDueOf (Some handle) due = IsFirstDue (known handle.pass).seen due
 -- the moment that is noted of this number is its session's, and none is noted where no session is held under it
 abbrev pub IsNoted : ℕ → Sessions → Dues → Type 0
 IsNoted number sessions dues = IsDueOf (held sessions number) (moment_of dues number)
+
+-- a session is held under this number for which time has nothing more to do, by what is noted: as after its ending
+abbrev pub IsOver : ℕ → Sessions → Dues → Type 0
+IsOver number sessions dues = IsSome (held sessions number) × (moment_of dues number ≡ None)
 
 -- the session under this number was asked when it is due, where one is held
 pub data AsksDue (number : ℕ) (old : Sessions) : Sessions → Type 0 where

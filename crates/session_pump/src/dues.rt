@@ -4,7 +4,7 @@ ghost use Rattle.std.specs.BTreeMap.{keys};
 ghost use Rattle.std.specs.List.{All, Contains};
 ghost use Rattle.pause_rules.specs.NextDue.{IsLeastMoment, moment_of};
 ghost use Rattle.session_table.specs.Purses.{held};
-ghost use Rattle.session_pump.specs.Dues.{AskDues, AsksDue, IsNoted, IsTakenBy};
+ghost use Rattle.session_pump.specs.Dues.{AskDues, AsksDue, IsNoted, IsOver, IsTakenBy};
 
 use crate::pump::Pump;
 use bosh_types::Moment;
@@ -79,9 +79,57 @@ impl Pump {
         Ok(())
     }
 
-    // Asks the session under this number when it is due, and notes that.
-    fn note<R: Wait>(&mut self, rt: &R, number: u64) -> Result<(), AllocError>
+    /// The same for sessions that something was given to. The numbers of those for which time has nothing more to do, as after the
+    /// ending, are put behind the others that are over: they are to be served. The only error is want of memory, and then some of them
+    /// aren't noted anew.
+    pub fn note_given<R: Wait>(
+        &mut self,
+        rt: &R,
+        numbers: &[u64],
+        over: &mut Vec<u64>,
+    ) -> Result<(), AllocError>
+        ensures noted { OnOk result ((number : ℕ) → Contains numbers.now number → IsNoted number self.new.purse.sessions self.new.dues) }
+        ensures others { (number : ℕ) → (Contains numbers.now number → ⊥) → moment_of self.new.dues number ≡ moment_of self.old.dues number }
+        ensures asked { OnOk result (AskDues self.old.purse.sessions numbers.now self.new.purse.sessions) }
+        ensures over { OnOk result ((number : ℕ) → Contains numbers.now number → IsOver number self.new.purse.sessions self.new.dues → Contains over.new.items number) }
+        ensures kept { (number : ℕ) → Contains over.old.items number → Contains over.new.items number }
+        ensures directory { self.new.purse.directory ≡ self.old.purse.directory }
+        ensures lines { self.new.lines ≡ self.old.lines }
+        ensures hosts { self.new.hosts ≡ self.old.hosts }
+    {
+        for number in numbers {
+            self.note_one_given(rt, *number, over)?;
+        }
+        Ok(())
+    }
+
+    // Notes when the session under this number is due, or puts the number behind those that are over.
+    fn note_one_given<R: Wait>(
+        &mut self,
+        rt: &R,
+        number: u64,
+        over: &mut Vec<u64>,
+    ) -> Result<(), AllocError>
         ensures noted { OnOk result (IsNoted number self.new.purse.sessions self.new.dues) }
+        ensures others { (other : ℕ) → other ≢ number → moment_of self.new.dues other ≡ moment_of self.old.dues other }
+        ensures asked { AsksDue number self.old.purse.sessions self.new.purse.sessions }
+        ensures over { OnOk result (IsOver number self.new.purse.sessions self.new.dues → Contains over.new.items number) }
+        ensures kept { (other : ℕ) → Contains over.old.items other → Contains over.new.items other }
+        ensures directory { self.new.purse.directory ≡ self.old.purse.directory }
+        ensures lines { self.new.lines ≡ self.old.lines }
+        ensures hosts { self.new.hosts ≡ self.old.hosts }
+    {
+        let due = self.note(rt, number)?;
+        if due.is_none() && self.purse.sessions.get(&number).is_some() {
+            over.push(number)?;
+        }
+        Ok(())
+    }
+
+    // Asks the session under this number when it is due, and notes that. The moment that is noted then, if there is one.
+    fn note<R: Wait>(&mut self, rt: &R, number: u64) -> Result<Option<Moment>, AllocError>
+        ensures noted { OnOk result (IsNoted number self.new.purse.sessions self.new.dues) }
+        ensures moment { IfOk result (λ due. due ≡ moment_of self.new.dues number) }
         ensures others { (other : ℕ) → other ≢ number → moment_of self.new.dues other ≡ moment_of self.old.dues other }
         ensures asked { AsksDue number self.old.purse.sessions self.new.purse.sessions }
         ensures directory { self.new.purse.directory ≡ self.old.purse.directory }
@@ -90,7 +138,7 @@ impl Pump {
     {
         if self.purse.sessions.get(&number).is_none() {
             self.dues.clear(number);
-            return Ok(());
+            return Ok(None);
         }
         let due = self.purse.due(rt, number);
         put_due(&mut self.dues, number, due)
@@ -118,17 +166,25 @@ fn take_due<R: Wait>(
     unreachable!()
 }
 
-// Notes the moment of a number, or that it has none. The only error is want of memory, and then all is as it was.
-fn put_due(dues: &mut DueIndex, number: u64, due: Option<Moment>) -> Result<(), AllocError>
+// Notes the moment of a number, or that it has none; that is handed back. The only error is want of memory, and then all is as it was.
+fn put_due(
+    dues: &mut DueIndex,
+    number: u64,
+    due: Option<Moment>,
+) -> Result<Option<Moment>, AllocError>
     ensures put { OnOk result (moment_of dues.new number ≡ due) }
+    ensures moment { IfOk result (λ moment. moment ≡ due) }
     ensures others { (other : ℕ) → other ≢ number → moment_of dues.new other ≡ moment_of dues.old other }
     ensures err { OnErr result (dues.new ≡ dues.old) }
 {
     match due {
-        Some(moment) => dues.set(number, moment),
+        Some(moment) => {
+            dues.set(number, moment)?;
+            Ok(Some(moment))
+        }
         None => {
             dues.clear(number);
-            Ok(())
+            Ok(None)
         }
     }
 }

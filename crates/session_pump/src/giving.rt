@@ -92,7 +92,7 @@ fn give_stanza<R: Wait, C: Clock, B: Bell>(
     }
 }
 
-// What a session replied to a stanza. Where it took it, those who wait for the session look again.
+// What a session replied to a stanza. Where it took it, or has ended, as it may by this very call, those who wait for it look again.
 fn answered<B: Bell>(bell: &mut B, number: u64, reply: Reply) -> Giving
     requires { (taken : Taken) × (reply ≡ replies.Back taken) }
     ensures done { result ≡ Giving.Done → (taken : Taken) × (reply ≡ replies.Back taken) × (taken ≢ takings.Full) }
@@ -105,7 +105,10 @@ fn answered<B: Bell>(bell: &mut B, number: u64, reply: Reply) -> Giving
             bell.ring(BellKey(number));
             Giving::Done
         }
-        Reply::Back(Taken::Over) => Giving::Done,
+        Reply::Back(Taken::Over) => {
+            bell.ring(BellKey(number));
+            Giving::Done
+        }
         Reply::Arrive(_) => unreachable!(),
         Reply::BackClosed(_) => unreachable!(),
         Reply::Tick(_) => unreachable!(),
