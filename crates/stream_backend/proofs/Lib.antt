@@ -1,0 +1,6 @@
+mod FlowLemmas
+mod ToldLemmas
+mod LineLemmas
+mod PlaceLemmas
+mod TiedLemmas
+mod PollLemmas

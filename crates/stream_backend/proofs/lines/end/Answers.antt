@@ -1,0 +1,10 @@
+use Rattle.std.proofs.Common.{◌≡◌, ◌<◌, List, length, get_or, subst}
+use Rattle.stream_backend.specs.Lines.{Line}
+use Rattle.stream_backend.specs.Serving.{ClosesLine}
+use Rattle.stream_backend.proofs.PlaceLemmas.{on_wire_done}
+use Rattle.stream_backend.proofs.lines.end.Goals as goal
+
+pub returns-in-Some-clause-ok : goal.returns-in-Some-clause-ok
+returns-in-Some-clause-ok g c =
+    let there = subst (λ (xs : List Line). (c.in-Some.at < length xs) × ((d : Line) → (get_or xs c.in-Some.at d).wire ≡ c.args.wire)) c.deref.ensures.value c.in-Some.ensures.some in
+    on_wire_done c.args.lines.now.items c.in-Some.at c.args.wire (ClosesLine c.args.now) c.index_mut.result.now c.end_at.new.line c.end_at.result c.requires there.0 there.1 c.index_mut.ensures.value c.end_at.ensures.ok
