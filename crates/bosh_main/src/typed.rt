@@ -2,6 +2,7 @@
 ghost use Rattle.std.specs.Prelude.{None};
 
 use bosh_ports::{Bell, BellKey, Got, RealBell, Source, Woken};
+use bosh_types::limits::LONGEST_LINE;
 use client_run::{OVER, Ready};
 use std::alloc::{AllocError, Global};
 use std::collections::VecDeque;
@@ -9,8 +10,11 @@ use std::io::Read;
 use std::rt::Clock;
 use std::sync::{Arc, Condvar, Mutex, Wait};
 
-/// How many bytes may wait.
-const ROOM: usize = 65536;
+/// How many bytes may wait before no more are read: the longest line and its LF. So a line is taken once all of it came, or too much.
+const ROOM: usize = LONGEST_LINE + 1;
+
+/// How many bytes are read at once.
+const PIECE: usize = 4096;
 
 /// What was read and not taken yet.
 #[derive(Drop)]
@@ -72,7 +76,7 @@ pub struct Shelf {
 impl Shelf {
     /// An empty one, with its room from the start.
     pub fn new(alloc: Global) -> Result<Arc<Shelf>, AllocError> {
-        let bytes = VecDeque::with_capacity(alloc, ROOM)?;
+        let bytes = VecDeque::with_capacity(alloc, ROOM + PIECE)?;
         let pile = Pile {
             bytes,
             lines: 0,
@@ -139,7 +143,7 @@ pub fn read_to_shelf<R: Wait, I: Read, B: Bell>(
     shelf: &Shelf,
     bell: &mut B,
 ) {
-    let mut room = [0u8; 4096];
+    let mut room = [0u8; PIECE];
     for _ in rt.forever() {
         match reader.read(&mut room) {
             Ok(0) => {
