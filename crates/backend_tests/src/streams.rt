@@ -176,22 +176,45 @@ fn wires_go_beside_each_other(rt: HostRuntime) -> Result<(), Fail> {
 fn one_of_many_has_news(rt: HostRuntime) -> Result<(), Fail> {
     let mut texts = Vec::new(rt.alloc());
     let mut pauses: Vec<&[u64]> = Vec::new(rt.alloc());
-    for number in 0..64 {
-        texts.push(if number == 50 {
+    for number in 0..256 {
+        texts.push(if number == 200 {
             "<stream:stream><a/>"
         } else {
             ""
         })?;
-        pauses.push(if number == 50 { &[21, 21] } else { &[2, 3] })?;
+        pauses.push(if number == 200 { &[21, 21] } else { &[2, 3] })?;
     }
     let mut server = server(rt.alloc(), &texts, &pauses)?;
-    for number in 0..64 {
+    for number in 0..256 {
         let _ = server.open(wire(number), b"a.example");
     }
     let told = told(rt.alloc(), &mut server)?;
     assert_eq!(rt;
         told.as_slice(),
-        b"50 <a xmlns='jabber:client'/>\n".as_slice()
+        b"200 <a xmlns='jabber:client'/>\n".as_slice()
     );
+    Ok(())
+}
+
+// What a link doesn't take is owed up to 4,194,304 bytes, and with one item more the wire has failed.
+#[test]
+fn what_is_owed_has_a_limit(rt: HostRuntime) -> Result<(), Fail> {
+    let mut never = Vec::new(rt.alloc());
+    for call in 1..100 {
+        never.push(call)?;
+    }
+    let long = "x".repeat(rt.alloc(), 900_000)?;
+    let long = format!(in rt.alloc(); "<a>{long}</a>")?;
+    let rows = [(4, ""), (5, "1 RemoteConnectionFailed\n")];
+    for (items, want) in rows {
+        let mut server = server(rt.alloc(), &["<stream:stream>"], &[never.as_slice()])?;
+        let _ = server.open(wire(1), b"a.example");
+        for _ in 0..items {
+            let passed = server.pass(wire(1), &item(rt.alloc(), long.as_str())?);
+            assert_eq!(rt; passed, Passed::Done);
+        }
+        let told = told(rt.alloc(), &mut server)?;
+        assert_eq!(rt; told.as_slice(), want.as_bytes(), "{items}");
+    }
     Ok(())
 }

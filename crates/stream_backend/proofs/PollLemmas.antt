@@ -6,7 +6,7 @@ use Rattle.std.proofs.lemmas.Grind.{elements}
 use Rattle.std.proofs.lemmas.List.{get_or-set_other, get_or-set_same, length-set, length-append}
 use Rattle.bosh_types.specs.declared.ending.Closing.{Closing}
 use Rattle.server_ports.specs.Counts as ports
-use Rattle.xmpp_backend.specs.Told.{GivesStanza, Told, given_too, has_wire}
+use Rattle.xmpp_backend.specs.Told.{GivesStanza, Told, given_too, has_wire, wires_of}
 use Rattle.xmpp_backend.specs.declared.backend.Given.TheVariants as given
 use Rattle.xmpp_backend.specs.declared.backend.Polled.{Polled}
 use Rattle.xmpp_backend.specs.declared.backend.Polled.TheVariants as polled
@@ -120,8 +120,8 @@ module _ (wire : ℕ) (look : Look) (told : Told) (xs zs : List Line) (h : IsSer
   tied : IsTied told (get_or xs o.at nowhere)
   tied = h.tied o.at nowhere o.there
 
-  was_opened : Contains told.opened wire
-  was_opened = subst (λ (w : ℕ). Contains told.opened w) (o.wire_is nowhere) tied.opened
+  was_opened : Contains (wires_of told.opened) wire
+  was_opened = subst (λ (w : ℕ). Contains (wires_of told.opened) w) (o.wire_is nowhere) tied.opened
 
   is_unheld : (get_or xs o.at nowhere).held ≡ false → has_wire wire told.held ≡ false
   is_unheld e = ap (λ (w : ℕ). has_wire w told.held) (sym (o.wire_is nowhere)) ∙ sym tied.held ∙ e

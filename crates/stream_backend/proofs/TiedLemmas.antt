@@ -6,10 +6,11 @@ use Rattle.std.proofs.lemmas.List.{map-append}
 use Rattle.std.proofs.lemmas.List.Elements.{Contains-append_left, Contains-push, filter-append}
 use Rattle.bosh_types.specs.declared.ending.Closing.{Closing}
 use Rattle.bosh_types.specs.declared.inward.Inward.{Inward}
-use Rattle.xmpp_backend.specs.Told.{Told, closed_too, given_too, has_wire, held_too, on_wire, opened_too, passed_too, resumed_too}
+use Rattle.xmpp_backend.specs.Told.{Told, closed_too, given_too, has_wire, held_too, on_wire, opened_too, passed_too, resumed_too, wires_of}
 use Rattle.xmpp_backend.specs.declared.backend.Given.{Given}
 use Rattle.xmpp_backend.specs.declared.backend.Given.TheVariants as given
 use Rattle.xmpp_backend.proofs.DuesLemmas.{with_other, with_same, without_other, without_same}
+use Rattle.xmpp_backend.proofs.OpenedLemmas.{wires_and}
 use Rattle.stream_backend.specs.declared.looking.Look.{Look}
 use Rattle.stream_backend.specs.declared.looking.Look.TheVariants as looks
 use Rattle.stream_backend.specs.declared.stage.Stage.{Stage}
@@ -49,9 +50,9 @@ tied_in : (told : Told) (line : Line) → IsTied told line → IsTiedIn told lin
 tied_in told line t = (t.stage, t.stream)
 
 -- a line of the same wire
-tied_to : (told : Told) (old new : Line) → new.wire ≡ old.wire → new.before ≡ old.before → Contains told.opened old.wire → new.held ≡ has_wire old.wire told.held → IsTiedIn told old.before old.wire new.stage → IsTied told new
+tied_to : (told : Told) (old new : Line) → new.wire ≡ old.wire → new.before ≡ old.before → Contains (wires_of told.opened) old.wire → new.held ≡ has_wire old.wire told.held → IsTiedIn told old.before old.wire new.stage → IsTied told new
 tied_to told old new w b o h k = record {
-  opened = subst (λ (v : ℕ). Contains told.opened v) (sym w) o;
+  opened = subst (λ (v : ℕ). Contains (wires_of told.opened) v) (sym w) o;
   held = h ∙ ap (λ (v : ℕ). has_wire v told.held) (sym w);
   stage = k.0;
   stream = subst (λ (v : ℕ). IsTiedStage told new.before v new.stage) (sym w) (subst (λ (t : Told). IsTiedStage told t old.wire new.stage) (sym b) k.1);
@@ -130,7 +131,7 @@ stage_closes told told' before wire now stages.Over new k t = into told' before 
 
 -- what is told of other wires stays
 pub record Beside (wire : ℕ) (told told' : Told) : Type 0 where
-  pub opened : (v : ℕ) → Contains told.opened v → Contains told'.opened v
+  pub opened : (v : ℕ) → Contains (wires_of told.opened) v → Contains (wires_of told'.opened) v
   pub passed : (v : ℕ) → v ≢ wire → on_wire v told'.passed ≡ on_wire v told.passed
   pub given : (v : ℕ) → v ≢ wire → on_wire v told'.given ≡ on_wire v told.given
   pub held : (v : ℕ) → v ≢ wire → has_wire v told'.held ≡ has_wire v told.held
@@ -164,8 +165,8 @@ held_beside wire told = record { opened = λ v k. k; passed = λ v a. refl; give
 resumed_beside : (wire : ℕ) (told : Told) → Beside wire told (resumed_too wire told)
 resumed_beside wire told = record { opened = λ v k. k; passed = λ v a. refl; given = λ v a. refl; held = λ v a. without_other v wire a told.held }
 
-opened_beside : (wire : ℕ) (told : Told) → Beside wire told (opened_too wire told)
-opened_beside wire told = record { opened = λ v k. Contains-append_left told.opened (wire ∷ []) v k; passed = λ v a. refl; given = λ v a. refl; held = λ v a. without_other v wire a told.held }
+opened_beside : (wire : ℕ) (name : List ℕ) (told : Told) → Beside wire told (opened_too wire name told)
+opened_beside wire name told = record { opened = λ v k. subst (λ (ws : List ℕ). Contains ws v) (sym (wires_and told.opened wire name)) (Contains-append_left (wires_of told.opened) (wire ∷ []) v k); passed = λ v a. refl; given = λ v a. refl; held = λ v a. without_other v wire a told.held }
 
 -- ---- whole lists
 
@@ -315,29 +316,29 @@ serving_wants wire told xs ys h o =
 
 -- ---- a wire is opened
 
-stage_begins : (wire : ℕ) (to : List ℕ) (told : Told) (stage : Stage Flow) → IsWatched to stage → IsTiedIn (opened_too wire told) told wire stage
-stage_begins wire to told (stages.Open f) k = (
+stage_begins : (wire : ℕ) (to name : List ℕ) (told : Told) (stage : Stage Flow) → IsWatched to stage → IsTiedIn (opened_too wire name told) told wire stage
+stage_begins wire to name told (stages.Open f) k = (
   k.open_,
   record {
     passed = sym (append-nil (on_wire wire told.passed)) ∙ ap (λ (xs : List Inward). on_wire wire told.passed ++ xs) (sym k.passed);
     given = sym (append-nil (on_wire wire told.given)) ∙ ap (λ (xs : List (List ℕ)). on_wire wire told.given ++ map (λ (x : List ℕ). given.Stanza x) xs) (sym k.came);
   },
 )
-stage_begins wire to told (stages.Leaving f until) k = absurd k
-stage_begins wire to told stages.Failed k = (tt, tt)
-stage_begins wire to told stages.Over k = absurd k
+stage_begins wire to name told (stages.Leaving f until) k = absurd k
+stage_begins wire to name told stages.Failed k = (tt, tt)
+stage_begins wire to name told stages.Over k = absurd k
 
-pub serving_opened : (wire : ℕ) (told : Told) (to : List ℕ) (net net' : ports.Counts) (xs ys : List Line) → IsServing told xs → BeginsIn wire told to net net' xs ys → IsServing (opened_too wire told) ys
-serving_opened wire told to net net' xs ys h o = record { tied = λ k d n. tied_at k d n (cases_eq k o.at); apart = λ j k d nj nk e. apart_at j k d nj nk e (cases_eq j o.at) (cases_eq k o.at) }
+pub serving_opened : (wire : ℕ) (name : List ℕ) (told : Told) (to : List ℕ) (net net' : ports.Counts) (xs ys : List Line) → IsServing told xs → BeginsIn wire told to net net' xs ys → IsServing (opened_too wire name told) ys
+serving_opened wire name told to net net' xs ys h o = record { tied = λ k d n. tied_at k d n (cases_eq k o.at); apart = λ j k d nj nk e. apart_at j k d nj nk e (cases_eq j o.at) (cases_eq k o.at) }
   where
-    stage_new : (s : Stage Flow) → (IsWatched to s × (net'.dialled ≡ added o.begins.mid.dialled 1)) ⊎ ((s ≡ stages.Failed) × HasFailed o.begins.mid net') → IsTiedIn (opened_too wire told) told wire s
-    stage_new s (inl k) = stage_begins wire to told s k.0
-    stage_new s (inr k) = into (opened_too wire told) told wire stages.Failed s k.0 (tt, tt)
+    stage_new : (s : Stage Flow) → (IsWatched to s × (net'.dialled ≡ added o.begins.mid.dialled 1)) ⊎ ((s ≡ stages.Failed) × HasFailed o.begins.mid net') → IsTiedIn (opened_too wire name told) told wire s
+    stage_new s (inl k) = stage_begins wire to name told s k.0
+    stage_new s (inr k) = into (opened_too wire name told) told wire stages.Failed s k.0 (tt, tt)
 
-    line_new : IsTied (opened_too wire told) o.line
+    line_new : IsTied (opened_too wire name told) o.line
     line_new =
         let e = o.begins.begins.is in
-        tied_to (opened_too wire told) (record { wire = wire; stage = o.line.stage; held = false; noisy = true; before = told }) o.line (ap (λ (l : Line). l.wire) e) (ap (λ (l : Line). l.before) e) (Contains-push told.opened wire)
+        tied_to (opened_too wire name told) (record { wire = wire; stage = o.line.stage; held = false; noisy = true; before = told }) o.line (ap (λ (l : Line). l.wire) e) (ap (λ (l : Line). l.before) e) (subst (λ (ws : List ℕ). Contains ws wire) (sym (wires_and told.opened wire name)) (Contains-push (wires_of told.opened) wire))
         (ap (λ (l : Line). l.held) e ∙ sym (without_same wire told.held)) (stage_new o.line.stage o.begins.begins.begins.is)
 
     wire_new : (d : Line) → (get_or ys o.at d).wire ≡ wire
@@ -346,10 +347,10 @@ serving_opened wire told to net net' xs ys h o = record { tied = λ k d n. tied_
     other_wire : (k : ℕ) (d : Line) → k < length ys → k ≢ o.at → (get_or ys k d).wire ≢ wire
     other_wire k d n a e = o.apart k d (o.known k n a) a (sym (ap (λ (l : Line). l.wire) (o.others k d n a)) ∙ e)
 
-    tied_at : (k : ℕ) (d : Line) → k < length ys → (k ≡ o.at) ⊎ (k ≡ o.at → ⊥) → IsTied (opened_too wire told) (get_or ys k d)
-    tied_at k d n (inl e) = subst (λ (j : ℕ). IsTied (opened_too wire told) (get_or ys j d)) (sym e) (subst (IsTied (opened_too wire told)) (sym (o.line_is d)) line_new)
+    tied_at : (k : ℕ) (d : Line) → k < length ys → (k ≡ o.at) ⊎ (k ≡ o.at → ⊥) → IsTied (opened_too wire name told) (get_or ys k d)
+    tied_at k d n (inl e) = subst (λ (j : ℕ). IsTied (opened_too wire name told) (get_or ys j d)) (sym e) (subst (IsTied (opened_too wire name told)) (sym (o.line_is d)) line_new)
     tied_at k d n (inr a) =
-        subst (IsTied (opened_too wire told)) (sym (o.others k d n a)) (tied_beside wire told (opened_too wire told) (get_or xs k d) (opened_beside wire told) (o.apart k d (o.known k n a) a) (h.tied k d (o.known k n a)))
+        subst (IsTied (opened_too wire name told)) (sym (o.others k d n a)) (tied_beside wire told (opened_too wire name told) (get_or xs k d) (opened_beside wire name told) (o.apart k d (o.known k n a) a) (h.tied k d (o.known k n a)))
 
     apart_at : (j k : ℕ) (d : Line) → j < length ys → k < length ys → (get_or ys j d).wire ≡ (get_or ys k d).wire → (j ≡ o.at) ⊎ (j ≡ o.at → ⊥) → (k ≡ o.at) ⊎ (k ≡ o.at → ⊥) → j ≡ k
     apart_at j k d nj nk e (inl x) (inl y) = x ∙ sym y

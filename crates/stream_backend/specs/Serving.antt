@@ -4,7 +4,7 @@ use Rattle.bosh_types.specs.declared.inward.Inward.{Inward}
 use Rattle.server_ports.specs.Counts as ports
 use Rattle.server_ports.specs.Events.{Event}
 use Rattle.xmpp_backend.specs.Counts.{Counts, counted_on}
-use Rattle.xmpp_backend.specs.Told.{Told, closed_too, given_too, has_wire, held_too, on_wire, opened_too, passed_too, resumed_too}
+use Rattle.xmpp_backend.specs.Told.{Told, closed_too, given_too, has_wire, held_too, on_wire, opened_too, passed_too, resumed_too, wires_of}
 use Rattle.xmpp_backend.specs.declared.backend.Given.TheVariants as given
 use Rattle.xmpp_backend.specs.declared.backend.Passed.{Passed}
 use Rattle.xmpp_backend.specs.declared.backend.Passed.TheVariants as passed
@@ -42,7 +42,7 @@ IsTiedStage told before wire stages.Over = Unit {0}
 
 -- a line is of a wire that was opened, and is held where that is told
 pub record IsTied (told : Told) (line : Line) : Type 0 where
-  pub opened : Contains told.opened line.wire
+  pub opened : Contains (wires_of told.opened) line.wire
   pub held : line.held ≡ has_wire line.wire told.held
   pub stage : IsStage line.stage
   pub stream : IsTiedStage told line.before line.wire line.stage
@@ -151,7 +151,7 @@ DoneOrSame old new passed.NoMemory told lines = (new.told ≡ old.told) × (new.
 
 -- a wire is opened
 abbrev pub OpensWire : ℕ → List ℕ → Serving → Serving → Passed → Type 0
-OpensWire wire to old new result = DoneOrSame old new result (opened_too wire old.told) (BeginsIn wire old.told to old.net new.net old.lines new.lines)
+OpensWire wire to old new result = DoneOrSame old new result (opened_too wire to old.told) (BeginsIn wire old.told to old.net new.net old.lines new.lines)
 
 -- an item is passed on the stream of its wire, where that is open
 abbrev pub PassesOn : ℕ → Inward → Serving → Serving → Passed → Type 0
@@ -208,8 +208,8 @@ answers_after polled.NoMemory answers = answers
 
 -- what a poll gives, it gives on a wire that was opened and isn't held
 abbrev pub GivesOn : Told → Polled → Type 0
-GivesOn told (polled.Out wire text) = Contains told.opened wire × (has_wire wire told.held ≡ false)
-GivesOn told (polled.Closed wire closing) = Contains told.opened wire × (has_wire wire told.held ≡ false)
+GivesOn told (polled.Out wire text) = Contains (wires_of told.opened) wire × (has_wire wire told.held ≡ false)
+GivesOn told (polled.Closed wire closing) = Contains (wires_of told.opened) wire × (has_wire wire told.held ≡ false)
 GivesOn told polled.Nothing = Unit {0}
 GivesOn told polled.Failed = Unit {0}
 GivesOn told polled.NoMemory = Unit {0}

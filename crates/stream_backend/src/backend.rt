@@ -13,7 +13,7 @@ use crate::lists::Lists;
 use crate::looking::{Look, Sight, look_round};
 use crate::stage::Stage;
 use crate::watch::Watch;
-use bosh_types::{Inward, Wire};
+use bosh_types::{Inward, Text, Wire};
 use server_ports::{Clock, Network};
 use std::alloc::{AllocError, Global};
 use std::marker::Model;
@@ -224,6 +224,9 @@ where
     fn open(&mut self, wire: Wire, to: &[u8]) -> Passed
         ensures { OpensWire wire to.now self.old self.new result }
     {
+        let Ok(name) = to.to_vec(self.alloc) else {
+            return Passed::NoMemory;
+        };
         let Ok(ends) = Ends::new(self.alloc, to) else {
             return Passed::NoMemory;
         };
@@ -240,7 +243,7 @@ where
             ends,
             &self.lists,
         );
-        self.lists.open(wire);
+        self.lists.open(wire, &Text::from_vec(name));
         Passed::Done
     }
 

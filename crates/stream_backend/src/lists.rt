@@ -2,7 +2,7 @@
 ghost use Rattle.std.specs.Prelude.{◌≡◌, []};
 ghost use Rattle.xmpp_backend.specs.Told.{opened_too, passed_too, given_too, closed_too, held_too, resumed_too};
 
-use bosh_types::{Inward, Wire};
+use bosh_types::{Inward, Text, Wire};
 use http_server::Log;
 use std::marker::Model;
 use xmpp_backend::Given;
@@ -11,7 +11,7 @@ use xmpp_backend::Given;
 // (`false`), each in the order of the calls.
 #[derive(Drop)]
 pub(crate) struct Lists {
-    opened: Log<Wire, Wire>,
+    opened: Log<Wire, Text>,
     passed: Log<Wire, Inward>,
     given: Log<Wire, Given>,
     closed: Log<Wire, Wire>,
@@ -26,7 +26,7 @@ impl Model for Lists {
     ghost Value = { Told };
 
     ghost view = { λ l. record {
-      opened = map (λ entry. entry.0) l.opened.items;
+      opened = l.opened.items;
       passed = l.passed.items;
       given = l.given.items;
       closed = map (λ entry. entry.0) l.closed.items;
@@ -47,10 +47,10 @@ impl Lists {
         }
     }
 
-    pub(crate) fn open(&mut self, wire: Wire)
-        ensures { self.new ≡ opened_too wire self.old }
+    pub(crate) fn open(&mut self, wire: Wire, to: &Text)
+        ensures { self.new ≡ opened_too wire to.now self.old }
     {
-        self.opened = self.opened.and(&wire, &wire);
+        self.opened = self.opened.and(&wire, to);
         self.held = self.held.and(&wire, &false);
     }
 

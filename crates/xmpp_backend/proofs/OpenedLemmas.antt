@@ -2,13 +2,14 @@
 use Rattle.std.proofs.Common.{◌≡◌, ℕ, ◌==◌, true, false, not, List, [], ◌∷◌, ◌++◌, filter, length, refl, sym, subst, ap, ◌∙◌, arith, if◌then◌else◌}
 use Rattle.std.specs.Prelude.{Contains, All, IsTrue}
 use Rattle.std.proofs.lemmas.List.Elements.{All-filter, All-weaker, All-push, All-tail, All-contains, All-append, Contains-append_left, Contains-append_right}
+use Rattle.std.proofs.lemmas.List.{map-append}
 use Rattle.std.proofs.lemmas.Map.Views.{Contains-from_any}
 use Rattle.std.proofs.lemmas.Bool.{eqb-true}
 use Rattle.bosh_types.specs.declared.ending.Closing.{Closing}
 use Rattle.bosh_types.specs.declared.ending.Closing.TheVariants.{RemoteConnectionFailed}
 use Rattle.xmpp_backend.specs.Dues.{Due, Dues, OwedText, closed_from, has_room, held_from, is_on, opened_from, owes, owes_all, put_at, resumed_from}
 use Rattle.xmpp_backend.specs.Owing.{AllWereOpened, GivesOnOpened, Owing}
-use Rattle.xmpp_backend.specs.Told.{has_wire, with_wire}
+use Rattle.xmpp_backend.specs.Told.{has_wire, wires_of, with_wire}
 use Rattle.xmpp_backend.specs.declared.backend.Given.{Given}
 use Rattle.xmpp_backend.specs.declared.backend.Given.TheVariants as given
 use Rattle.xmpp_backend.specs.declared.backend.Polled.{Polled}
@@ -19,6 +20,10 @@ use Rattle.xmpp_backend.specs.declared.hold.Place.TheVariants as places
 -- the last of a list is in it
 Contains-last : (xs : List ℕ) (x : ℕ) → Contains (xs ++ x ∷ []) x
 Contains-last xs x = Contains-append_right xs (x ∷ []) x (0, omega arith, refl)
+
+-- one opening more
+pub wires_and : (opened : List (ℕ × List ℕ)) (wire : ℕ) (to : List ℕ) → wires_of (opened ++ (wire, to) ∷ []) ≡ wires_of opened ++ wire ∷ []
+wires_and opened wire to = map-append (λ (o : ℕ × List ℕ). o.0) opened ((wire, to) ∷ [])
 
 abbrev WasOpened : List ℕ → Due → Type 0
 WasOpened opened due = Contains opened due.0
@@ -119,7 +124,7 @@ opened_same opened opened' d d' first second were =
 
 -- what is given is given on a wire that was opened
 pub gives_opened : (owing : Owing) (wire : ℕ) (what : Given) (result : Polled) → ((text : List ℕ) → what ≡ given.Stanza text → result ≡ polled.Out wire text)
-    → ((closing : Closing) → what ≡ given.Closed closing → result ≡ polled.Closed wire closing) → Contains owing.done.opened wire → GivesOnOpened owing result
+    → ((closing : Closing) → what ≡ given.Closed closing → result ≡ polled.Closed wire closing) → Contains (wires_of owing.done.opened) wire → GivesOnOpened owing result
 gives_opened owing wire (given.Stanza text) result stanza closed is = subst (GivesOnOpened owing) (sym (stanza text refl)) is
 gives_opened owing wire (given.Closed closing) result stanza closed is = subst (GivesOnOpened owing) (sym (closed closing refl)) is
 

@@ -4,3 +4,5 @@ pub mod Dues
 pub mod Owing
 pub mod Kinds
 pub mod Script
+pub mod InMemory
+pub mod Either

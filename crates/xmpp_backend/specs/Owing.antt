@@ -3,7 +3,7 @@ use Rattle.std.specs.Prelude.{◌≡◌, ℕ, Bool, false, List, [], ◌∷◌, 
 use Rattle.bosh_types.specs.declared.inward.Inward.{Inward}
 use Rattle.xmpp_backend.specs.Counts.{Counts, counted_on}
 use Rattle.xmpp_backend.specs.Dues.{Due, Dues, OwedText, closed_from, held_from, opened_from, owes_all, resumed_from}
-use Rattle.xmpp_backend.specs.Told.{Done, Told, has_wire, told_with}
+use Rattle.xmpp_backend.specs.Told.{Done, Told, has_wire, told_with, wires_of}
 use Rattle.xmpp_backend.specs.declared.backend.Given.{Given}
 use Rattle.xmpp_backend.specs.declared.backend.Given.TheVariants as given
 use Rattle.xmpp_backend.specs.declared.backend.Passed.{Passed}
@@ -33,8 +33,8 @@ abbrev pub is_open : Owing → ℕ → Bool
 is_open owing wire = has_wire wire owing.dues.wires
 
 -- the wire is open from now on
-abbrev pub opened : ℕ → Owing → Owing
-opened wire owing = record owing { done = record owing.done { opened = owing.done.opened ++ wire ∷ [] }; dues = opened_from wire owing.dues }
+abbrev pub opened : ℕ → List ℕ → Owing → Owing
+opened wire to owing = record owing { done = record owing.done { opened = owing.done.opened ++ (wire, to) ∷ [] }; dues = opened_from wire owing.dues }
 
 -- the item was passed, and these stanzas are owed after the others for it
 abbrev pub passed_for : ℕ → Inward → List OwedText → Owing → Owing
@@ -89,8 +89,8 @@ PaysFirst old new polled.NoMemory = ⊥
 
 -- what a poll gives, it gives on a wire that was opened
 abbrev pub GivesOnOpened : Owing → Polled → Type 0
-GivesOnOpened owing (polled.Out wire text) = Contains owing.done.opened wire
-GivesOnOpened owing (polled.Closed wire closing) = Contains owing.done.opened wire
+GivesOnOpened owing (polled.Out wire text) = Contains (wires_of owing.done.opened) wire
+GivesOnOpened owing (polled.Closed wire closing) = Contains (wires_of owing.done.opened) wire
 GivesOnOpened owing polled.Nothing = Unit {0}
 GivesOnOpened owing polled.Failed = Unit {0}
 GivesOnOpened owing polled.NoMemory = Unit {0}

@@ -10,10 +10,11 @@ use Rattle.xmpp_backend.specs.declared.backend.Passed.TheVariants as passed
 use Rattle.xmpp_backend.specs.declared.backend.Polled.{Polled}
 use Rattle.xmpp_backend.specs.declared.backend.Polled.TheVariants as polled
 
--- the wires for which `open` answered Done, the items for which `pass` did, what polls gave, closings among it, and the wires
--- for which `close` answered Done, each in the order of the calls; and the wires that are held now
+-- the wires for which `open` answered Done, each with the name of the host that it was opened to, the items for which `pass` did, what
+-- polls gave, closings among it, and the wires for which `close` answered Done, each in the order of the calls; and the wires that are
+-- held now
 pub record Told : Type 0 where
-  pub opened : List ℕ
+  pub opened : List (ℕ × List ℕ)
   pub passed : List (ℕ × Inward)
   pub given : List (ℕ × Given)
   pub closed : List ℕ
@@ -21,13 +22,17 @@ pub record Told : Type 0 where
 
 -- what was done, by the calls that did it
 pub record Done : Type 0 where
-  pub opened : List ℕ
+  pub opened : List (ℕ × List ℕ)
   pub passed : List (ℕ × Inward)
   pub given : List (ℕ × Given)
   pub closed : List ℕ
 
 abbrev pub told_with : List ℕ → Done → Told
 told_with held done = record { opened = done.opened; passed = done.passed; given = done.given; closed = done.closed; held = held }
+
+-- the wires that were opened
+abbrev pub wires_of : List (ℕ × List ℕ) → List ℕ
+wires_of opened = map (λ opening. opening.0) opened
 
 abbrev pub has_wire : ℕ → List ℕ → Bool
 has_wire wire wires = list_any (λ other. other == wire) wires
@@ -50,8 +55,8 @@ abbrev pub on_wire : {A : Type 0} → ℕ → List (ℕ × A) → List A
 on_wire wire entries = map (λ entry. entry.1) (filter (λ entry. entry.0 == wire) entries)
 
 -- a wire that is opened isn't held
-abbrev pub opened_too : ℕ → Told → Told
-opened_too wire told = record told { opened = told.opened ++ wire ∷ []; held = without_wire wire told.held }
+abbrev pub opened_too : ℕ → List ℕ → Told → Told
+opened_too wire to told = record told { opened = told.opened ++ (wire, to) ∷ []; held = without_wire wire told.held }
 
 abbrev pub passed_too : ℕ → Inward → Told → Told
 passed_too wire item told = record told { passed = told.passed ++ (wire, item) ∷ [] }
@@ -69,9 +74,9 @@ held_too wire told = record told { held = with_wire wire told.held }
 abbrev pub resumed_too : ℕ → Told → Told
 resumed_too wire told = record told { held = without_wire wire told.held }
 
--- the lists are changed so, where they are told
+-- the lists are changed so, where they are told; one that tells nothing goes on telling nothing
 abbrev pub Becomes : Option Told → Option Told → (Told → Told) → Type 0
-Becomes None new change = Unit {0}
+Becomes None new change = new ≡ None
 Becomes (Some old) new change = new ≡ Some (change old)
 
 -- the lists are changed so by Done, and by no other answer
@@ -80,8 +85,8 @@ BecomesIfDone old new passed.Done change = Becomes old new change
 BecomesIfDone old new passed.Failed change = Becomes old new (λ told. told)
 BecomesIfDone old new passed.NoMemory change = Becomes old new (λ told. told)
 
-abbrev pub Opens : Option Told → Option Told → ℕ → Passed → Type 0
-Opens old new wire result = BecomesIfDone old new result (opened_too wire)
+abbrev pub Opens : Option Told → Option Told → ℕ → List ℕ → Passed → Type 0
+Opens old new wire to result = BecomesIfDone old new result (opened_too wire to)
 
 abbrev pub Passes : Option Told → Option Told → ℕ → Inward → Passed → Type 0
 Passes old new wire item result = BecomesIfDone old new result (passed_too wire item)
@@ -92,7 +97,7 @@ Closes old new wire result = BecomesIfDone old new result (closed_too wire)
 -- `open` answered Done for the wire, where that is told
 abbrev pub WasOpened : Option Told → ℕ → Type 0
 WasOpened None wire = Unit {0}
-WasOpened (Some told) wire = Contains told.opened wire
+WasOpened (Some told) wire = Contains (wires_of told.opened) wire
 
 -- the wire isn't held, where that is told
 abbrev pub IsUnheld : Option Told → ℕ → Type 0

@@ -41,7 +41,7 @@ pub trait Backend: Drop {
     ghost use Rattle.xmpp_backend.specs.Counts.{Counts, CountsPassed, CountsPolled};
     ghost use Rattle.xmpp_backend.specs.Told.{Told, Opens, Passes, Polls, Closes, Holds, Resumes, GivesStanza};
 
-    // The wires that were opened and closed, what it was passed and what its polls gave, and the wires that are held, where it
+    // The wires that were opened, with the names of their hosts, and closed, what it was passed and what its polls gave, and the wires that are held, where it
     // tells them.
     ghost told: { Self → Option Told };
 
@@ -51,7 +51,7 @@ pub trait Backend: Drop {
     /// Opens a wire to the host of this name. What is passed on a wire that isn't open is told like the rest, and nothing need
     /// be given for it.
     fn open(&mut self, wire: Wire, to: &[u8]) -> Passed
-        ensures lists { Opens (told self.old) (told self.new) wire result }
+        ensures lists { Opens (told self.old) (told self.new) wire to.now result }
         ensures counts { CountsPassed (counts self.old) (counts self.new) result };
 
     /// Passes an item on a wire. The number of the stream within the item is not looked at.

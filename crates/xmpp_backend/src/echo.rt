@@ -60,10 +60,10 @@ impl Backend for Echo {
 
     ghost counts = { λ e. e.counts };
 
-    fn open(&mut self, wire: Wire, _to: &[u8]) -> Passed
-        ensures { IsDoneOrSame self.old self.new (opened wire self.old) result }
+    fn open(&mut self, wire: Wire, to: &[u8]) -> Passed
+        ensures { IsDoneOrSame self.old self.new (opened wire to.now self.old) result }
     {
-        match self.ledger.open(wire) {
+        match self.ledger.open(self.alloc, wire, to) {
             Ok(()) => Passed::Done,
             Err(AllocError) => Passed::NoMemory,
         }

@@ -11,7 +11,7 @@ use crate::dues::Dues;
 use crate::lists::Lists;
 use crate::owed::Owed;
 use crate::tally::Tally;
-use bosh_types::{Inward, SharedText, Wire};
+use bosh_types::{Inward, SharedText, Text, Wire};
 use std::alloc::{AllocError, Global};
 use std::collections::VecDeque;
 use std::marker::Model;
@@ -25,12 +25,13 @@ pub(crate) struct Ledger {
 
 impl Model for Ledger {
     ghost use Rattle.xmpp_backend.specs.Owing.{Owing, AllWereOpened};
+    ghost use Rattle.xmpp_backend.specs.Told.{wires_of};
 
     ghost Value = { Owing };
 
     ghost view = { λ l. record { done = l.lists; counts = l.tally; dues = l.dues.dues } };
 
-    ghost invariant = { λ l. AllWereOpened l.lists.opened l.dues.dues };
+    ghost invariant = { λ l. AllWereOpened (wires_of l.lists.opened) l.dues.dues };
 }
 
 impl Ledger {
@@ -62,13 +63,14 @@ impl Ledger {
         self.dues.is_open(wire)
     }
 
-    // The wire is open from now on.
-    pub(crate) fn open(&mut self, wire: Wire) -> Result<(), AllocError>
-        ensures ok { OnOk result (self.new ≡ opened wire self.old) }
+    // The wire is open to the host of this name from now on.
+    pub(crate) fn open(&mut self, alloc: Global, wire: Wire, to: &[u8]) -> Result<(), AllocError>
+        ensures ok { OnOk result (self.new ≡ opened wire to.now self.old) }
         ensures err { OnErr result (self.new ≡ self.old) }
     {
+        let to = Text::from_vec(to.to_vec(alloc)?);
         self.dues.open(wire)?;
-        self.lists.open(wire);
+        self.lists.open(wire, &to);
         Ok(())
     }
 

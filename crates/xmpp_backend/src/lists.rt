@@ -2,14 +2,14 @@
 ghost use Rattle.std.specs.Prelude.{◌≡◌, []};
 
 use crate::backend::Given;
-use bosh_types::{Inward, Wire};
+use bosh_types::{Inward, Text, Wire};
 use http_server::Log;
 use std::marker::Model;
 
 // The wires that were opened and closed, what was passed and what polls gave.
 #[derive(Drop)]
 pub(crate) struct Lists {
-    opened: Log<Wire, Wire>,
+    opened: Log<Wire, Text>,
     passed: Log<Wire, Inward>,
     given: Log<Wire, Given>,
     closed: Log<Wire, Wire>,
@@ -21,7 +21,7 @@ impl Model for Lists {
 
     ghost Value = { Done };
 
-    ghost view = { λ l. record { opened = map (λ entry. entry.0) l.opened.items; passed = l.passed.items; given = l.given.items; closed = map (λ entry. entry.0) l.closed.items } };
+    ghost view = { λ l. record { opened = l.opened.items; passed = l.passed.items; given = l.given.items; closed = map (λ entry. entry.0) l.closed.items } };
 }
 
 impl Lists {
@@ -38,10 +38,10 @@ impl Lists {
         }
     }
 
-    pub(crate) fn open(&mut self, wire: Wire)
-        ensures { self.new ≡ record self.old { opened = self.old.opened ++ wire ∷ [] } }
+    pub(crate) fn open(&mut self, wire: Wire, to: &Text)
+        ensures { self.new ≡ record self.old { opened = self.old.opened ++ (wire, to.now) ∷ [] } }
     {
-        self.opened = self.opened.and(&wire, &wire);
+        self.opened = self.opened.and(&wire, to);
     }
 
     pub(crate) fn pass(&mut self, wire: Wire, item: &Inward)

@@ -90,16 +90,16 @@ impl Backend for Scripted {
 
     ghost counts = { λ s. s.owing.counts };
 
-    fn open(&mut self, wire: Wire, _to: &[u8]) -> Passed
+    fn open(&mut self, wire: Wire, to: &[u8]) -> Passed
         ensures listed { (result ≡ Passed.Failed) ↔ IsNextToFail BackendCall.Open self.old }
         ensures step { let old = called BackendCall.Open self.old in
-            IsDoneOrFails old self.new (record old { owing = opened wire old.owing }) result }
+            IsDoneOrFails old self.new (record old { owing = opened wire to.now old.owing }) result }
     {
         if self.call(BackendCall::Open) {
             self.ledger.fail();
             return Passed::Failed;
         }
-        match self.ledger.open(wire) {
+        match self.ledger.open(self.alloc, wire, to) {
             Ok(()) => Passed::Done,
             Err(AllocError) => Passed::NoMemory,
         }
