@@ -18,6 +18,7 @@ use session_pump::Hosts;
 use session_table::{Directory, Purse};
 use std::alloc::{AllocError, Global};
 use std::sync::{Arc, Wait};
+use xmpp_backend::Backend;
 
 /// The hosts at which sessions can be opened. The only error is want of memory.
 fn served_hosts(alloc: Global, hosts: HostNames) -> Result<HostNames, AllocError>
@@ -45,9 +46,9 @@ fn push_served(alloc: Global, served: &mut Vec<HostName>, host: HostName) -> Res
 }
 
 /// A directory of no sessions for these hosts, and a pass of it. The only error is want of memory.
-pub(crate) fn new_yard(
+pub(crate) fn new_yard<E: Backend>(
     alloc: Global,
-    hosts: &Hosts,
+    hosts: &Hosts<E>,
     journal_limit: u64,
 ) -> Result<(Arc<Yard>, Pass<Directory>), AllocError>
     ensures { IfOk result (λ made. IsPassOf (arc_value made.0).directory made.1) }
@@ -125,11 +126,11 @@ where
     }
 
     /// The pump of these hosts, with this pass. The only error is want of memory.
-    pub(crate) fn pump(
+    pub(crate) fn pump<E: Backend>(
         &self,
         pass: Pass<Directory>,
-        hosts: Hosts,
-    ) -> Result<PumpJob<R, C, B, Hosts>, AllocError>
+        hosts: Hosts<E>,
+    ) -> Result<PumpJob<R, C, B, Hosts<E>>, AllocError>
         requires { IsPassOf (arc_value self.now.yard.now).directory pass }
     {
         let post = self.post(pass)?;

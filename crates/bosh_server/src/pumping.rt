@@ -15,9 +15,9 @@ use session_table::Directory;
 use std::alloc::{AllocError, Global};
 use std::sync::Wait;
 use std::thread::Threads;
+use xmpp_backend::Backend;
 
-/// Hosts that are pumped for. A trait, so that whether the boxes of their back ends may cross to a thread is asked apart from the
-/// rest of the job.
+/// Hosts that are pumped for. A trait, so that whether their back ends may cross to a thread is asked apart from the rest of the job.
 pub(crate) trait Pumped: Drop {
     /// Makes turns of their pump, and waits at the bell between them, until nobody is served any longer.
     fn pump<R: Wait, C: Clock, B: Bell + Drop>(
@@ -30,7 +30,7 @@ pub(crate) trait Pumped: Drop {
     );
 }
 
-impl Pumped for Hosts {
+impl<E: Backend> Pumped for Hosts<E> {
     fn pump<R: Wait, C: Clock, B: Bell + Drop>(
         self,
         rt: &R,
@@ -50,12 +50,12 @@ impl Pumped for Hosts {
 
 // Makes turns until nobody is served any longer. A session that the pump itself rang for, since it gave it something, is no reason for
 // another turn, unless it is over by that.
-fn make_turns<R: Wait, C: Clock, B: Bell>(
+fn make_turns<R: Wait, C: Clock, B: Bell, E: Backend>(
     rt: &R,
     alloc: Global,
     yard: &Yard,
     given: &Rings,
-    pump: &mut Pump,
+    pump: &mut Pump<E>,
     clock: &C,
     bell: &mut B,
 )
@@ -81,8 +81,8 @@ fn make_turns<R: Wait, C: Clock, B: Bell>(
 
 // One turn: for those who were rung for or are due, or for every session where that is due or no more links come. Where it wants
 // memory, every session is served at once.
-fn turn<R: Wait, C: Clock, B: Bell>(
-    pump: &mut Pump,
+fn turn<R: Wait, C: Clock, B: Bell, E: Backend>(
+    pump: &mut Pump<E>,
     rt: &R,
     directory: &Gate<Directory>,
     clock: &C,
@@ -107,8 +107,8 @@ fn turn<R: Wait, C: Clock, B: Bell>(
 }
 
 // A turn for those who were rung for or are due by now. The only error is want of memory.
-fn short_turn<R: Wait, C: Clock, B: Bell>(
-    pump: &mut Pump,
+fn short_turn<R: Wait, C: Clock, B: Bell, E: Backend>(
+    pump: &mut Pump<E>,
     rt: &R,
     directory: &Gate<Directory>,
     clock: &C,
@@ -126,8 +126,8 @@ fn short_turn<R: Wait, C: Clock, B: Bell>(
 }
 
 // A turn for every session. Where no more links come, every live session is ended before. Whether there was memory for all of it.
-fn whole_turn<R: Wait, C: Clock, B: Bell>(
-    pump: &mut Pump,
+fn whole_turn<R: Wait, C: Clock, B: Bell, E: Backend>(
+    pump: &mut Pump<E>,
     rt: &R,
     directory: &Gate<Directory>,
     clock: &C,
@@ -144,8 +144,8 @@ fn whole_turn<R: Wait, C: Clock, B: Bell>(
 }
 
 // Ends every live session, where no more links come. The only error is want of memory.
-fn shut_down_where_over<R: Wait, C: Clock, B: Bell>(
-    pump: &mut Pump,
+fn shut_down_where_over<R: Wait, C: Clock, B: Bell, E: Backend>(
+    pump: &mut Pump<E>,
     rt: &R,
     directory: &Gate<Directory>,
     clock: &C,
@@ -199,16 +199,17 @@ where
 }
 
 /// Starts the pump of these hosts where the spawner gives leave.
-pub(crate) fn start_pump_of<R, S, C, B>(
+pub(crate) fn start_pump_of<R, S, C, B, E>(
     rt: &R,
     spawner: &mut S,
-    pump: PumpJob<R, C, B, Hosts>,
+    pump: PumpJob<R, C, B, Hosts<E>>,
 ) -> Started
 where
     R: Wait + Threads + Copy + Send + Drop + 'static,
     S: Spawner,
     C: Clock + Send + Drop + 'static,
     B: Bell + Send + Drop + 'static,
+    E: Backend + Send + 'static,
     ensures refused { result ≡ Started.Refused → HasRisen (S.refusals spawner.old) (S.refusals spawner.new) }
     ensures running { result ≡ Started.Running → S.refusals spawner.new ≡ S.refusals spawner.old }
     ensures never_falls { S.refusals spawner.old ≤ S.refusals spawner.new }

@@ -18,6 +18,7 @@ use session_pump::{Host, Hosts};
 use std::alloc::{AllocError, Global};
 use std::sync::{Arc, Wait};
 use std::thread::Threads;
+use xmpp_backend::Backend;
 
 /// How many links may wait for a worker. More wait in the network.
 const ROOM: usize = 64;
@@ -25,12 +26,12 @@ const ROOM: usize = 64;
 /// Serves the links of a network that listens, until it stops or as many came as are planned. Before the answer every link that
 /// was accepted was served to its end, every session was ended, and every job has ended. No link is retired. Want of memory comes
 /// before anything is accepted or started. The jobs wait for each other, so the spawner has to give threads.
-pub fn run_workers<R, N, C, B, S, M>(
+pub fn run_workers<R, N, C, B, S, M, E>(
     rt: &R,
     alloc: Global,
     outside: &mut Outside<N, C, B, S, M>,
     plan: &ServePlan,
-    hosts: Vec<Host>,
+    hosts: Vec<Host<E>>,
 ) -> Result<Ran, AllocError>
 where
     R: Wait + Threads + Copy + Send + Drop + 'static,
@@ -40,6 +41,7 @@ where
     B: Bell + Send + Drop + 'static,
     S: Spawner,
     M: Names + Send + Drop + 'static,
+    E: Backend + Send + 'static,
     ensures runs { IfOk result (RunsBy plan.now.connections (N.counts outside.old.net) (N.counts outside.new.net)) }
     ensures refused { IfOk result (λ ran. ran ≡ Ran.SpawnFault → HasRisen (S.refusals outside.old.spawner) (S.refusals outside.new.spawner)) }
     ensures refusals { IfOk result (λ ran. ran ≢ Ran.SpawnFault → S.refusals outside.new.spawner ≡ S.refusals outside.old.spawner) }
@@ -86,11 +88,11 @@ struct Works<'w, L: Link + Drop> {
 
 impl<L: Link + Drop> Works<'_, L> {
     // Starts the jobs, accepts, and waits for the ends of what was started.
-    fn run<R, N, C, B, S, M>(
+    fn run<R, N, C, B, S, M, E>(
         &self,
         rt: &R,
         outside: &mut Outside<N, C, B, S, M>,
-        pump: PumpJob<R, C, B, Hosts>,
+        pump: PumpJob<R, C, B, Hosts<E>>,
         workers: Vec<WorkerJob<R, L, C, B, M>>,
     ) -> Ran
     where
@@ -101,6 +103,7 @@ impl<L: Link + Drop> Works<'_, L> {
         L: Send + 'static,
         S: Spawner,
         M: Names + Send + Drop + 'static,
+        E: Backend + Send + 'static,
         ensures runs { RunsBy self.now.connections (N.counts outside.old.net) (N.counts outside.new.net) result }
         ensures refused { result ≡ Ran.SpawnFault → HasRisen (S.refusals outside.old.spawner) (S.refusals outside.new.spawner) }
         ensures refusals { result ≢ Ran.SpawnFault → S.refusals outside.new.spawner ≡ S.refusals outside.old.spawner }

@@ -10,13 +10,14 @@ use server_ports::StillClock;
 use session_pump::Pump;
 use std::alloc::AllocError;
 use std::sync::{Arc, Wait};
+use xmpp_backend::InMemory;
 
 /// Makes a turn at each wait, so many times; then it is silent.
 #[derive(Drop)]
 pub struct TurningBell<R: Wait + Copy + Drop> {
     pub rt: R,
     pub place: Arc<Place>,
-    pub pump: Pump,
+    pub pump: Pump<InMemory>,
     pub at: u64,
     pub left: u32,
     pub silences: u64,

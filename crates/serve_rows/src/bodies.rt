@@ -4,7 +4,7 @@ use crate::scene::{Scene, TURNS, begin, host};
 use session_pump::Hosts;
 use std::alloc::{AllocError, Global};
 use std::sync::Wait;
-use xmpp_backend::Scripted;
+use xmpp_backend::{InMemory, Scripted};
 
 const CREATION: &[u8] =
     b"POST /http-bind HTTP/1.1\r\nHost: localhost\r\nContent-Length: 108\r\n\r\n<body rid='1000' to='example.org' wait='60' hold='1' ver='1.6' xmlns='http://jabber.org/protocol/httpbind'/>";
@@ -19,7 +19,7 @@ pub fn tried<R: Wait + Copy + Drop>(
     count: usize,
 ) -> Result<String, AllocError> {
     let silent = Scripted::new(alloc, Vec::new(alloc), Vec::new(alloc));
-    let host = host(alloc, Box::new(alloc, silent)?, Vec::new(alloc))?;
+    let host = host(alloc, InMemory::Scripted(silent), Vec::new(alloc))?;
     let hosts = Hosts::new(alloc, vec![in alloc; host]?)?;
     let Scene { place, worker } = begin(rt, alloc, hosts)?;
     let mut worker = worker;

@@ -16,7 +16,7 @@ use session_pump::{Host, Hosts, Pump};
 use session_table::{Directory, Purse};
 use std::alloc::{AllocError, Global};
 use std::sync::{Arc, Wait};
-use xmpp_backend::Backend;
+use xmpp_backend::InMemory;
 
 /// The worker of such a server. Its bell has the pump.
 pub type OneWorker<R> = Worker<TurningBell<R>, GivenNames>;
@@ -27,9 +27,9 @@ pub const TURNS: u32 = 3;
 /// The host `example.org`, which greets with its features.
 pub fn host(
     alloc: Global,
-    end: Box<dyn Backend + Send>,
-    spares: Vec<Box<dyn Backend + Send>>,
-) -> Result<Host, AllocError> {
+    end: InMemory,
+    spares: Vec<InMemory>,
+) -> Result<Host<InMemory>, AllocError> {
     let features = Text::from_vec(b"<stream:features/>".to_vec(alloc)?);
     Ok(Host {
         name: Text::from_vec(b"example.org".to_vec(alloc)?),
@@ -59,7 +59,7 @@ pub struct Scene<R: Wait + Copy + Drop> {
 pub fn begin<R: Wait + Copy + Drop>(
     rt: &R,
     alloc: Global,
-    hosts: Hosts,
+    hosts: Hosts<InMemory>,
 ) -> Result<Scene<R>, AllocError> {
     let (place, pass) = new_place(alloc, &hosts)?;
     let mut mine = pass;
@@ -78,7 +78,10 @@ pub fn begin<R: Wait + Copy + Drop>(
 }
 
 // A directory of no sessions for these hosts, and a pass of it.
-fn new_place(alloc: Global, hosts: &Hosts) -> Result<(Arc<Place>, Pass<Directory>), AllocError>
+fn new_place(
+    alloc: Global,
+    hosts: &Hosts<InMemory>,
+) -> Result<(Arc<Place>, Pass<Directory>), AllocError>
     ensures { IfOk result (λ made. IsPassOf (arc_value made.0).directory made.1) }
 {
     let hosts = hosts.names(alloc)?;
@@ -101,7 +104,7 @@ fn bell_of<R: Wait + Copy + Drop>(
     rt: &R,
     place: &Arc<Place>,
     pass: Pass<Directory>,
-    hosts: Hosts,
+    hosts: Hosts<InMemory>,
 ) -> Result<TurningBell<R>, AllocError>
     requires { IsPassOf (arc_value place.now).directory pass }
 {

@@ -8,7 +8,7 @@ use bosh_types::{Stanzas, Text};
 use session_pump::Hosts;
 use std::alloc::{AllocError, Global};
 use std::sync::Wait;
-use xmpp_backend::{Backend, BackendCall, Echo, Failing, Room, Scripted, are_answers};
+use xmpp_backend::{BackendCall, Echo, Failing, InMemory, Room, Scripted, are_answers};
 
 /// What is told of a scene: of its first row, which says what stands behind the host, and of each row that follows.
 pub fn scene<R: Wait + Copy + Drop>(
@@ -19,24 +19,24 @@ pub fn scene<R: Wait + Copy + Drop>(
 ) -> Result<Vec<String>, AllocError> {
     match behind {
         "echo" => {
-            let host = host(alloc, Box::new(alloc, Echo::new(alloc))?, Vec::new(alloc))?;
+            let host = host(alloc, InMemory::Echo(Echo::new(alloc)), Vec::new(alloc))?;
             let hosts = Hosts::new(alloc, vec![in alloc; host]?)?;
             played(rt, alloc, hosts, rows)
         }
         "room" => {
-            let host = host(alloc, Box::new(alloc, Room::new(alloc))?, Vec::new(alloc))?;
+            let host = host(alloc, InMemory::Room(Room::new(alloc)), Vec::new(alloc))?;
             let hosts = Hosts::new(alloc, vec![in alloc; host]?)?;
             played(rt, alloc, hosts, rows)
         }
         "failing, then an echo" => {
-            let mut spares: Vec<Box<dyn Backend + Send>> = Vec::new(alloc);
-            spares.push(Box::new(alloc, Echo::new(alloc))?)?;
-            let host = host(alloc, Box::new(alloc, failing(alloc)?)?, spares)?;
+            let mut spares: Vec<InMemory> = Vec::new(alloc);
+            spares.push(InMemory::Echo(Echo::new(alloc)))?;
+            let host = host(alloc, InMemory::Scripted(failing(alloc)?), spares)?;
             let hosts = Hosts::new(alloc, vec![in alloc; host]?)?;
             played(rt, alloc, hosts, rows)
         }
         "failing" => {
-            let host = host(alloc, Box::new(alloc, failing(alloc)?)?, Vec::new(alloc))?;
+            let host = host(alloc, InMemory::Scripted(failing(alloc)?), Vec::new(alloc))?;
             let hosts = Hosts::new(alloc, vec![in alloc; host]?)?;
             played(rt, alloc, hosts, rows)
         }
@@ -62,7 +62,7 @@ fn failing(alloc: Global) -> Result<Scripted, AllocError> {
 fn played<R: Wait + Copy + Drop>(
     rt: &R,
     alloc: Global,
-    hosts: Hosts,
+    hosts: Hosts<InMemory>,
     rows: &[String],
 ) -> Result<Vec<String>, AllocError> {
     let Scene { place, worker } = begin(rt, alloc, hosts)?;

@@ -4,7 +4,7 @@ use crate::scene::{Scene, TURNS, begin, host};
 use session_pump::Hosts;
 use std::alloc::{AllocError, Global};
 use std::sync::Wait;
-use xmpp_backend::Echo;
+use xmpp_backend::{Echo, InMemory};
 
 /// What a link with these bytes is given by a server to which nothing came yet, and how it ends: the same in one piece and byte by byte.
 pub fn served<R: Wait + Copy + Drop>(
@@ -32,7 +32,7 @@ fn served_in<R: Wait + Copy + Drop>(
     bytes: &[u8],
     manner: Manner,
 ) -> Result<String, AllocError> {
-    let host = host(alloc, Box::new(alloc, Echo::new(alloc))?, Vec::new(alloc))?;
+    let host = host(alloc, InMemory::Echo(Echo::new(alloc)), Vec::new(alloc))?;
     let hosts = Hosts::new(alloc, vec![in alloc; host]?)?;
     let Scene { place, worker } = begin(rt, alloc, hosts)?;
     let mut worker = worker;

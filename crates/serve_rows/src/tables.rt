@@ -6,7 +6,7 @@ use serve_loop::ConnectionEnd;
 use session_pump::Hosts;
 use std::alloc::{AllocError, Global};
 use std::sync::Wait;
-use xmpp_backend::Echo;
+use xmpp_backend::{Echo, InMemory};
 
 const FIRST: &[u8] =
     b"POST /http-bind HTTP/1.1\r\nHost: localhost\r\nContent-Length: 108\r\n\r\n<body rid='1000' to='example.org' wait='60' hold='1' ver='1.6' xmlns='http://jabber.org/protocol/httpbind'/>";
@@ -41,7 +41,7 @@ fn tried<R: Wait + Copy + Drop>(
     bytes: &[u8],
     manner: Manner,
 ) -> Result<Outcome, AllocError> {
-    let host = host(alloc, Box::new(alloc, Echo::new(alloc))?, Vec::new(alloc))?;
+    let host = host(alloc, InMemory::Echo(Echo::new(alloc)), Vec::new(alloc))?;
     let hosts = Hosts::new(alloc, vec![in alloc; host]?)?;
     let Scene { place, worker } = begin(rt, alloc, hosts)?;
     let mut worker = worker;

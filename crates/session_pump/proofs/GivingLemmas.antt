@@ -24,7 +24,7 @@ use Rattle.xmpp_backend.specs.Counts.{counted_on}
 use Rattle.xmpp_backend.specs.Told.{given_too, held_too}
 use Rattle.xmpp_backend.specs.declared.backend.Given.{Given}
 use Rattle.xmpp_backend.specs.declared.backend.Given.TheVariants as given
-use Rattle.session_pump.specs.Ends.{Changes, Ends, GivesOn, HasFailed, Shifts}
+use Rattle.session_pump.specs.Ends.{Changes, Ends, GivesOn, HasFailed, Shifts, answering, idling}
 use Rattle.session_pump.specs.Taking.{FindsNoRoom, Gives, HasRoom, IsAsked, IsReady, LacksRoom, OnceReady, Refuses, Takes, Tried, called, finds_room, has_room, is_full, lacks_room}
 use Rattle.session_pump.specs.Giving.{ComesFirst, GiveMoves, GivesOnce, GivesTimes, HadNoRoom, HostSide, PollGave, PollsHost, RunsDry, again, asks, does_nothing, fails, finds_nothing, gives, had_no_room, had_nothing, had_one_before, has_failed, is_held, is_refused, lets_go, more, most_polls, moves, never, none, polls, wants_memory}
 use Rattle.session_pump.specs.Pumping.{LineTurns, Lines, line_of}
@@ -87,7 +87,7 @@ both_stay number s t u first second other apart = second other apart ∙ first o
 
 idled_as : (place : ℕ) (R : HostSide → Type 0) (kept kept' : Option Owing) (e f : Ends) (s : Sessions) (l : Lines) → kept' ≡ kept
     → Shifts (λ told. told) counted_on (λ count. count) e f
-    → R (host place kept (record e { told = f.told; idle = counted_on e.idle }) s l) → R (host place kept' f s l)
+    → R (host place kept (idling f.standing.told e) s l) → R (host place kept' f s l)
 idled_as place R kept kept' e f s l same shifts is =
     subst (λ (k : Option Owing). R (host place k f s l)) (sym same)
     (subst (λ (ends : Ends). R (host place kept ends s l)) (ends_are (λ told. told) counted_on (λ count. count) e f shifts) is)
@@ -141,12 +141,12 @@ module _ {moment : Option ℕ} {place : ℕ} where
   pub is_idle : (kept kept' : Option Owing) (e f : Ends) (s : Sessions) (l : Lines) → kept ≡ None → kept' ≡ kept → Shifts (λ told. told) counted_on (λ count. count) e f
       → RunsDry moment (host place kept e s l) (host place kept' f s l)
   is_idle kept kept' e f s l empty same shifts =
-      idled_as place (RunsDry moment (host place kept e s l)) kept kept' e f s l same shifts (had_nothing f.told none empty shifts.told)
+      idled_as place (RunsDry moment (host place kept e s l)) kept kept' e f s l same shifts (had_nothing f.standing.told none empty shifts.told)
 
   pub idle_moves : (kept kept' : Option Owing) (e f : Ends) (s : Sessions) (l : Lines) → kept ≡ None → kept' ≡ kept → Shifts (λ told. told) counted_on (λ count. count) e f
       → GiveMoves moment (host place kept e s l) (host place kept' f s l)
   idle_moves kept kept' e f s l empty same shifts =
-      idled_as place (GiveMoves moment (host place kept e s l)) kept kept' e f s l same shifts (more none (finds_nothing f.told empty shifts.told))
+      idled_as place (GiveMoves moment (host place kept e s l)) kept kept' e f s l same shifts (more none (finds_nothing f.standing.told empty shifts.told))
 
   -- there was no memory for a poll
   pub polls_not : (kept kept' : Option Owing) (e f : Ends) (s : Sessions) (l : Lines) → kept' ≡ kept → Changes (λ told. told) e f
@@ -154,7 +154,7 @@ module _ {moment : Option ℕ} {place : ℕ} where
   polls_not kept kept' e f s l same changes =
       subst (λ (k : Option Owing). GiveMoves moment (host place kept e s l) (host place k f s l)) (sym same)
       (subst (λ (ends : Ends). GiveMoves moment (host place kept e s l) (host place kept ends s l)) (ends_are (λ told. told) (λ count. count) (λ count. count) e f changes)
-      (more none (does_nothing f.told changes.told)))
+      (more none (does_nothing f.standing.told changes.told)))
 
   -- it failed
   pub failed_so : (kept kept' : Option Owing) (e f : Ends) (s : Sessions) (l : Lines) → kept ≡ None → kept' ≡ kept → HasFailed e f
@@ -174,7 +174,7 @@ module _ {moment : Option ℕ} {place : ℕ} where
       → GiveMoves moment (host place kept e s l) (host place None f s l')
   held_back kept owing e f s l l' line is marked before at opened empty turns changes =
       subst (λ (ends : Ends). GiveMoves moment (host place kept e s l) (host place None ends s l')) (ends_are (held_too owing.wire) (λ count. count) (λ count. count) e f changes)
-      (more none (is_held owing line l' f.told is marked (record { is = before; host = at; opened = opened }) empty turns changes.told))
+      (more none (is_held owing line l' f.standing.told is marked (record { is = before; host = at; opened = opened }) empty turns changes.told))
 
   pub held_back_by : (kept kept' : Option Owing) (number : ℕ) (owing : Owing) (e f : Ends) (s : Sessions) (l l' : Lines) (line : Line)
       → (other : Owing) × (kept ≡ Some other) × (other.number ≡ number) × (other.was_refused ≡ true) → kept ≡ Some owing → line_of l number ≡ Some line
@@ -250,8 +250,8 @@ module _ {moment : Option ℕ} {place : ℕ} where
     is = refl;
   })
 
-polled_as : (place : ℕ) (kept : Option Owing) (owing : Owing) (e f : Ends) (s : Sessions) (l : Lines) → record e { told = f.told; answers = counted_on e.answers } ≡ f
-    → host place (Some owing) f s l ≡ record (host place kept e s l) { kept = Some owing; ends = record e { told = f.told; answers = counted_on e.answers } }
+polled_as : (place : ℕ) (kept : Option Owing) (owing : Owing) (e f : Ends) (s : Sessions) (l : Lines) → answering f.standing.told e ≡ f
+    → host place (Some owing) f s l ≡ record (host place kept e s l) { kept = Some owing; ends = answering f.standing.told e }
 polled_as place kept owing e f s l same = ap (λ (ends : Ends). host place (Some owing) ends s l) (sym same)
 
 -- the back end gave something on a wire that was opened
@@ -263,7 +263,7 @@ has_polled place kept kept' owing wire what e f s l empty is number on same fres
     record {
       owing = owing;
       wire = wire;
-      told = f.told;
+      told = f.standing.told;
       empty = empty;
       number = number;
       on = on;

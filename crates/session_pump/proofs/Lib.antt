@@ -4,6 +4,7 @@ mod PassingLemmas
 mod ServingLemmas
 mod GivingLemmas
 mod PlaceLemmas
+mod EndsLemmas
 mod TurnLemmas
 mod NumberedLemmas
 mod DueLemmas

@@ -3,6 +3,7 @@ use Rattle.std.proofs.Common.{◌≡◌, ◌≢◌, ℕ, Option, Some, None, sym
 use Rattle.bosh_types.specs.declared.inward.Inward.{Inward}
 use Rattle.parked_gate.specs.Passes.{Known}
 use Rattle.session_journal.specs.declared.entry.Entry.{Entry}
+use Rattle.xmpp_backend.specs.Counts.{Counts}
 use Rattle.xmpp_backend.specs.Told.{Told, opened_too, passed_too}
 use Rattle.session_pump.specs.Ends.{Changes, Ends, HasFailed, Shifts}
 use Rattle.session_pump.specs.Sides.{Move, Moves, MovesToTheEnd, Side, does_nothing, fails_at, fails_to_open, lets_go, more, none, opens, passes}
@@ -22,12 +23,9 @@ end_after first rest = record { last = rest.last; moves = moves_then first rest.
 
 -- the back ends are as before but for what is told
 pub ends_are : (change : Told → Told) (idle answers : ℕ → ℕ) (e f : Ends) → Shifts change idle answers e f
-    → record e { told = f.told; idle = idle e.idle; answers = answers e.answers } ≡ f
+    → record e { standing = record { told = f.standing.told; counts = record e.standing.counts { idle = idle e.standing.counts.idle; answers = answers e.standing.counts.answers } } } ≡ f
 ends_are change idle answers e f shifts =
-    ap (λ (n : ℕ). record { told = f.told; idle = n; answers = answers e.answers; failures = e.failures; faults = e.faults }) (sym shifts.idled)
-    ∙ ap (λ (n : ℕ). record { told = f.told; idle = f.idle; answers = n; failures = e.failures; faults = e.faults }) (sym shifts.answered)
-    ∙ ap (λ (n : ℕ). record { told = f.told; idle = f.idle; answers = f.answers; failures = n; faults = e.faults }) (sym shifts.failures)
-    ∙ ap (λ (n : ℕ). record { told = f.told; idle = f.idle; answers = f.answers; failures = f.failures; faults = n }) (sym shifts.faults)
+    ap (λ (counts : Counts). record e { standing = record { told = f.standing.told; counts = counts } }) (sym shifts.counts) ∙ sym shifts.others
 
 -- nothing was kept
 pub nothing_kept : (line : Line) → line.kept ≡ None → record line { kept = None } ≡ line
@@ -43,7 +41,7 @@ pub passed_on : {moment : Option ℕ} {known : Known Entry} (line : Line) (e f :
 passed_on {moment} {known} line e f item is kept changes =
     subst (λ (ends : Ends). Moves moment (record { known = known; line = line; ends = e }) (record { known = known; line = record line { kept = None }; ends = ends }))
     (ends_are (passed_too line.wire item) (λ count. count) (λ count. count) e f changes)
-    (one_move (passes item f.told is kept changes.told))
+    (one_move (passes item f.standing.told is kept changes.told))
 
 -- the wire isn't open, and what is kept is let go
 pub let_go : {moment : Option ℕ} {known : Known Entry} (line : Line) (e : Ends) → line.stage ≢ stages.Unopened → (line.stage ≡ stages.Opened e.failures → ⊥)
@@ -57,7 +55,7 @@ did_nothing {moment} {known} line after e f same changes =
     subst (λ (l : Line). Moves moment (record { known = known; line = line; ends = e }) (record { known = known; line = l; ends = f })) same
     (subst (λ (ends : Ends). Moves moment (record { known = known; line = line; ends = e }) (record { known = known; line = line; ends = ends }))
     (ends_are (λ told. told) (λ count. count) (λ count. count) e f changes)
-    (one_move (does_nothing f.told changes.told)))
+    (one_move (does_nothing f.standing.told changes.told)))
 
 -- the back end failed at it: another one stands there, and the item is lost
 pub failed_at : {moment : Option ℕ} {known : Known Entry} (line : Line) (e f : Ends) (item : Inward) → line.stage ≡ stages.Opened e.failures → line.kept ≡ Some item
@@ -66,12 +64,12 @@ pub failed_at : {moment : Option ℕ} {known : Known Entry} (line : Line) (e f :
 failed_at line e f item is kept failed = one_move (fails_at item f is kept failed)
 
 -- the wire was opened
-pub opened_on : {moment : Option ℕ} {known : Known Entry} (line : Line) (e f : Ends) → line.stage ≡ stages.Unopened → Changes (opened_too line.wire) e f
+pub opened_on : {moment : Option ℕ} {known : Known Entry} (line : Line) (e f : Ends) → line.stage ≡ stages.Unopened → Changes (opened_too line.wire e.name) e f
     → Moves moment (record { known = known; line = line; ends = e }) (record { known = known; line = record line { stage = stages.Opened e.failures }; ends = f })
 opened_on {moment} {known} line e f is changes =
     subst (λ (ends : Ends). Moves moment (record { known = known; line = line; ends = e }) (record { known = known; line = record line { stage = stages.Opened e.failures }; ends = ends }))
-    (ends_are (opened_too line.wire) (λ count. count) (λ count. count) e f changes)
-    (one_move (opens f.told is changes.told))
+    (ends_are (opened_too line.wire e.name) (λ count. count) (λ count. count) e f changes)
+    (one_move (opens f.standing.told is changes.told))
 
 -- it couldn't be opened
 pub failed_to_open : {moment : Option ℕ} {known : Known Entry} (line : Line) (e f : Ends) → line.stage ≡ stages.Unopened → HasFailed e f

@@ -1,6 +1,6 @@
 -- What is known of a session that was served.
 use Rattle.std.proofs.Common.{◌≡◌, ◌≢◌, ◌⊎◌, inl, inr, ℕ, Option, Some, None, Result, Ok, Err, refl, sym, subst, true≢false}
-use Rattle.std.specs.Prelude.{IsSome}
+use Rattle.std.specs.Prelude.{IsSome, OnOk}
 use Rattle.std.specs.Bool.{⊤}
 use Rattle.std.specs.Result.{IsErr}
 use Rattle.std.specs.declared.alloc.AllocError.{AllocError}
@@ -25,6 +25,10 @@ use Rattle.session_pump.proofs.GivingLemmas.{looks_any, once_ready}
 use Rattle.session_pump.proofs.MovesLemmas.{ends_are, moves_then, one_move}
 use Rattle.session_pump.proofs.PassingLemmas.{From, side}
 use Rattle.session_pump.proofs.TurnedLemmas.{turned_as, turned_none, turned_then}
+
+pub on_ok : {P : Type 0} (result : Result ⊤ AllocError) → P → OnOk result P
+on_ok (Ok done) is = is
+on_ok (Err error) is = tt
 
 -- time passed at the clock's moment
 pub ticks_at : (moment : Option ℕ) (number now : ℕ) (a b : Sessions) (reply : Reply) → IsAt moment now → Turned number a b (Called (calls.Tick now) (Ok reply))
@@ -208,7 +212,7 @@ gives_now {moment} number a b c l e f owing giving is done ready turned resumed 
     by k m took (inl (opened, changes)) =
         was_given owing is
         (subst (λ (ends : Ends). Move moment (side k l e) (side m (record l { owed = None }) ends)) (ends_are (resumed_too owing.wire) (λ count. count) (λ count. count) e f changes)
-        (gives owing m f.told is took opened changes.told)) refl
+        (gives owing m f.standing.told is took opened changes.told)) refl
     by k m took (inr (closed, same)) =
         was_given owing is
         (subst (λ (ends : Ends). Move moment (side k l e) (side m (record l { owed = None }) ends)) (sym same) (gives_last owing m is took closed)) refl

@@ -30,7 +30,7 @@ use Rattle.session_table.specs.History.{live_at}
 use Rattle.session_table.specs.Replies.{RepliesTo}
 use Rattle.session_table.specs.Purses.{IsFound, OthersStay, Sessions, Turned, held}
 use Rattle.xmpp_backend.specs.Told.{Told, closed_too}
-use Rattle.session_pump.specs.Ends.{Changes, Ends}
+use Rattle.session_pump.specs.Ends.{Changes, Ends, telling}
 use Rattle.session_pump.specs.Giving.{PollsHost}
 use Rattle.session_pump.specs.Places.{IsFirstPlace}
 use Rattle.session_pump.specs.Calling.{Called, Ticks}
@@ -69,23 +69,23 @@ host_turns facts stands place was is within read = record {
   after = map-set facts stands place is;
 }
 
-same_but_ends : (h i : HostFacts) → i.name ≡ h.name → i.kept ≡ h.kept → i ≡ record h { ends = i.ends }
-same_but_ends h i name kept = ap (λ (n : List ℕ). record { name = n; kept = i.kept; ends = i.ends }) name ∙ ap (λ k. record { name = h.name; kept = k; ends = i.ends }) kept
+same_but_ends : (h i : HostFacts) → i.kept ≡ h.kept → i ≡ record h { ends = i.ends }
+same_but_ends h i kept = ap (λ k. record { kept = k; ends = i.ends }) kept
 
 module _ {OnHost : Side → Side → Result ⊤ AllocError → Type 0} {Alone : Known journal.Entry → Known journal.Entry → Result ⊤ AllocError → Type 0} where
   -- something was done to a session on its line
   pub on_host_of : {X : Type 0} (facts : X → HostFacts) (number : ℕ) (d d' : Known Entry) (s s' : Sessions) (l l' : Lines) (stands : List X) (place : ℕ)
       (line later : Line) (was is : X) (result : Result ⊤ AllocError)
       → d' ≡ d → line_of l number ≡ Some line → WritesThrough nat_cmp (nat_cmp number) l later l' → line.host ≡ Some place → later.host ≡ line.host
-      → place < length stands → was ≡ get_or stands place was → (facts is).name ≡ (facts was).name → (facts is).kept ≡ (facts was).kept
+      → place < length stands → was ≡ get_or stands place was → (facts is).kept ≡ (facts was).kept
       → Turned number s s' (λ old new. OnHost (side old line (facts was).ends) (side new later (facts is).ends) result) → OthersStay number s s'
       → OnLine OnHost Alone number (pumping d s l (map facts stands)) (pumping d' s' l' (map facts (set stands place is))) result
-  on_host_of facts number d d' s s' l l' stands place line later was is result same before written host stays within read name kept turned others =
+  on_host_of facts number d d' s s' l l' stands place line later was is result same before written host stays within read kept turned others =
       subst (λ (k : Known Entry). OnLine OnHost Alone number (pumping d s l (map facts stands)) (pumping k s' l' (map facts (set stands place is))) result) (sym same)
       (on_host s' l' (map facts (set stands place is)) place line later (facts was) (facts is).ends
       (line_turns number l l' line later before written) host (stays ∙ host)
       (subst (λ (h : HostFacts). HostTurns place (map facts stands) (map facts (set stands place is)) (facts was) h)
-      (same_but_ends (facts was) (facts is) name kept) (host_turns facts stands place was is within read))
+      (same_but_ends (facts was) (facts is) kept) (host_turns facts stands place was is within read))
       turned others)
 
   -- or to it alone
@@ -215,7 +215,7 @@ each_all {A} {Does} {a} {b} {result} xs i whole each = subst (λ (ys : List A). 
 
 -- a host was polled
 pub polls_of : {X : Type 0} (facts : X → HostFacts) (moment : Option ℕ) (place : ℕ) (d d' : Known Entry) (s s' : Sessions) (l l' : Lines) (stands : List X) (was is : X) (result : Result ⊤ AllocError)
-    → d' ≡ d → place < length stands → was ≡ get_or stands place was → (facts is).name ≡ (facts was).name
+    → d' ≡ d → place < length stands → was ≡ get_or stands place was → (facts is).ends.name ≡ (facts was).ends.name
     → PollsHost moment (record { place = place; kept = (facts was).kept; ends = (facts was).ends; sessions = s; lines = l })
     (record { place = place; kept = (facts is).kept; ends = (facts is).ends; sessions = s'; lines = l' }) result
     → PollsAt moment place (pumping d s l (map facts stands)) (pumping d' s' l' (map facts (set stands place is))) result
@@ -246,18 +246,18 @@ tells_of moment number a b line later ends result uncut turned =
 -- ---- a wire is closed
 
 closes_as : (R : Side → Type 0) (change : Told → Told) (known : Known journal.Entry) (line : Line) (e f : Ends) → Changes change e f
-    → R (side known line (record e { told = f.told })) → R (side known line f)
+    → R (side known line (telling f.standing.told e)) → R (side known line f)
 closes_as R change known line e f changes is = subst (λ (ends : Ends). R (side known line ends)) (ends_are change (λ count. count) (λ count. count) e f changes) is
 
 pub wire_closed : (known : Known journal.Entry) (line : Line) (e f : Ends) → line.stage ≡ stages.Opened e.failures → Changes (closed_too line.wire) e f
     → ClosesWire (side known line e) (side known (record line { stage = stages.Lost }) f) (Ok tt)
 wire_closed known line e f is changes =
-    closes_as (λ t. ClosesWire (side known line e) t (Ok tt)) (closed_too line.wire) known (record line { stage = stages.Lost }) e f changes (closes_it f.told is changes.told)
+    closes_as (λ t. ClosesWire (side known line e) t (Ok tt)) (closed_too line.wire) known (record line { stage = stages.Lost }) e f changes (closes_it f.standing.told is changes.told)
 
 pub wire_not : (known : Known journal.Entry) (line : Line) (e f : Ends) (error : AllocError) → Changes (λ told. told) e f
     → ClosesWire (side known line e) (side known line f) (Err error)
 wire_not known line e f error changes =
-    closes_as (λ t. ClosesWire (side known line e) t (Err error)) (λ told. told) known line e f changes (wants_memory f.told error changes.told)
+    closes_as (λ t. ClosesWire (side known line e) t (Err error)) (λ told. told) known line e f changes (wants_memory f.standing.told error changes.told)
 
 -- ---- the directory
 
@@ -288,8 +288,8 @@ any_of_map test f (x ∷ xs) = ap (λ (b : Bool). test (f x) || b) (any_of_map t
 
 -- a new line, to the first host of that name
 pub new_line : {X : Type 0} (facts : X → HostFacts) (number opening : ℕ) (text name : List ℕ) (stands : List X) (found : Option ℕ) (line : Line) → text ≡ name → opening ≡ number
-    → IfSome found (λ place. IsFirstPlace (λ stand. bytes_eq (facts stand).name text) stands place)
-    → IfNone found (list_any (λ stand. bytes_eq (facts stand).name text) stands ≡ false)
+    → IfSome found (λ place. IsFirstPlace (λ stand. bytes_eq (facts stand).ends.name text) stands place)
+    → IfNone found (list_any (λ stand. bytes_eq (facts stand).ends.name text) stands ≡ false)
     → line.host ≡ found → line.wire ≡ opening * most_streams → line.stage ≡ stages.Unopened → line.kept ≡ None → line.owed ≡ None
     → IsNewLine number name (map facts stands) line
 new_line facts number opening text name stands found line same small first none host wire stage kept owed =
@@ -299,17 +299,17 @@ new_line facts number opening text name stands found line same small first none 
       stage = stage;
       kept = kept;
       owed = owed;
-      place = subst (λ (o : Option ℕ). IfSome o (λ place. IsFirstPlace (λ h. bytes_eq h.name text) (map facts stands) place)) (sym host) (placed found first);
-      nowhere = λ is. any_of_map (λ h. bytes_eq h.name text) facts stands ∙ (missing found (sym host ∙ is) none);
+      place = subst (λ (o : Option ℕ). IfSome o (λ place. IsFirstPlace (λ h. bytes_eq h.ends.name text) (map facts stands) place)) (sym host) (placed found first);
+      nowhere = λ is. any_of_map (λ h. bytes_eq h.ends.name text) facts stands ∙ (missing found (sym host ∙ is) none);
     })
   where
-    placed : (o : Option ℕ) → IfSome o (λ place. IsFirstPlace (λ stand. bytes_eq (facts stand).name text) stands place)
-        → IfSome o (λ place. IsFirstPlace (λ h. bytes_eq h.name text) (map facts stands) place)
+    placed : (o : Option ℕ) → IfSome o (λ place. IsFirstPlace (λ stand. bytes_eq (facts stand).ends.name text) stands place)
+        → IfSome o (λ place. IsFirstPlace (λ h. bytes_eq h.ends.name text) (map facts stands) place)
     placed None told = tt
-    placed (Some place) told = first_of_map (λ h. bytes_eq h.name text) facts stands place told
+    placed (Some place) told = first_of_map (λ h. bytes_eq h.ends.name text) facts stands place told
 
-    missing : (o : Option ℕ) → o ≡ None → IfNone o (list_any (λ stand. bytes_eq (facts stand).name text) stands ≡ false)
-        → list_any (λ stand. bytes_eq (facts stand).name text) stands ≡ false
+    missing : (o : Option ℕ) → o ≡ None → IfNone o (list_any (λ stand. bytes_eq (facts stand).ends.name text) stands ≡ false)
+        → list_any (λ stand. bytes_eq (facts stand).ends.name text) stands ≡ false
     missing None is told = told
     missing (Some place) is told = absurd (none-some place (sym is))
 

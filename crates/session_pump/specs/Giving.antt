@@ -3,10 +3,9 @@ use Rattle.std.specs.Prelude.{◌≡◌, ◌+◌, ◌/◌, ℕ, ⊤, true, false
 use Rattle.std.specs.declared.alloc.AllocError.{AllocError}
 use Rattle.bosh_types.specs.Limits.{most_streams}
 use Rattle.session_table.specs.Purses.{OthersStay, Sessions, Turned, held}
-use Rattle.xmpp_backend.specs.Counts.{counted_on}
 use Rattle.xmpp_backend.specs.Told.{IsUnheld, Told, Becomes, WasOpened, given_too, held_too}
-use Rattle.session_pump.specs.Ends.{Ends, HasFailed, StaysAs}
-use Rattle.session_pump.specs.Pumping.{LineTurns, Lines, line_of}
+use Rattle.session_pump.specs.Ends.{Ends, HasFailed, StaysAs, answering, idling, telling}
+use Rattle.session_pump.specs.Pumping.{HostFacts, LineTurns, Lines, line_of}
 use Rattle.session_pump.specs.Taking.{FindsNoRoom, IsAsked, OnceReady, Refuses, Takes, Tried}
 use Rattle.session_pump.specs.declared.line.Line.{Line}
 use Rattle.session_pump.specs.declared.line.Owing.{Owing}
@@ -19,6 +18,9 @@ pub record HostSide : Type 0 where
   pub ends : Ends
   pub sessions : Sessions
   pub lines : Lines
+
+abbrev pub at_host : ℕ → HostFacts → Sessions → Lines → HostSide
+at_host place host sessions lines = record { place = place; kept = host.kept; ends = host.ends; sessions = sessions; lines = lines }
 
 -- nothing that was given to this session before waits for it
 abbrev pub ComesFirst : ℕ → Lines → Type 0
@@ -39,20 +41,20 @@ pub record PollGave (h i : HostSide) : Type 0 where
   pub number : owing.number ≡ wire / most_streams
   pub on : owing.wire ≡ wire
   pub fresh : owing.was_refused ≡ false
-  pub opened : WasOpened h.ends.told wire
-  pub unheld : IsUnheld h.ends.told wire
-  pub given : Becomes h.ends.told told (given_too wire owing.given)
-  pub is : i ≡ record h { kept = Some owing; ends = record h.ends { told = told; answers = counted_on h.ends.answers } }
+  pub opened : WasOpened h.ends.standing.told wire
+  pub unheld : IsUnheld h.ends.standing.told wire
+  pub given : Becomes h.ends.standing.told told (given_too wire owing.given)
+  pub is : i ≡ record h { kept = Some owing; ends = answering told h.ends }
 
 -- One move of the pump for a host. What its back end gives is kept until its session takes it, and nothing more is polled till
 -- then; where the session had no room for it, it is kept with the session's line and its wire is held, or it is given again only once
 -- the session says that it has room. Nothing is given before what is kept with the line. No move is made but these.
 pub data GiveMove (moment : Option ℕ) : HostSide → HostSide → Type 0 where
   polls : {h i : HostSide} → PollGave h i → GiveMove moment h i
-  finds_nothing : {h : HostSide} (told : Option Told) → h.kept ≡ None → StaysAs h.ends.told told
-      → GiveMove moment h (record h { ends = record h.ends { told = told; idle = counted_on h.ends.idle } })
+  finds_nothing : {h : HostSide} (told : Option Told) → h.kept ≡ None → StaysAs h.ends.standing.told told
+      → GiveMove moment h (record h { ends = idling told h.ends })
   fails : {h : HostSide} (ends : Ends) → h.kept ≡ None → HasFailed h.ends ends → GiveMove moment h (record h { ends = ends })
-  does_nothing : {h : HostSide} (told : Option Told) → StaysAs h.ends.told told → GiveMove moment h (record h { ends = record h.ends { told = told } })
+  does_nothing : {h : HostSide} (told : Option Told) → StaysAs h.ends.standing.told told → GiveMove moment h (record h { ends = telling told h.ends })
   gives : {h : HostSide} (owing : Owing) (sessions : Sessions) → h.kept ≡ Some owing → ComesFirst owing.number h.lines
       → Turned owing.number h.sessions sessions (OnceReady owing (Takes moment owing.given)) → OthersStay owing.number h.sessions sessions
       → GiveMove moment h (record h { kept = None; sessions = sessions })
@@ -62,8 +64,8 @@ pub data GiveMove (moment : Option ℕ) : HostSide → HostSide → Type 0 where
       → GiveMove moment h (record h { kept = Some later; sessions = sessions })
   is_held : {h : HostSide} (owing : Owing) (line : Line) (lines : Lines) (told : Option Told) → h.kept ≡ Some owing → owing.was_refused ≡ true
       → IsHere h owing.number line → line.owed ≡ None → LineTurns owing.number h.lines lines line (record line { owed = Some owing })
-      → Becomes h.ends.told told (held_too owing.wire)
-      → GiveMove moment h (record h { kept = None; ends = record h.ends { told = told }; lines = lines })
+      → Becomes h.ends.standing.told told (held_too owing.wire)
+      → GiveMove moment h (record h { kept = None; ends = telling told h.ends; lines = lines })
   asks : {h : HostSide} (owing : Owing) (sessions : Sessions) → h.kept ≡ Some owing
       → Turned owing.number h.sessions sessions IsAsked → OthersStay owing.number h.sessions sessions
       → GiveMove moment h (record h { sessions = sessions })
@@ -108,8 +110,8 @@ pub record HadNoRoom (moment : Option ℕ) (h j : HostSide) : Type 0 where
 -- The back end of a host gave all that it had for this turn: after some moves it was polled and had nothing to give, or failed; or a
 -- session had no room for what is kept, and its wire is open no longer; or the back end gave more on a wire for which something is kept
 pub data RunsDry (moment : Option ℕ) (h : HostSide) : HostSide → Type 0 where
-  had_nothing : {i : HostSide} (told : Option Told) → GiveMoves moment h i → i.kept ≡ None → StaysAs i.ends.told told
-      → RunsDry moment h (record i { ends = record i.ends { told = told; idle = counted_on i.ends.idle } })
+  had_nothing : {i : HostSide} (told : Option Told) → GiveMoves moment h i → i.kept ≡ None → StaysAs i.ends.standing.told told
+      → RunsDry moment h (record i { ends = idling told i.ends })
   has_failed : {i : HostSide} (ends : Ends) → GiveMoves moment h i → i.kept ≡ None → HasFailed i.ends ends → RunsDry moment h (record i { ends = ends })
   had_one_before : {j : HostSide} (owing first : Owing) (line : Line) → GiveMoves moment h j → j.kept ≡ Some owing
       → line_of j.lines owing.number ≡ Some line → line.owed ≡ Some first → RunsDry moment h j

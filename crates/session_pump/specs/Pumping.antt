@@ -1,9 +1,9 @@
 -- All that a pump has, and how parts of it change: what is done, to whom, and that nothing else does.
-use Rattle.std.specs.Prelude.{◌≡◌, ◌≢◌, ◌≤◌, ◌<◌, ◌+◌, ℕ, ⊤, List, [], ◌∷◌, ◌++◌, length, Option, Some, IfSome, Result, Ok, Err, get_or, slice_set}
+use Rattle.std.specs.Prelude.{◌≡◌, ◌≢◌, ◌≤◌, ◌<◌, ◌+◌, ℕ, ⊤, List, [], ◌∷◌, ◌++◌, length, Option, Some, IfSome, Result, Ok, Err, get_or, map, slice_set}
 use Rattle.std.specs.BTreeMap.{BTreeMap, IsUnchanged, get}
 use Rattle.std.specs.Ordering.{nat_cmp}
 use Rattle.std.specs.declared.alloc.AllocError.{AllocError}
-use Rattle.parked_gate.specs.Passes.{Known}
+use Rattle.parked_gate.specs.Passes.{Known, known}
 use Rattle.session_journal.specs.declared.entry.Entry as journal
 use Rattle.session_table.specs.declared.entry.Entry.{Entry}
 use Rattle.session_table.specs.Purses.{OthersStay, Sessions, Turned}
@@ -11,19 +11,20 @@ use Rattle.xmpp_backend.specs.Counts.{Counts}
 use Rattle.xmpp_backend.specs.Told.{Told}
 use Rattle.session_pump.specs.Ends.{Ends, ends_of}
 use Rattle.session_pump.specs.Sides.{Side}
+use Rattle.session_pump.specs.declared.hosts.Stand.{Stand}
 use Rattle.session_pump.specs.declared.line.Line.{Line}
 use Rattle.session_pump.specs.declared.line.Owing.{Owing}
 use Rattle.session_pump.specs.declared.line.Stage.TheVariants as stages
+use Rattle.session_pump.specs.declared.pump.Pump.{Pump}
 
--- a host: its name, what is kept of what its back end gave, and its back ends
+-- a host: what is kept of what its back end gave, and its back ends
 pub record HostFacts : Type 0 where
-  pub name : List ℕ
   pub kept : Option Owing
   pub ends : Ends
 
--- by what its back end tells and counts, how many failed before it, and the faults that its spares counted
-abbrev pub facts_of : List ℕ → Option Owing → Option Told → Counts → ℕ → ℕ → HostFacts
-facts_of name kept told counts failures spared = record { name = name; kept = kept; ends = ends_of told counts failures spared }
+-- by what its back ends tell and count
+abbrev pub facts_of : {E : Type 0} → (E → Option Told) → (E → Counts) → Stand E → HostFacts
+facts_of told counts stand = record { kept = stand.kept; ends = ends_of told counts stand }
 
 abbrev pub Lines : Type 0
 Lines = BTreeMap ℕ Line
@@ -38,6 +39,15 @@ pub record Pumping : Type 0 where
   pub sessions : Sessions
   pub lines : Lines
   pub hosts : List HostFacts
+
+-- by what its back ends tell and count
+abbrev pub pumping_of : {E : Type 0} → (E → Option Told) → (E → Counts) → Pump E → Pumping
+pumping_of told counts pump = record {
+  directory = known pump.purse.directory;
+  sessions = pump.purse.sessions;
+  lines = pump.lines;
+  hosts = map (facts_of told counts) pump.hosts.stands.items;
+}
 
 -- something that a pump does, and whether there was memory for it
 abbrev pub Step : Type 1

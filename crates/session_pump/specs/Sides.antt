@@ -10,7 +10,7 @@ use Rattle.session_journal.specs.declared.call.Reply.{Reply}
 use Rattle.session_journal.specs.declared.call.Reply.TheVariants as replies
 use Rattle.session_journal.specs.declared.entry.Entry.{Entry}
 use Rattle.xmpp_backend.specs.Told.{Told, Becomes, opened_too, passed_too, resumed_too}
-use Rattle.session_pump.specs.Ends.{Ends, HasFailed, StaysAs}
+use Rattle.session_pump.specs.Ends.{Ends, HasFailed, StaysAs, telling}
 use Rattle.session_pump.specs.Calling.{Called, IsAt}
 use Rattle.session_pump.specs.Taking.{FindsNoRoom, IsAsked, OnceReady, Refuses, Takes}
 use Rattle.session_pump.specs.declared.line.Line.{Line}
@@ -45,15 +45,15 @@ pub data Move (moment : Option ℕ) : Side → Side → Type 0 where
   wants_memory : {s : Side} (new : Known Entry) (call : Call) (error : AllocError) → Called call (Err error) s.known new
       → Move moment s (record s { known = new })
   passes : {s : Side} (item : Inward) (told : Option Told) → IsOpen s → s.line.kept ≡ Some item
-      → Becomes s.ends.told told (passed_too s.line.wire item)
-      → Move moment s (record s { ends = record s.ends { told = told }; line = record s.line { kept = None } })
+      → Becomes s.ends.standing.told told (passed_too s.line.wire item)
+      → Move moment s (record s { ends = telling told s.ends; line = record s.line { kept = None } })
   lets_go : {s : Side} → s.line.stage ≢ stages.Unopened → (IsOpen s → ⊥) → Move moment s (record s { line = record s.line { kept = None } })
-  opens : {s : Side} (told : Option Told) → s.line.stage ≡ stages.Unopened → Becomes s.ends.told told (opened_too s.line.wire)
-      → Move moment s (record s { ends = record s.ends { told = told }; line = record s.line { stage = stages.Opened s.ends.failures } })
+  opens : {s : Side} (told : Option Told) → s.line.stage ≡ stages.Unopened → Becomes s.ends.standing.told told (opened_too s.line.wire s.ends.name)
+      → Move moment s (record s { ends = telling told s.ends; line = record s.line { stage = stages.Opened s.ends.failures } })
   fails : {s : Side} (ends : Ends) → HasFailed s.ends ends → Move moment s (record s { ends = ends })
   fails_at : {s : Side} (item : Inward) (ends : Ends) → IsOpen s → s.line.kept ≡ Some item → HasFailed s.ends ends
       → Move moment s (record s { line = record s.line { kept = None }; ends = ends })
-  does_nothing : {s : Side} (told : Option Told) → StaysAs s.ends.told told → Move moment s (record s { ends = record s.ends { told = told } })
+  does_nothing : {s : Side} (told : Option Told) → StaysAs s.ends.standing.told told → Move moment s (record s { ends = telling told s.ends })
   fails_to_open : {s : Side} (ends : Ends) → s.line.stage ≡ stages.Unopened → HasFailed s.ends ends
       → Move moment s (record s { line = record s.line { stage = stages.Opened s.ends.failures }; ends = ends })
   tells_cut : {s : Side} (new : Known Entry) (now : ℕ) (reply : Reply) → IsCut s → IsAt moment now
@@ -63,8 +63,8 @@ pub data Move (moment : Option ℕ) : Side → Side → Type 0 where
   refuses : {s : Side} (owing : Owing) (new : Known Entry) → s.line.owed ≡ Some owing → OnceReady owing (Refuses moment owing.given) s.known new
       → Move moment s (record s { known = new })
   gives : {s : Side} (owing : Owing) (new : Known Entry) (told : Option Told) → s.line.owed ≡ Some owing
-      → OnceReady owing (Takes moment owing.given) s.known new → IsOpen s → Becomes s.ends.told told (resumed_too owing.wire)
-      → Move moment s (record s { known = new; line = record s.line { owed = None }; ends = record s.ends { told = told } })
+      → OnceReady owing (Takes moment owing.given) s.known new → IsOpen s → Becomes s.ends.standing.told told (resumed_too owing.wire)
+      → Move moment s (record s { known = new; line = record s.line { owed = None }; ends = telling told s.ends })
   gives_last : {s : Side} (owing : Owing) (new : Known Entry) → s.line.owed ≡ Some owing → OnceReady owing (Takes moment owing.given) s.known new
       → (IsOpen s → ⊥) → Move moment s (record s { known = new; line = record s.line { owed = None } })
 

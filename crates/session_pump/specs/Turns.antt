@@ -23,8 +23,8 @@ use Rattle.session_table.specs.History.{live_at}
 use Rattle.session_table.specs.Purses.{IsFound, OthersStay, Sessions, held}
 use Rattle.session_table.specs.Replies.{RepliesTo, live_sessions}
 use Rattle.xmpp_backend.specs.Told.{Told, Becomes, closed_too}
-use Rattle.session_pump.specs.Ends.{Ends, HasFailed, StaysAs}
-use Rattle.session_pump.specs.Giving.{PollsHost}
+use Rattle.session_pump.specs.Ends.{Ends, HasFailed, StaysAs, telling}
+use Rattle.session_pump.specs.Giving.{PollsHost, at_host}
 use Rattle.session_pump.specs.Places.{IsFirstPlace}
 use Rattle.session_pump.specs.Pumping.{AsksDirectory, AsksSession, Each, EachPlace, HostFacts, HostTurns, Lines, OnLine, Pumping, Then, both, line_of}
 use Rattle.session_pump.specs.Calling.{Called, ClosesStream, Ticks}
@@ -50,10 +50,10 @@ pub data ServesAlone (moment : Option ℕ) (k : Known journal.Entry) : Known jou
 -- the wire of a session that is to be removed was closed, where it was open
 pub data ClosesWire (s : Side) : Side → Result ⊤ AllocError → Type 0 where
   was_closed : (IsOpen s → ⊥) → ClosesWire s s (Ok tt)
-  closes_it : (told : Option Told) → IsOpen s → Becomes s.ends.told told (closed_too s.line.wire)
-      → ClosesWire s (record s { ends = record s.ends { told = told }; line = record s.line { stage = stages.Lost } }) (Ok tt)
+  closes_it : (told : Option Told) → IsOpen s → Becomes s.ends.standing.told told (closed_too s.line.wire)
+      → ClosesWire s (record s { ends = telling told s.ends; line = record s.line { stage = stages.Lost } }) (Ok tt)
   fails_at_it : (ends : Ends) → IsOpen s → HasFailed s.ends ends → ClosesWire s (record s { ends = ends }) (Ok tt)
-  wants_memory : (told : Option Told) (error : AllocError) → StaysAs s.ends.told told → ClosesWire s (record s { ends = record s.ends { told = told } }) (Err error)
+  wants_memory : (told : Option Told) (error : AllocError) → StaysAs s.ends.standing.told told → ClosesWire s (record s { ends = telling told s.ends }) (Err error)
 
 -- the session was told where its back end failed since the wire was opened, or there was no memory
 abbrev pub TellsCut : Option ℕ → Side → Side → Result ⊤ AllocError → Type 0
@@ -78,8 +78,8 @@ pub record IsNewLine (number : ℕ) (name : List ℕ) (hosts : List HostFacts) (
   pub stage : line.stage ≡ stages.Unopened
   pub kept : line.kept ≡ None
   pub owed : line.owed ≡ None
-  pub place : IfSome line.host (λ place. IsFirstPlace (λ host. bytes_eq host.name name) hosts place)
-  pub nowhere : line.host ≡ None → list_any (λ host. bytes_eq host.name name) hosts ≡ false
+  pub place : IfSome line.host (λ place. IsFirstPlace (λ host. bytes_eq host.ends.name name) hosts place)
+  pub nowhere : line.host ≡ None → list_any (λ host. bytes_eq host.ends.name name) hosts ≡ false
 
 -- The session under this number has a line: it had one, or its history told its host's name and one was made. None is made where
 -- its number has more than 32 bits
@@ -136,10 +136,9 @@ pub data ServesOne (moment : Option ℕ) (session : LiveSession) (a : Pumping) :
 pub record PollsAt (moment : Option ℕ) (place : ℕ) (a b : Pumping) (result : Result ⊤ AllocError) : Type 0 where
   pub host : HostFacts
   pub later : HostFacts
-  pub name : later.name ≡ host.name
+  pub name : later.ends.name ≡ host.ends.name
   pub turned : HostTurns place a.hosts b.hosts host later
-  pub polls : PollsHost moment (record { place = place; kept = host.kept; ends = host.ends; sessions = a.sessions; lines = a.lines })
-      (record { place = place; kept = later.kept; ends = later.ends; sessions = b.sessions; lines = b.lines }) result
+  pub polls : PollsHost moment (at_host place host a.sessions a.lines) (at_host place later b.sessions b.lines) result
   pub same : b ≡ record a { sessions = b.sessions; lines = b.lines; hosts = b.hosts }
 
 -- a session that is held was told where its back end failed

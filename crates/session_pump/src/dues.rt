@@ -11,8 +11,9 @@ use bosh_types::Moment;
 use pause_rules::DueIndex;
 use std::alloc::AllocError;
 use std::sync::Wait;
+use xmpp_backend::Backend;
 
-impl Pump {
+impl<E: Backend> Pump<E> {
     /// The first moment at which time has something to do for a session, by what was noted. None where it has nothing to do for any.
     pub fn first_due(&self) -> Option<Moment>
         ensures { IsLeastMoment self.now.dues result }

@@ -1,10 +1,10 @@
 // The hosts of a server, with what stands behind each.
-ghost use Rattle.std.specs.Prelude.{◌≡◌, ◌≢◌, ◌+◌, ◌<◌, IfNone, IfOk, IfSome, false, length, map, sum_by};
+ghost use Rattle.std.specs.Prelude.{◌≡◌, ◌≢◌, ◌<◌, IfNone, IfOk, IfSome, false, length, map};
 ghost use Rattle.std.specs.List.{list_any};
 ghost use Rattle.std.specs.Str.{bytes_eq};
 ghost use Rattle.xmpp_backend.specs.Counts.{counted_on};
 ghost use Rattle.xmpp_backend.specs.Told.{GivesStanza, closed_too, held_too, opened_too, passed_too, resumed_too};
-ghost use Rattle.session_pump.specs.Ends.{CallsEnd, Changes, PollsEnd, ends_of};
+ghost use Rattle.session_pump.specs.Ends.{CallsEnd, Changes, PollsEnd, ends_of, exchanged, fresh};
 ghost use Rattle.session_pump.specs.Places.{ChangesFirst, IsFirstPlace};
 
 use crate::line::Owing;
@@ -16,26 +16,26 @@ use xmpp_backend::{Backend, Passed, Polled};
 /// A host: its name, the stanzas that greet each new session, its back end, and those that take its place one after the other
 /// when one fails.
 #[derive(Drop)]
-pub struct Host {
+pub struct Host<E: Backend> {
     pub name: Text,
     pub greeting: Stanzas,
-    pub end: Box<dyn Backend + Send>,
-    pub spares: Vec<Box<dyn Backend + Send>>,
+    pub end: E,
+    pub spares: Vec<E>,
 }
 
 /// What became of a back end that was to take another's place.
 #[derive(Drop)]
-pub enum Replaced {
+pub enum Replaced<E: Backend> {
     /// It stands behind the host now, and this one did before.
-    Old(Box<dyn Backend + Send>),
+    Old(E),
     /// No host has that name. It is handed back.
-    Unknown(Box<dyn Backend + Send>),
+    Unknown(E),
 }
 
 /// A host, and what the pump remembers of it.
 #[derive(Drop)]
-pub struct Stand {
-    pub host: Host,
+pub struct Stand<E: Backend> {
+    pub host: Host<E>,
     /// How many back ends failed before the one that stands behind it now.
     pub failures: u64,
     // How many of its spares were used. A back end that failed stands in the place of the spare that took its own.
@@ -46,12 +46,10 @@ pub struct Stand {
     pub is_behind: bool,
 }
 
-impl Stand {
+impl<E: Backend> Stand<E> {
     /// Opens a wire to the host at its back end.
     pub(crate) fn open(&mut self, wire: Wire) -> Passed
-        ensures ends { CallsEnd (opened_too wire) result
-            (ends_of (told self.old.host.end) (counts self.old.host.end) self.old.failures (sum_by (λ spare. (counts spare).faults) self.old.host.spares.items))
-            (ends_of (told self.new.host.end) (counts self.new.host.end) self.new.failures (sum_by (λ spare. (counts spare).faults) self.new.host.spares.items)) }
+        ensures ends { CallsEnd (opened_too wire self.old.host.name) result (ends_of E.told E.counts self.old) (ends_of E.told E.counts self.new) }
         ensures kept { self.new.kept ≡ self.old.kept }
         ensures name { self.new.host.name ≡ self.old.host.name }
     {
@@ -62,9 +60,7 @@ impl Stand {
 
     /// Passes an item on a wire.
     pub(crate) fn pass(&mut self, wire: Wire, item: &Inward) -> Passed
-        ensures ends { CallsEnd (passed_too wire item.now) result
-            (ends_of (told self.old.host.end) (counts self.old.host.end) self.old.failures (sum_by (λ spare. (counts spare).faults) self.old.host.spares.items))
-            (ends_of (told self.new.host.end) (counts self.new.host.end) self.new.failures (sum_by (λ spare. (counts spare).faults) self.new.host.spares.items)) }
+        ensures ends { CallsEnd (passed_too wire item.now) result (ends_of E.told E.counts self.old) (ends_of E.told E.counts self.new) }
         ensures kept { self.new.kept ≡ self.old.kept }
         ensures name { self.new.host.name ≡ self.old.host.name }
     {
@@ -75,9 +71,7 @@ impl Stand {
 
     /// Closes a wire.
     pub(crate) fn close(&mut self, wire: Wire) -> Passed
-        ensures ends { CallsEnd (closed_too wire) result
-            (ends_of (told self.old.host.end) (counts self.old.host.end) self.old.failures (sum_by (λ spare. (counts spare).faults) self.old.host.spares.items))
-            (ends_of (told self.new.host.end) (counts self.new.host.end) self.new.failures (sum_by (λ spare. (counts spare).faults) self.new.host.spares.items)) }
+        ensures ends { CallsEnd (closed_too wire) result (ends_of E.told E.counts self.old) (ends_of E.told E.counts self.new) }
         ensures kept { self.new.kept ≡ self.old.kept }
         ensures name { self.new.host.name ≡ self.old.host.name }
     {
@@ -88,9 +82,7 @@ impl Stand {
 
     /// The next thing that the back end gave.
     pub(crate) fn poll(&mut self) -> Polled
-        ensures ends { PollsEnd result
-            (ends_of (told self.old.host.end) (counts self.old.host.end) self.old.failures (sum_by (λ spare. (counts spare).faults) self.old.host.spares.items))
-            (ends_of (told self.new.host.end) (counts self.new.host.end) self.new.failures (sum_by (λ spare. (counts spare).faults) self.new.host.spares.items)) }
+        ensures ends { PollsEnd result (ends_of E.told E.counts self.old) (ends_of E.told E.counts self.new) }
         ensures stanza { GivesStanza result }
         ensures kept { self.new.kept ≡ self.old.kept }
         ensures name { self.new.host.name ≡ self.old.host.name }
@@ -104,9 +96,7 @@ impl Stand {
 
     /// Holds a wire: nothing is to be given on it until it is resumed.
     pub(crate) fn hold(&mut self, wire: Wire)
-        ensures ends { Changes (held_too wire)
-            (ends_of (told self.old.host.end) (counts self.old.host.end) self.old.failures (sum_by (λ spare. (counts spare).faults) self.old.host.spares.items))
-            (ends_of (told self.new.host.end) (counts self.new.host.end) self.new.failures (sum_by (λ spare. (counts spare).faults) self.new.host.spares.items)) }
+        ensures ends { Changes (held_too wire) (ends_of E.told E.counts self.old) (ends_of E.told E.counts self.new) }
         ensures kept { self.new.kept ≡ self.old.kept }
         ensures name { self.new.host.name ≡ self.old.host.name }
     {
@@ -115,9 +105,7 @@ impl Stand {
 
     /// Resumes a wire that was held.
     pub(crate) fn resume(&mut self, wire: Wire)
-        ensures ends { Changes (resumed_too wire)
-            (ends_of (told self.old.host.end) (counts self.old.host.end) self.old.failures (sum_by (λ spare. (counts spare).faults) self.old.host.spares.items))
-            (ends_of (told self.new.host.end) (counts self.new.host.end) self.new.failures (sum_by (λ spare. (counts spare).faults) self.new.host.spares.items)) }
+        ensures ends { Changes (resumed_too wire) (ends_of E.told E.counts self.old) (ends_of E.told E.counts self.new) }
         ensures kept { self.new.kept ≡ self.old.kept }
         ensures name { self.new.host.name ≡ self.old.host.name }
     {
@@ -139,9 +127,7 @@ impl Stand {
 
     fn exchange_where_failed(&mut self, passed: Passed)
         ensures same { passed ≢ Passed.Failed → self.new ≡ self.old }
-        ensures failed { passed ≡ Passed.Failed → self.new.failures ≡ counted_on self.old.failures }
-        ensures faults { passed ≡ Passed.Failed → (counts self.new.host.end).faults + sum_by (λ spare. (counts spare).faults) self.new.host.spares.items
-            ≡ (counts self.old.host.end).faults + sum_by (λ spare. (counts spare).faults) self.old.host.spares.items }
+        ensures failed { passed ≡ Passed.Failed → ends_of E.told E.counts self.new ≡ exchanged (ends_of E.told E.counts self.old) }
         ensures kept { self.new.kept ≡ self.old.kept }
         ensures name { self.new.host.name ≡ self.old.host.name }
     {
@@ -157,7 +143,7 @@ impl Stand {
     }
 
     // Another back end takes the place of this one, which is handed back.
-    fn replace_end(&mut self, end: Box<dyn Backend + Send>) -> Box<dyn Backend + Send>
+    fn replace_end(&mut self, end: E) -> E
         ensures old { result ≡ self.old.host.end }
         ensures new { self.new ≡ record self.old { host = record self.old.host { end = end }; failures = counted_on self.old.failures } }
     {
@@ -167,9 +153,7 @@ impl Stand {
 
     // The back end failed: the next spare that wasn't used takes its place, where there is one.
     fn exchange(&mut self)
-        ensures failures { self.new.failures ≡ counted_on self.old.failures }
-        ensures faults { (counts self.new.host.end).faults + sum_by (λ spare. (counts spare).faults) self.new.host.spares.items
-            ≡ (counts self.old.host.end).faults + sum_by (λ spare. (counts spare).faults) self.old.host.spares.items }
+        ensures exchanged { ends_of E.told E.counts self.new ≡ exchanged (ends_of E.told E.counts self.old) }
         ensures kept { self.new.kept ≡ self.old.kept }
         ensures name { self.new.host.name ≡ self.old.host.name }
     {
@@ -183,14 +167,14 @@ impl Stand {
 
 /// The hosts of a server.
 #[derive(Drop)]
-pub struct Hosts {
-    pub stands: Vec<Stand>,
+pub struct Hosts<E: Backend> {
+    pub stands: Vec<Stand<E>>,
 }
 
-impl Hosts {
-    /// The only error is want of memory.
-    pub fn new(alloc: Global, hosts: Vec<Host>) -> Result<Hosts, AllocError>
-        ensures hosts { IfOk result (λ made. map (λ stand. stand.host) made.stands.items ≡ hosts.items) }
+impl<E: Backend> Hosts<E> {
+    /// Nothing of them was used yet, and nothing is kept. The only error is want of memory.
+    pub fn new(alloc: Global, hosts: Vec<Host<E>>) -> Result<Hosts<E>, AllocError>
+        ensures { IfOk result (λ made. made.stands.items ≡ map fresh hosts.items) }
     {
         let mut stands = Vec::with_capacity(alloc, hosts.len())?;
         for host in hosts {
@@ -232,7 +216,7 @@ impl Hosts {
 
     /// Puts a back end in the place of the one of this host. The wires that are open on the old one are so no longer, as after a
     /// failure. It takes no memory.
-    pub fn replace(&mut self, name: &[u8], end: Box<dyn Backend + Send>) -> Replaced
+    pub fn replace(&mut self, name: &[u8], end: E) -> Replaced<E>
         ensures unknown { (given : _) → result ≡ Replaced.Unknown given
             → (given ≡ end) × (self.new.stands ≡ self.old.stands) × (list_any (λ stand. bytes_eq stand.host.name name.now) self.old.stands.items ≡ false) }
         ensures old { (given : _) → result ≡ Replaced.Old given

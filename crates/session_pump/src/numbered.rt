@@ -1,10 +1,10 @@
 // A turn of the pump for some sessions alone.
-ghost use Rattle.std.specs.Prelude.{◌≡◌, ◌==◌, IfNone, IfSome, None, false, map, sum_by, true};
+ghost use Rattle.std.specs.Prelude.{◌≡◌, ◌==◌, IfNone, IfSome, None, false, true};
 ghost use Rattle.std.specs.List.{Contains, list_any};
-ghost use Rattle.parked_gate.specs.Passes.{IsPassOf, known};
+ghost use Rattle.parked_gate.specs.Passes.{IsPassOf};
 ghost use Rattle.session_table.specs.Purses.{Holds, held};
 ghost use Rattle.session_pump.specs.NumberedTurns.{ServesNumber, TellsFailures, TurnsFor};
-ghost use Rattle.session_pump.specs.Pumping.{Each, facts_of};
+ghost use Rattle.session_pump.specs.Pumping.{Each, pumping_of};
 
 use crate::pump::Pump;
 use crate::turn::both;
@@ -15,8 +15,9 @@ use server_ports::Clock;
 use session_table::{Directory, LiveSession, Purse};
 use std::alloc::AllocError;
 use std::sync::Wait;
+use xmpp_backend::Backend;
 
-impl Pump {
+impl<E: Backend> Pump<E> {
     /// Serves the live session under each of these opening numbers, polls each host for what its back end gave, and where a back end
     /// failed tells the live sessions. It costs nothing for other sessions. The only error is want of memory, which comes when all
     /// else is done; a whole turn goes on from there.
@@ -31,8 +32,7 @@ impl Pump {
         requires { IsPassOf directory.now self.old.purse.directory }
         ensures pass { IsPassOf directory.now self.new.purse.directory }
         ensures turns { TurnsFor (C.moment clock.now) numbers.now
-            (record { directory = known self.old.purse.directory; sessions = self.old.purse.sessions; lines = self.old.lines; hosts = map (λ stand. facts_of stand.host.name stand.kept (told stand.host.end) (counts stand.host.end) stand.failures (sum_by (λ spare. (counts spare).faults) stand.host.spares.items)) self.old.hosts.stands.items })
-            (record { directory = known self.new.purse.directory; sessions = self.new.purse.sessions; lines = self.new.lines; hosts = map (λ stand. facts_of stand.host.name stand.kept (told stand.host.end) (counts stand.host.end) stand.failures (sum_by (λ spare. (counts spare).faults) stand.host.spares.items)) self.new.hosts.stands.items })
+            (pumping_of E.told E.counts self.old) (pumping_of E.told E.counts self.new)
             result }
         ensures silences { B.silences bell.new ≡ B.silences bell.old }
     {
@@ -56,9 +56,9 @@ impl Pump {
         requires { IsPassOf directory.now self.old.purse.directory }
         ensures pass { IsPassOf directory.now self.new.purse.directory }
         ensures each { Each (ServesNumber (C.moment clock.now))
-            (record { directory = known self.old.purse.directory; sessions = self.old.purse.sessions; lines = self.old.lines; hosts = map (λ stand. facts_of stand.host.name stand.kept (told stand.host.end) (counts stand.host.end) stand.failures (sum_by (λ spare. (counts spare).faults) stand.host.spares.items)) self.old.hosts.stands.items })
+            (pumping_of E.told E.counts self.old)
             numbers.now
-            (record { directory = known self.new.purse.directory; sessions = self.new.purse.sessions; lines = self.new.lines; hosts = map (λ stand. facts_of stand.host.name stand.kept (told stand.host.end) (counts stand.host.end) stand.failures (sum_by (λ spare. (counts spare).faults) stand.host.spares.items)) self.new.hosts.stands.items })
+            (pumping_of E.told E.counts self.new)
             result }
         ensures silences { B.silences bell.new ≡ B.silences bell.old }
     {
@@ -84,8 +84,7 @@ impl Pump {
         requires { IsPassOf directory.now self.old.purse.directory }
         ensures pass { IsPassOf directory.now self.new.purse.directory }
         ensures serves { ServesNumber (C.moment clock.now) number
-            (record { directory = known self.old.purse.directory; sessions = self.old.purse.sessions; lines = self.old.lines; hosts = map (λ stand. facts_of stand.host.name stand.kept (told stand.host.end) (counts stand.host.end) stand.failures (sum_by (λ spare. (counts spare).faults) stand.host.spares.items)) self.old.hosts.stands.items })
-            (record { directory = known self.new.purse.directory; sessions = self.new.purse.sessions; lines = self.new.lines; hosts = map (λ stand. facts_of stand.host.name stand.kept (told stand.host.end) (counts stand.host.end) stand.failures (sum_by (λ spare. (counts spare).faults) stand.host.spares.items)) self.new.hosts.stands.items })
+            (pumping_of E.told E.counts self.old) (pumping_of E.told E.counts self.new)
             result }
         ensures silences { B.silences bell.new ≡ B.silences bell.old }
     {
@@ -113,8 +112,7 @@ impl Pump {
         requires not_held { held self.old.purse.sessions number ≡ None }
         ensures pass { IsPassOf directory.now self.new.purse.directory }
         ensures serves { ServesNumber (C.moment clock.now) number
-            (record { directory = known self.old.purse.directory; sessions = self.old.purse.sessions; lines = self.old.lines; hosts = map (λ stand. facts_of stand.host.name stand.kept (told stand.host.end) (counts stand.host.end) stand.failures (sum_by (λ spare. (counts spare).faults) stand.host.spares.items)) self.old.hosts.stands.items })
-            (record { directory = known self.new.purse.directory; sessions = self.new.purse.sessions; lines = self.new.lines; hosts = map (λ stand. facts_of stand.host.name stand.kept (told stand.host.end) (counts stand.host.end) stand.failures (sum_by (λ spare. (counts spare).faults) stand.host.spares.items)) self.new.hosts.stands.items })
+            (pumping_of E.told E.counts self.old) (pumping_of E.told E.counts self.new)
             result }
         ensures silences { B.silences bell.new ≡ B.silences bell.old }
     {
@@ -137,8 +135,7 @@ impl Pump {
         requires { IsPassOf directory.now self.old.purse.directory }
         ensures pass { IsPassOf directory.now self.new.purse.directory }
         ensures tells { TellsFailures (C.moment clock.now) counted.now
-            (record { directory = known self.old.purse.directory; sessions = self.old.purse.sessions; lines = self.old.lines; hosts = map (λ stand. facts_of stand.host.name stand.kept (told stand.host.end) (counts stand.host.end) stand.failures (sum_by (λ spare. (counts spare).faults) stand.host.spares.items)) self.old.hosts.stands.items })
-            (record { directory = known self.new.purse.directory; sessions = self.new.purse.sessions; lines = self.new.lines; hosts = map (λ stand. facts_of stand.host.name stand.kept (told stand.host.end) (counts stand.host.end) stand.failures (sum_by (λ spare. (counts spare).faults) stand.host.spares.items)) self.new.hosts.stands.items })
+            (pumping_of E.told E.counts self.old) (pumping_of E.told E.counts self.new)
             result }
         ensures silences { B.silences bell.new ≡ B.silences bell.old }
     {

@@ -1,11 +1,12 @@
 // What is inward of a session goes to the back end of its host.
-ghost use Rattle.std.specs.Prelude.{◌≡◌, ◌≢◌, ◌+◌, ℕ, IsSome, None, OnOk, Option, sum_by};
+ghost use Rattle.std.specs.Prelude.{◌≡◌, ◌≢◌, ℕ, IsSome, None, OnOk, Option};
 ghost use Rattle.parked_gate.specs.Passes.{Known};
 ghost use Rattle.session_journal.specs.declared.call.Call.TheVariants as calls;
 ghost use Rattle.session_journal.specs.declared.call.Reply.TheVariants as replies;
 ghost use Rattle.session_journal.specs.declared.entry.Entry.{Entry};
 ghost use Rattle.session_table.specs.Purses.{OthersStay, Turned, held};
 ghost use Rattle.session_pump.specs.Ends.{ends_of};
+ghost use Rattle.session_pump.specs.Pumping.{side};
 ghost use Rattle.session_pump.specs.Calling.{Called, taken_as};
 ghost use Rattle.session_pump.specs.Sides.{Moves, PassesAll};
 ghost use Rattle.session_pump.specs.Turns.{TakesAll};
@@ -17,22 +18,22 @@ use session_journal::{Call, Reply};
 use session_table::Purse;
 use std::alloc::AllocError;
 use std::sync::Wait;
-use xmpp_backend::Passed;
+use xmpp_backend::{Backend, Passed};
 
 /// Passes the items of a session on, in their order, until none is left. Where its wire is no more they are let go.
 /// The only error is want of memory, and what was taken then and not passed is kept.
-pub(crate) fn pass_all<R: Wait>(
+pub(crate) fn pass_all<R: Wait, E: Backend>(
     rt: &R,
     purse: &mut Purse,
     number: u64,
     line: &mut Line,
-    stand: &mut Stand,
+    stand: &mut Stand<E>,
 ) -> Result<(), AllocError>
     requires held { IsSome (held purse.old.sessions number) }
     requires opened { line.old.stage ≢ Stage.Unopened }
     ensures passes { (moment : Option ℕ) → Turned number purse.old.sessions purse.new.sessions (λ old new. PassesAll moment
-        (record { known = old; line = line.old; ends = ends_of (told stand.old.host.end) (counts stand.old.host.end) stand.old.failures (sum_by (λ spare. (counts spare).faults) stand.old.host.spares.items) })
-        (record { known = new; line = line.new; ends = ends_of (told stand.new.host.end) (counts stand.new.host.end) stand.new.failures (sum_by (λ spare. (counts spare).faults) stand.new.host.spares.items) })
+        (side old line.old (ends_of E.told E.counts stand.old))
+        (side new line.new (ends_of E.told E.counts stand.new))
         result) }
     ensures stage { line.new.stage ≡ line.old.stage }
     ensures host { line.new.host ≡ line.old.host }
@@ -81,11 +82,11 @@ fn next_item<R: Wait>(rt: &R, purse: &mut Purse, number: u64) -> Result<Option<I
 }
 
 // Passes what is kept on, where the wire is open, and lets it go where that is no more.
-fn hand_on(line: &mut Line, stand: &mut Stand) -> Result<(), AllocError>
+fn hand_on<E: Backend>(line: &mut Line, stand: &mut Stand<E>) -> Result<(), AllocError>
     requires { line.old.stage ≢ Stage.Unopened }
     ensures moves { (moment : Option ℕ) → (known : Known Entry) → Moves moment
-        (record { known = known; line = line.old; ends = ends_of (told stand.old.host.end) (counts stand.old.host.end) stand.old.failures (sum_by (λ spare. (counts spare).faults) stand.old.host.spares.items) })
-        (record { known = known; line = line.new; ends = ends_of (told stand.new.host.end) (counts stand.new.host.end) stand.new.failures (sum_by (λ spare. (counts spare).faults) stand.new.host.spares.items) }) }
+        (side known line.old (ends_of E.told E.counts stand.old))
+        (side known line.new (ends_of E.told E.counts stand.new)) }
     ensures none { OnOk result (line.new.kept ≡ None) }
     ensures stage { line.new.stage ≡ line.old.stage }
     ensures host { line.new.host ≡ line.old.host }

@@ -1,12 +1,12 @@
 // What the back ends give is polled and given to the sessions.
-ghost use Rattle.std.specs.Prelude.{◌≡◌, ◌≢◌, ◌+◌, ◌/◌, ℕ, IsTrue, None, Ok, OnOk, Option, Some, false, sum_by, true};
+ghost use Rattle.std.specs.Prelude.{◌≡◌, ◌≢◌, ◌+◌, ◌/◌, ℕ, IsTrue, None, Ok, OnOk, Option, Some, false, true};
 ghost use Rattle.bosh_types.specs.Limits.{most_streams};
 ghost use Rattle.session_table.specs.Purses.{Sessions};
 ghost use Rattle.session_pump.specs.Ends.{ends_of};
-ghost use Rattle.session_pump.specs.Pumping.{Lines, line_of};
+ghost use Rattle.session_pump.specs.Pumping.{Lines, facts_of, line_of};
 ghost use Rattle.session_pump.specs.declared.line.Line.{Line};
 ghost use Rattle.session_pump.specs.declared.line.Owing.{Owing};
-ghost use Rattle.session_pump.specs.Giving.{ComesFirst, GiveMoves, GivesOnce, PollGave, PollsHost, RunsDry, most_polls};
+ghost use Rattle.session_pump.specs.Giving.{ComesFirst, GiveMoves, GivesOnce, PollGave, PollsHost, RunsDry, at_host, most_polls};
 ghost use Rattle.xmpp_backend.specs.Told.{is_proper};
 
 use crate::giving::{Giving, give, may_take};
@@ -20,7 +20,7 @@ use session_table::Purse;
 use std::alloc::AllocError;
 use std::collections::BTreeMap;
 use std::sync::Wait;
-use xmpp_backend::{Given, Polled};
+use xmpp_backend::{Backend, Given, Polled};
 
 /// How often a host is polled in one turn at most.
 const MOST_POLLS: u32 = 4096;
@@ -28,27 +28,27 @@ const MOST_POLLS: u32 = 4096;
 /// Gives the sessions of the host at this place what its back end gave for them, until that has nothing or fails, or it gave
 /// something 4096 times. What a session has no room for is kept with its line, and the wire is held. The only error is want of
 /// memory, and then the next turn goes on from there.
-pub fn poll_host<R: Wait, C: Clock, B: Bell>(
+pub fn poll_host<R: Wait, C: Clock, B: Bell, E: Backend>(
     rt: &R,
     purse: &mut Purse,
     lines: &mut BTreeMap<u64, Line>,
     place: usize,
-    stand: &mut Stand,
+    stand: &mut Stand<E>,
     clock: &C,
     bell: &mut B,
 ) -> Result<(), AllocError>
     ensures gives { GiveMoves (C.moment clock.now)
-        (record { place = place; kept = stand.old.kept; ends = ends_of (told stand.old.host.end) (counts stand.old.host.end) stand.old.failures (sum_by (λ spare. (counts spare).faults) stand.old.host.spares.items); sessions = purse.old.sessions; lines = lines.old })
-        (record { place = place; kept = stand.new.kept; ends = ends_of (told stand.new.host.end) (counts stand.new.host.end) stand.new.failures (sum_by (λ spare. (counts spare).faults) stand.new.host.spares.items); sessions = purse.new.sessions; lines = lines.new }) }
+        (at_host place (facts_of E.told E.counts stand.old) purse.old.sessions lines.old)
+        (at_host place (facts_of E.told E.counts stand.new) purse.new.sessions lines.new) }
     ensures polls { PollsHost (C.moment clock.now)
-        (record { place = place; kept = stand.old.kept; ends = ends_of (told stand.old.host.end) (counts stand.old.host.end) stand.old.failures (sum_by (λ spare. (counts spare).faults) stand.old.host.spares.items); sessions = purse.old.sessions; lines = lines.old })
-        (record { place = place; kept = stand.new.kept; ends = ends_of (told stand.new.host.end) (counts stand.new.host.end) stand.new.failures (sum_by (λ spare. (counts spare).faults) stand.new.host.spares.items); sessions = purse.new.sessions; lines = lines.new })
+        (at_host place (facts_of E.told E.counts stand.old) purse.old.sessions lines.old)
+        (at_host place (facts_of E.told E.counts stand.new) purse.new.sessions lines.new)
         result }
 
     // Where it isn't behind then, the back end gave all that it had.
     ensures dry { stand.new.is_behind ≡ false → OnOk result (RunsDry (C.moment clock.now)
-        (record { place = place; kept = stand.old.kept; ends = ends_of (told stand.old.host.end) (counts stand.old.host.end) stand.old.failures (sum_by (λ spare. (counts spare).faults) stand.old.host.spares.items); sessions = purse.old.sessions; lines = lines.old })
-        (record { place = place; kept = stand.new.kept; ends = ends_of (told stand.new.host.end) (counts stand.new.host.end) stand.new.failures (sum_by (λ spare. (counts spare).faults) stand.new.host.spares.items); sessions = purse.new.sessions; lines = lines.new })) }
+        (at_host place (facts_of E.told E.counts stand.old) purse.old.sessions lines.old)
+        (at_host place (facts_of E.told E.counts stand.new) purse.new.sessions lines.new)) }
     ensures name { stand.new.host.name ≡ stand.old.host.name }
     ensures directory { purse.new.directory ≡ purse.old.directory }
     ensures silences { B.silences bell.new ≡ B.silences bell.old }
@@ -73,24 +73,24 @@ pub fn poll_host<R: Wait, C: Clock, B: Bell>(
 }
 
 // Gives what is kept, and polls the back end once where nothing is kept then. Whether it gave something.
-fn give_and_poll<R: Wait, C: Clock, B: Bell>(
+fn give_and_poll<R: Wait, C: Clock, B: Bell, E: Backend>(
     rt: &R,
     purse: &mut Purse,
     lines: &mut BTreeMap<u64, Line>,
     place: usize,
-    stand: &mut Stand,
+    stand: &mut Stand<E>,
     clock: &C,
     bell: &mut B,
 ) -> Result<bool, AllocError>
     ensures gives { GiveMoves (C.moment clock.now)
-        (record { place = place; kept = stand.old.kept; ends = ends_of (told stand.old.host.end) (counts stand.old.host.end) stand.old.failures (sum_by (λ spare. (counts spare).faults) stand.old.host.spares.items); sessions = purse.old.sessions; lines = lines.old })
-        (record { place = place; kept = stand.new.kept; ends = ends_of (told stand.new.host.end) (counts stand.new.host.end) stand.new.failures (sum_by (λ spare. (counts spare).faults) stand.new.host.spares.items); sessions = purse.new.sessions; lines = lines.new }) }
+        (at_host place (facts_of E.told E.counts stand.old) purse.old.sessions lines.old)
+        (at_host place (facts_of E.told E.counts stand.new) purse.new.sessions lines.new) }
     ensures over { result ≡ Ok false → RunsDry (C.moment clock.now)
-        (record { place = place; kept = stand.old.kept; ends = ends_of (told stand.old.host.end) (counts stand.old.host.end) stand.old.failures (sum_by (λ spare. (counts spare).faults) stand.old.host.spares.items); sessions = purse.old.sessions; lines = lines.old })
-        (record { place = place; kept = stand.new.kept; ends = ends_of (told stand.new.host.end) (counts stand.new.host.end) stand.new.failures (sum_by (λ spare. (counts spare).faults) stand.new.host.spares.items); sessions = purse.new.sessions; lines = lines.new }) }
+        (at_host place (facts_of E.told E.counts stand.old) purse.old.sessions lines.old)
+        (at_host place (facts_of E.told E.counts stand.new) purse.new.sessions lines.new) }
     ensures on { result ≡ Ok true → GivesOnce (C.moment clock.now)
-        (record { place = place; kept = stand.old.kept; ends = ends_of (told stand.old.host.end) (counts stand.old.host.end) stand.old.failures (sum_by (λ spare. (counts spare).faults) stand.old.host.spares.items); sessions = purse.old.sessions; lines = lines.old })
-        (record { place = place; kept = stand.new.kept; ends = ends_of (told stand.new.host.end) (counts stand.new.host.end) stand.new.failures (sum_by (λ spare. (counts spare).faults) stand.new.host.spares.items); sessions = purse.new.sessions; lines = lines.new }) }
+        (at_host place (facts_of E.told E.counts stand.old) purse.old.sessions lines.old)
+        (at_host place (facts_of E.told E.counts stand.new) purse.new.sessions lines.new) }
     ensures name { stand.new.host.name ≡ stand.old.host.name }
     ensures directory { purse.new.directory ≡ purse.old.directory }
     ensures silences { B.silences bell.new ≡ B.silences bell.old }
@@ -113,22 +113,22 @@ fn is_full(giving: Giving) -> bool
 }
 
 // Gives what is kept, and keeps it where there is no memory. Where its session has no room it is kept with the line.
-fn give_kept<R: Wait, C: Clock, B: Bell>(
+fn give_kept<R: Wait, C: Clock, B: Bell, E: Backend>(
     rt: &R,
     purse: &mut Purse,
     lines: &mut BTreeMap<u64, Line>,
     place: usize,
-    stand: &mut Stand,
+    stand: &mut Stand<E>,
     clock: &C,
     bell: &mut B,
 ) -> Result<Giving, AllocError>
     ensures gives { GiveMoves (C.moment clock.now)
-        (record { place = place; kept = stand.old.kept; ends = ends_of (told stand.old.host.end) (counts stand.old.host.end) stand.old.failures (sum_by (λ spare. (counts spare).faults) stand.old.host.spares.items); sessions = purse.old.sessions; lines = lines.old })
-        (record { place = place; kept = stand.new.kept; ends = ends_of (told stand.new.host.end) (counts stand.new.host.end) stand.new.failures (sum_by (λ spare. (counts spare).faults) stand.new.host.spares.items); sessions = purse.new.sessions; lines = lines.new }) }
+        (at_host place (facts_of E.told E.counts stand.old) purse.old.sessions lines.old)
+        (at_host place (facts_of E.told E.counts stand.new) purse.new.sessions lines.new) }
     ensures done { result ≡ Ok Giving.Done → stand.new.kept ≡ None }
     ensures full { result ≡ Ok Giving.Full → RunsDry (C.moment clock.now)
-        (record { place = place; kept = stand.old.kept; ends = ends_of (told stand.old.host.end) (counts stand.old.host.end) stand.old.failures (sum_by (λ spare. (counts spare).faults) stand.old.host.spares.items); sessions = purse.old.sessions; lines = lines.old })
-        (record { place = place; kept = stand.new.kept; ends = ends_of (told stand.new.host.end) (counts stand.new.host.end) stand.new.failures (sum_by (λ spare. (counts spare).faults) stand.new.host.spares.items); sessions = purse.new.sessions; lines = lines.new }) }
+        (at_host place (facts_of E.told E.counts stand.old) purse.old.sessions lines.old)
+        (at_host place (facts_of E.told E.counts stand.new) purse.new.sessions lines.new) }
     ensures name { stand.new.host.name ≡ stand.old.host.name }
     ensures directory { purse.new.directory ≡ purse.old.directory }
     ensures silences { B.silences bell.new ≡ B.silences bell.old }
@@ -196,21 +196,21 @@ fn is_here(lines: &BTreeMap<u64, Line>, number: u64, place: usize, failures: u64
 }
 
 // Keeps what the session refused with its line, and holds the wire, where that is open here.
-fn keep_back(
+fn keep_back<E: Backend>(
     lines: &mut BTreeMap<u64, Line>,
     place: usize,
-    stand: &mut Stand,
+    stand: &mut Stand<E>,
     number: u64,
 ) -> Giving
     requires kept { (owing : Owing) × (stand.old.kept ≡ Some owing) × (owing.number ≡ number) × (owing.was_refused ≡ true) }
     requires first { ComesFirst number lines.old }
     ensures moves { (moment : Option ℕ) → (sessions : Sessions) → GiveMoves moment
-        (record { place = place; kept = stand.old.kept; ends = ends_of (told stand.old.host.end) (counts stand.old.host.end) stand.old.failures (sum_by (λ spare. (counts spare).faults) stand.old.host.spares.items); sessions = sessions; lines = lines.old })
-        (record { place = place; kept = stand.new.kept; ends = ends_of (told stand.new.host.end) (counts stand.new.host.end) stand.new.failures (sum_by (λ spare. (counts spare).faults) stand.new.host.spares.items); sessions = sessions; lines = lines.new }) }
+        (at_host place (facts_of E.told E.counts stand.old) sessions lines.old)
+        (at_host place (facts_of E.told E.counts stand.new) sessions lines.new) }
     ensures done { result ≡ Giving.Done → stand.new.kept ≡ None }
     ensures still { result ≡ Giving.Full → stand.new.kept ≡ stand.old.kept }
-    ensures ends { result ≡ Giving.Full → ends_of (told stand.new.host.end) (counts stand.new.host.end) stand.new.failures (sum_by (λ spare. (counts spare).faults) stand.new.host.spares.items)
-        ≡ ends_of (told stand.old.host.end) (counts stand.old.host.end) stand.old.failures (sum_by (λ spare. (counts spare).faults) stand.old.host.spares.items) }
+    ensures ends { result ≡ Giving.Full → ends_of E.told E.counts stand.new
+        ≡ ends_of E.told E.counts stand.old }
     ensures lines { result ≡ Giving.Full → lines.new ≡ lines.old }
     ensures elsewhere { result ≡ Giving.Full → (line : Line) → line_of lines.old number ≡ Some line → line.host ≡ Some place → line.stage ≢ Stage.Opened stand.old.failures }
     ensures name { stand.new.host.name ≡ stand.old.host.name }
@@ -236,17 +236,17 @@ fn keep_on(line: &mut Line, owing: Owing)
 }
 
 // Polls the back end once, and keeps what it gives. Whether it gave something.
-fn poll(stand: &mut Stand) -> Result<bool, AllocError>
+fn poll<E: Backend>(stand: &mut Stand<E>) -> Result<bool, AllocError>
     requires { stand.old.kept ≡ None }
     ensures polls { (moment : Option ℕ) → (place : ℕ) → (sessions : Sessions) → (lines : Lines) → GiveMoves moment
-        (record { place = place; kept = stand.old.kept; ends = ends_of (told stand.old.host.end) (counts stand.old.host.end) stand.old.failures (sum_by (λ spare. (counts spare).faults) stand.old.host.spares.items); sessions = sessions; lines = lines })
-        (record { place = place; kept = stand.new.kept; ends = ends_of (told stand.new.host.end) (counts stand.new.host.end) stand.new.failures (sum_by (λ spare. (counts spare).faults) stand.new.host.spares.items); sessions = sessions; lines = lines }) }
+        (at_host place (facts_of E.told E.counts stand.old) sessions lines)
+        (at_host place (facts_of E.told E.counts stand.new) sessions lines) }
     ensures over { result ≡ Ok false → (moment : Option ℕ) → (place : ℕ) → (sessions : Sessions) → (lines : Lines) → RunsDry moment
-        (record { place = place; kept = stand.old.kept; ends = ends_of (told stand.old.host.end) (counts stand.old.host.end) stand.old.failures (sum_by (λ spare. (counts spare).faults) stand.old.host.spares.items); sessions = sessions; lines = lines })
-        (record { place = place; kept = stand.new.kept; ends = ends_of (told stand.new.host.end) (counts stand.new.host.end) stand.new.failures (sum_by (λ spare. (counts spare).faults) stand.new.host.spares.items); sessions = sessions; lines = lines }) }
+        (at_host place (facts_of E.told E.counts stand.old) sessions lines)
+        (at_host place (facts_of E.told E.counts stand.new) sessions lines) }
     ensures gave { result ≡ Ok true → (place : ℕ) → (sessions : Sessions) → (lines : Lines) → PollGave
-        (record { place = place; kept = stand.old.kept; ends = ends_of (told stand.old.host.end) (counts stand.old.host.end) stand.old.failures (sum_by (λ spare. (counts spare).faults) stand.old.host.spares.items); sessions = sessions; lines = lines })
-        (record { place = place; kept = stand.new.kept; ends = ends_of (told stand.new.host.end) (counts stand.new.host.end) stand.new.failures (sum_by (λ spare. (counts spare).faults) stand.new.host.spares.items); sessions = sessions; lines = lines }) }
+        (at_host place (facts_of E.told E.counts stand.old) sessions lines)
+        (at_host place (facts_of E.told E.counts stand.new) sessions lines) }
     ensures name { stand.new.host.name ≡ stand.old.host.name }
 {
     match stand.poll() {

@@ -8,22 +8,23 @@ use pause_rules::DueIndex;
 use session_table::Purse;
 use std::alloc::Global;
 use std::collections::BTreeMap;
+use xmpp_backend::Backend;
 
 /// What stands between the sessions of a server and its back ends: a purse of its own, the hosts, and the lines of the sessions
 /// that it has met, by their opening numbers.
 #[derive(Drop)]
-pub struct Pump {
+pub struct Pump<E: Backend> {
     pub(crate) alloc: Global,
     pub purse: Purse,
-    pub hosts: Hosts,
+    pub hosts: Hosts<E>,
     pub lines: BTreeMap<u64, Line>,
     /// When time next has something to do for each of the sessions, as they answered when that was last noted.
     pub dues: DueIndex,
 }
 
-impl Pump {
+impl<E: Backend> Pump<E> {
     /// A pump with this purse and these hosts that has met no session yet. It takes no memory.
-    pub fn new(alloc: Global, purse: Purse, hosts: Hosts) -> Pump
+    pub fn new(alloc: Global, purse: Purse, hosts: Hosts<E>) -> Pump<E>
         ensures purse { result.purse ≡ purse }
         ensures hosts { result.hosts ≡ hosts }
         ensures lines { IsEmpty result.lines }
@@ -46,7 +47,7 @@ impl Pump {
     }
 }
 
-fn any_is_behind(stands: &[Stand]) -> bool
+fn any_is_behind<E: Backend>(stands: &[Stand<E>]) -> bool
     ensures { result ≡ list_any (λ stand. stand.is_behind) stands.now }
 {
     for stand in stands {

@@ -1,10 +1,11 @@
 // One session in a turn: its wire, its time, and what is inward of it.
-ghost use Rattle.std.specs.Prelude.{◌≡◌, ◌≢◌, ◌⊎◌, ◌+◌, ℕ, IsSome, OnOk, Option, sum_by};
+ghost use Rattle.std.specs.Prelude.{◌≡◌, ◌≢◌, ◌⊎◌, ℕ, IsSome, OnOk, Option};
 ghost use Rattle.parked_gate.specs.Passes.{Known};
 ghost use Rattle.session_journal.specs.declared.entry.Entry.{Entry};
 ghost use Rattle.session_table.specs.Purses.{OthersStay, Turned, held};
 ghost use Rattle.xmpp_backend.specs.Told.{resumed_too};
 ghost use Rattle.session_pump.specs.Ends.{Changes, ends_of};
+ghost use Rattle.session_pump.specs.Pumping.{side};
 ghost use Rattle.session_pump.specs.Calling.{ClosesStream, Ticks};
 ghost use Rattle.session_pump.specs.Sides.{Moves, Serves, Tries};
 
@@ -20,23 +21,23 @@ use session_journal::{Call, Reply};
 use session_table::Purse;
 use std::alloc::AllocError;
 use std::sync::Wait;
-use xmpp_backend::Passed;
+use xmpp_backend::{Backend, Passed};
 
 /// Serves one session of a host: opens its wire where that wasn't done, tells it that its back end failed where it did, lets time
 /// pass, gives it what it had no room for, and passes on what is inward. The only error is want of memory.
-pub fn serve_line<R: Wait, C: Clock, B: Bell>(
+pub fn serve_line<R: Wait, C: Clock, B: Bell, E: Backend>(
     rt: &R,
     purse: &mut Purse,
     number: u64,
     line: &mut Line,
-    stand: &mut Stand,
+    stand: &mut Stand<E>,
     clock: &C,
     bell: &mut B,
 ) -> Result<(), AllocError>
     requires { IsSome (held purse.old.sessions number) }
     ensures serves { Turned number purse.old.sessions purse.new.sessions (λ old new. Serves (C.moment clock.now)
-        (record { known = old; line = line.old; ends = ends_of (told stand.old.host.end) (counts stand.old.host.end) stand.old.failures (sum_by (λ spare. (counts spare).faults) stand.old.host.spares.items) })
-        (record { known = new; line = line.new; ends = ends_of (told stand.new.host.end) (counts stand.new.host.end) stand.new.failures (sum_by (λ spare. (counts spare).faults) stand.new.host.spares.items) })
+        (side old line.old (ends_of E.told E.counts stand.old))
+        (side new line.new (ends_of E.told E.counts stand.new))
         result) }
     ensures opened { OnOk result (line.new.stage ≢ Stage.Unopened) }
     ensures host { line.new.host ≡ line.old.host }
@@ -54,19 +55,19 @@ pub fn serve_line<R: Wait, C: Clock, B: Bell>(
 }
 
 // Gives a session what it had no room for, where it has room now or has ended, and resumes its wire then.
-fn give_owed<R: Wait, C: Clock, B: Bell>(
+fn give_owed<R: Wait, C: Clock, B: Bell, E: Backend>(
     rt: &R,
     purse: &mut Purse,
     number: u64,
     line: &mut Line,
-    stand: &mut Stand,
+    stand: &mut Stand<E>,
     clock: &C,
     bell: &mut B,
 ) -> Result<(), AllocError>
     requires { IsSome (held purse.old.sessions number) }
     ensures tries { Turned number purse.old.sessions purse.new.sessions (λ old new. Tries (C.moment clock.now)
-        (record { known = old; line = line.old; ends = ends_of (told stand.old.host.end) (counts stand.old.host.end) stand.old.failures (sum_by (λ spare. (counts spare).faults) stand.old.host.spares.items) })
-        (record { known = new; line = line.new; ends = ends_of (told stand.new.host.end) (counts stand.new.host.end) stand.new.failures (sum_by (λ spare. (counts spare).faults) stand.new.host.spares.items) })
+        (side old line.old (ends_of E.told E.counts stand.old))
+        (side new line.new (ends_of E.told E.counts stand.new))
         result) }
     ensures stage { line.new.stage ≡ line.old.stage }
     ensures host { line.new.host ≡ line.old.host }
@@ -95,13 +96,12 @@ fn give_owed<R: Wait, C: Clock, B: Bell>(
 }
 
 // Resumes a wire of the session, where its own is open.
-fn resume_where_open(line: &Line, stand: &mut Stand, wire: Wire)
+fn resume_where_open<E: Backend>(line: &Line, stand: &mut Stand<E>, wire: Wire)
     ensures ends { ((line.now.stage ≡ Stage.Opened stand.old.failures) × Changes (resumed_too wire)
-        (ends_of (told stand.old.host.end) (counts stand.old.host.end) stand.old.failures (sum_by (λ spare. (counts spare).faults) stand.old.host.spares.items))
-        (ends_of (told stand.new.host.end) (counts stand.new.host.end) stand.new.failures (sum_by (λ spare. (counts spare).faults) stand.new.host.spares.items)))
+        (ends_of E.told E.counts stand.old) (ends_of E.told E.counts stand.new))
         ⊎ ((line.now.stage ≢ Stage.Opened stand.old.failures)
-        × (ends_of (told stand.new.host.end) (counts stand.new.host.end) stand.new.failures (sum_by (λ spare. (counts spare).faults) stand.new.host.spares.items)
-        ≡ ends_of (told stand.old.host.end) (counts stand.old.host.end) stand.old.failures (sum_by (λ spare. (counts spare).faults) stand.old.host.spares.items))) }
+        × (ends_of E.told E.counts stand.new
+        ≡ ends_of E.told E.counts stand.old)) }
     ensures kept { stand.new.kept ≡ stand.old.kept }
     ensures name { stand.new.host.name ≡ stand.old.host.name }
 {
@@ -112,10 +112,10 @@ fn resume_where_open(line: &Line, stand: &mut Stand, wire: Wire)
 }
 
 // Opens the wire of a session, where that wasn't done yet.
-fn open_wire(line: &mut Line, stand: &mut Stand) -> Result<(), AllocError>
+fn open_wire<E: Backend>(line: &mut Line, stand: &mut Stand<E>) -> Result<(), AllocError>
     ensures moves { (moment : Option ℕ) → (known : Known Entry) → Moves moment
-        (record { known = known; line = line.old; ends = ends_of (told stand.old.host.end) (counts stand.old.host.end) stand.old.failures (sum_by (λ spare. (counts spare).faults) stand.old.host.spares.items) })
-        (record { known = known; line = line.new; ends = ends_of (told stand.new.host.end) (counts stand.new.host.end) stand.new.failures (sum_by (λ spare. (counts spare).faults) stand.new.host.spares.items) }) }
+        (side known line.old (ends_of E.told E.counts stand.old))
+        (side known line.new (ends_of E.told E.counts stand.new)) }
     ensures opened { OnOk result (line.new.stage ≢ Stage.Unopened) }
     ensures host { line.new.host ≡ line.old.host }
     ensures kept { stand.new.kept ≡ stand.old.kept }
@@ -139,19 +139,19 @@ fn open_wire(line: &mut Line, stand: &mut Stand) -> Result<(), AllocError>
 }
 
 /// Tells a session that its back end failed, where it did since the wire was opened. The only error is want of memory.
-pub(crate) fn tell_cut<R: Wait, C: Clock, B: Bell>(
+pub(crate) fn tell_cut<R: Wait, C: Clock, B: Bell, E: Backend>(
     rt: &R,
     purse: &mut Purse,
     number: u64,
     line: &mut Line,
-    stand: &Stand,
+    stand: &Stand<E>,
     clock: &C,
     bell: &mut B,
 ) -> Result<(), AllocError>
     requires { IsSome (held purse.old.sessions number) }
     ensures moves { Turned number purse.old.sessions purse.new.sessions (λ old new. Moves (C.moment clock.now)
-        (record { known = old; line = line.old; ends = ends_of (told stand.now.host.end) (counts stand.now.host.end) stand.now.failures (sum_by (λ spare. (counts spare).faults) stand.now.host.spares.items) })
-        (record { known = new; line = line.new; ends = ends_of (told stand.now.host.end) (counts stand.now.host.end) stand.now.failures (sum_by (λ spare. (counts spare).faults) stand.now.host.spares.items) })) }
+        (side old line.old (ends_of E.told E.counts stand.now))
+        (side new line.new (ends_of E.told E.counts stand.now))) }
     ensures opened { line.old.stage ≢ Stage.Unopened → line.new.stage ≢ Stage.Unopened }
     ensures uncut { OnOk result ((on : ℕ) → line.new.stage ≡ Stage.Opened on → on ≡ stand.now.failures) }
     ensures host { line.new.host ≡ line.old.host }

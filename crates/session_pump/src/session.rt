@@ -1,5 +1,5 @@
 // One session in a turn.
-ghost use Rattle.std.specs.Prelude.{◌≡◌, ◌≢◌, ◌^◌, ◌<◌, ◌≤◌, ℕ, IfNone, IfOk, IfSome, IsOk, IsSome, List, None, Ok, OnErr, OnOk, Option, Some, false, length, map, sum_by, true};
+ghost use Rattle.std.specs.Prelude.{◌≡◌, ◌≢◌, ◌^◌, ◌<◌, ◌≤◌, ℕ, IfNone, IfOk, IfSome, IsOk, IsSome, List, None, Ok, OnErr, OnOk, Option, Some, false, length, true};
 ghost use Rattle.std.specs.BTreeMap.{IsUnchanged};
 ghost use Rattle.bosh_types.specs.declared.ending.Ending.{Ending};
 ghost use Rattle.parked_gate.specs.Passes.{IsPassOf, Known, Looks, known};
@@ -12,7 +12,7 @@ ghost use Rattle.session_table.specs.Purses.{OthersStay, Turned, held};
 ghost use Rattle.session_pump.specs.Ends.{ends_of};
 ghost use Rattle.session_pump.specs.Sides.{PassesAll, Serves};
 ghost use Rattle.session_pump.specs.declared.line.Line.{Line};
-ghost use Rattle.session_pump.specs.Pumping.{HasOpened, OnLine, Then, facts_of, line_of};
+ghost use Rattle.session_pump.specs.Pumping.{HasOpened, OnLine, Then, line_of, pumping_of, side};
 ghost use Rattle.session_pump.specs.Turns.{ClosesWire, IsGoingOn, IsOver, Meets, Removes, RemovesEnded, ServesAlone, ServesOne, TakesAll, TellsCut, TellsOne};
 
 use crate::hosts::Stand;
@@ -29,9 +29,9 @@ use session_table::{Directory, DirectoryCall, LiveSession, Purse};
 use std::alloc::AllocError;
 use std::collections::BTreeMap;
 use std::sync::Wait;
-use xmpp_backend::Passed;
+use xmpp_backend::{Backend, Passed};
 
-impl Pump {
+impl<E: Backend> Pump<E> {
     /// Serves one live session: opens its wire, lets time pass, passes its items on, and removes it where it has ended and none is
     /// left. The only error is want of memory, and then the next turn goes on from there.
     pub(crate) fn serve<R: Wait, C: Clock, B: Bell>(
@@ -45,8 +45,7 @@ impl Pump {
         requires { IsPassOf directory.now self.old.purse.directory }
         ensures pass { IsPassOf directory.now self.new.purse.directory }
         ensures serves { ServesOne (C.moment clock.now) session.now
-            (record { directory = known self.old.purse.directory; sessions = self.old.purse.sessions; lines = self.old.lines; hosts = map (λ stand. facts_of stand.host.name stand.kept (told stand.host.end) (counts stand.host.end) stand.failures (sum_by (λ spare. (counts spare).faults) stand.host.spares.items)) self.old.hosts.stands.items })
-            (record { directory = known self.new.purse.directory; sessions = self.new.purse.sessions; lines = self.new.lines; hosts = map (λ stand. facts_of stand.host.name stand.kept (told stand.host.end) (counts stand.host.end) stand.failures (sum_by (λ spare. (counts spare).faults) stand.host.spares.items)) self.new.hosts.stands.items })
+            (pumping_of E.told E.counts self.old) (pumping_of E.told E.counts self.new)
             result }
         ensures silences { B.silences bell.new ≡ B.silences bell.old }
     {
@@ -76,8 +75,7 @@ impl Pump {
         requires held { IsSome (held self.old.purse.sessions number) }
         ensures pass { IsPassOf directory.now self.new.purse.directory }
         ensures serves { Then (Meets number) (Then (OnLine (Serves (C.moment clock.now)) (ServesAlone (C.moment clock.now)) number) (RemovesEnded (C.moment clock.now) number sid.now))
-            (record { directory = known self.old.purse.directory; sessions = self.old.purse.sessions; lines = self.old.lines; hosts = map (λ stand. facts_of stand.host.name stand.kept (told stand.host.end) (counts stand.host.end) stand.failures (sum_by (λ spare. (counts spare).faults) stand.host.spares.items)) self.old.hosts.stands.items })
-            (record { directory = known self.new.purse.directory; sessions = self.new.purse.sessions; lines = self.new.lines; hosts = map (λ stand. facts_of stand.host.name stand.kept (told stand.host.end) (counts stand.host.end) stand.failures (sum_by (λ spare. (counts spare).faults) stand.host.spares.items)) self.new.hosts.stands.items })
+            (pumping_of E.told E.counts self.old) (pumping_of E.told E.counts self.new)
             result }
         ensures silences { B.silences bell.new ≡ B.silences bell.old }
     {
@@ -92,8 +90,7 @@ impl Pump {
         ensures held { IsSome (held self.new.purse.sessions number) }
         ensures directory { self.new.purse.directory ≡ self.old.purse.directory }
         ensures meets { Meets number
-            (record { directory = known self.old.purse.directory; sessions = self.old.purse.sessions; lines = self.old.lines; hosts = map (λ stand. facts_of stand.host.name stand.kept (told stand.host.end) (counts stand.host.end) stand.failures (sum_by (λ spare. (counts spare).faults) stand.host.spares.items)) self.old.hosts.stands.items })
-            (record { directory = known self.new.purse.directory; sessions = self.new.purse.sessions; lines = self.new.lines; hosts = map (λ stand. facts_of stand.host.name stand.kept (told stand.host.end) (counts stand.host.end) stand.failures (sum_by (λ spare. (counts spare).faults) stand.host.spares.items)) self.new.hosts.stands.items })
+            (pumping_of E.told E.counts self.old) (pumping_of E.told E.counts self.new)
             result }
     {
         if self.lines.get(&number).is_some() {
@@ -138,8 +135,7 @@ impl Pump {
         ensures opened { OnOk result (HasOpened number self.new.lines (length self.new.hosts.stands.items)) }
         ensures directory { self.new.purse.directory ≡ self.old.purse.directory }
         ensures serves { OnLine (Serves (C.moment clock.now)) (ServesAlone (C.moment clock.now)) number
-            (record { directory = known self.old.purse.directory; sessions = self.old.purse.sessions; lines = self.old.lines; hosts = map (λ stand. facts_of stand.host.name stand.kept (told stand.host.end) (counts stand.host.end) stand.failures (sum_by (λ spare. (counts spare).faults) stand.host.spares.items)) self.old.hosts.stands.items })
-            (record { directory = known self.new.purse.directory; sessions = self.new.purse.sessions; lines = self.new.lines; hosts = map (λ stand. facts_of stand.host.name stand.kept (told stand.host.end) (counts stand.host.end) stand.failures (sum_by (λ spare. (counts spare).faults) stand.host.spares.items)) self.new.hosts.stands.items })
+            (pumping_of E.told E.counts self.old) (pumping_of E.told E.counts self.new)
             result }
         ensures silences { B.silences bell.new ≡ B.silences bell.old }
     {
@@ -168,8 +164,7 @@ impl Pump {
         requires opened { HasOpened number self.old.lines (length self.old.hosts.stands.items) }
         ensures pass { IsPassOf directory.now self.new.purse.directory }
         ensures removes { (moment : Option ℕ) → RemovesEnded moment number sid.now
-            (record { directory = known self.old.purse.directory; sessions = self.old.purse.sessions; lines = self.old.lines; hosts = map (λ stand. facts_of stand.host.name stand.kept (told stand.host.end) (counts stand.host.end) stand.failures (sum_by (λ spare. (counts spare).faults) stand.host.spares.items)) self.old.hosts.stands.items })
-            (record { directory = known self.new.purse.directory; sessions = self.new.purse.sessions; lines = self.new.lines; hosts = map (λ stand. facts_of stand.host.name stand.kept (told stand.host.end) (counts stand.host.end) stand.failures (sum_by (λ spare. (counts spare).faults) stand.host.spares.items)) self.new.hosts.stands.items })
+            (pumping_of E.told E.counts self.old) (pumping_of E.told E.counts self.new)
             result }
     {
         if !has_ended(rt, &mut self.purse, number)? {
@@ -187,8 +182,7 @@ impl Pump {
         ensures held { IsSome (held self.new.purse.sessions number) }
         ensures directory { self.new.purse.directory ≡ self.old.purse.directory }
         ensures passes { (moment : Option ℕ) → OnLine (PassesAll moment) TakesAll number
-            (record { directory = known self.old.purse.directory; sessions = self.old.purse.sessions; lines = self.old.lines; hosts = map (λ stand. facts_of stand.host.name stand.kept (told stand.host.end) (counts stand.host.end) stand.failures (sum_by (λ spare. (counts spare).faults) stand.host.spares.items)) self.old.hosts.stands.items })
-            (record { directory = known self.new.purse.directory; sessions = self.new.purse.sessions; lines = self.new.lines; hosts = map (λ stand. facts_of stand.host.name stand.kept (told stand.host.end) (counts stand.host.end) stand.failures (sum_by (λ spare. (counts spare).faults) stand.host.spares.items)) self.new.hosts.stands.items })
+            (pumping_of E.told E.counts self.old) (pumping_of E.told E.counts self.new)
             result }
     {
         let Some(place) = self.host_of(number) else {
@@ -208,8 +202,7 @@ impl Pump {
         requires { IsSome (held self.old.purse.sessions number) }
         ensures purse { self.new.purse ≡ self.old.purse }
         ensures closes { OnLine ClosesWire (λ k m done. (m ≡ k) × (done ≡ Ok tt)) number
-            (record { directory = known self.old.purse.directory; sessions = self.old.purse.sessions; lines = self.old.lines; hosts = map (λ stand. facts_of stand.host.name stand.kept (told stand.host.end) (counts stand.host.end) stand.failures (sum_by (λ spare. (counts spare).faults) stand.host.spares.items)) self.old.hosts.stands.items })
-            (record { directory = known self.new.purse.directory; sessions = self.new.purse.sessions; lines = self.new.lines; hosts = map (λ stand. facts_of stand.host.name stand.kept (told stand.host.end) (counts stand.host.end) stand.failures (sum_by (λ spare. (counts spare).faults) stand.host.spares.items)) self.new.hosts.stands.items })
+            (pumping_of E.told E.counts self.old) (pumping_of E.told E.counts self.new)
             result }
     {
         let Some(place) = self.host_of(number) else {
@@ -235,8 +228,7 @@ impl Pump {
         requires { IsPassOf directory.now self.old.purse.directory }
         ensures pass { IsPassOf directory.now self.new.purse.directory }
         ensures removes { Removes number sid.now
-            (record { directory = known self.old.purse.directory; sessions = self.old.purse.sessions; lines = self.old.lines; hosts = map (λ stand. facts_of stand.host.name stand.kept (told stand.host.end) (counts stand.host.end) stand.failures (sum_by (λ spare. (counts spare).faults) stand.host.spares.items)) self.old.hosts.stands.items })
-            (record { directory = known self.new.purse.directory; sessions = self.new.purse.sessions; lines = self.new.lines; hosts = map (λ stand. facts_of stand.host.name stand.kept (told stand.host.end) (counts stand.host.end) stand.failures (sum_by (λ spare. (counts spare).faults) stand.host.spares.items)) self.new.hosts.stands.items })
+            (pumping_of E.told E.counts self.old) (pumping_of E.told E.counts self.new)
             result }
     {
         let sid = Text::from_vec(Vec::from_slice(self.alloc, sid.as_slice())?);
@@ -256,8 +248,7 @@ impl Pump {
     ) -> Result<(), AllocError>
         ensures directory { self.new.purse.directory ≡ self.old.purse.directory }
         ensures tells { TellsOne (C.moment clock.now) session.now
-            (record { directory = known self.old.purse.directory; sessions = self.old.purse.sessions; lines = self.old.lines; hosts = map (λ stand. facts_of stand.host.name stand.kept (told stand.host.end) (counts stand.host.end) stand.failures (sum_by (λ spare. (counts spare).faults) stand.host.spares.items)) self.old.hosts.stands.items })
-            (record { directory = known self.new.purse.directory; sessions = self.new.purse.sessions; lines = self.new.lines; hosts = map (λ stand. facts_of stand.host.name stand.kept (told stand.host.end) (counts stand.host.end) stand.failures (sum_by (λ spare. (counts spare).faults) stand.host.spares.items)) self.new.hosts.stands.items })
+            (pumping_of E.told E.counts self.old) (pumping_of E.told E.counts self.new)
             result }
         ensures silences { B.silences bell.new ≡ B.silences bell.old }
     {
@@ -278,8 +269,7 @@ impl Pump {
         requires { IsSome (held self.old.purse.sessions number) }
         ensures directory { self.new.purse.directory ≡ self.old.purse.directory }
         ensures tells { OnLine (TellsCut (C.moment clock.now)) (λ k m done. (m ≡ k) × (done ≡ Ok tt)) number
-            (record { directory = known self.old.purse.directory; sessions = self.old.purse.sessions; lines = self.old.lines; hosts = map (λ stand. facts_of stand.host.name stand.kept (told stand.host.end) (counts stand.host.end) stand.failures (sum_by (λ spare. (counts spare).faults) stand.host.spares.items)) self.old.hosts.stands.items })
-            (record { directory = known self.new.purse.directory; sessions = self.new.purse.sessions; lines = self.new.lines; hosts = map (λ stand. facts_of stand.host.name stand.kept (told stand.host.end) (counts stand.host.end) stand.failures (sum_by (λ spare. (counts spare).faults) stand.host.spares.items)) self.new.hosts.stands.items })
+            (pumping_of E.told E.counts self.old) (pumping_of E.told E.counts self.new)
             result }
         ensures silences { B.silences bell.new ≡ B.silences bell.old }
     {
@@ -326,10 +316,10 @@ fn forget_line(lines: &mut BTreeMap<u64, Line>, number: u64)
 }
 
 // Closes the wire, where it is open.
-fn close_line(line: &mut Line, stand: &mut Stand) -> Result<(), AllocError>
+fn close_line<E: Backend>(line: &mut Line, stand: &mut Stand<E>) -> Result<(), AllocError>
     ensures closes { (known : Known Entry) → ClosesWire
-        (record { known = known; line = line.old; ends = ends_of (told stand.old.host.end) (counts stand.old.host.end) stand.old.failures (sum_by (λ spare. (counts spare).faults) stand.old.host.spares.items) })
-        (record { known = known; line = line.new; ends = ends_of (told stand.new.host.end) (counts stand.new.host.end) stand.new.failures (sum_by (λ spare. (counts spare).faults) stand.new.host.spares.items) })
+        (side known line.old (ends_of E.told E.counts stand.old))
+        (side known line.new (ends_of E.told E.counts stand.new))
         result }
     ensures host { line.new.host ≡ line.old.host }
     ensures kept { stand.new.kept ≡ stand.old.kept }

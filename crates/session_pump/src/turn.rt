@@ -1,8 +1,8 @@
 // A turn of the pump, and the end.
-ghost use Rattle.std.specs.Prelude.{◌≡◌, ◌<◌, IfOk, OnErr, length, map, sum_by};
+ghost use Rattle.std.specs.Prelude.{◌≡◌, ◌<◌, IfOk, OnErr, length};
 ghost use Rattle.parked_gate.specs.Passes.{IsPassOf, Looks, known};
 ghost use Rattle.session_table.specs.History.{live_of};
-ghost use Rattle.session_pump.specs.Pumping.{AsksDirectory, Each, EachPlace, both, facts_of};
+ghost use Rattle.session_pump.specs.Pumping.{AsksDirectory, Each, EachPlace, both, pumping_of};
 ghost use Rattle.session_pump.specs.Turns.{AsksLive, CountsLive, PollsAt, ServesOne, ShutsDown, ShutsOne, TellsOne, Turns};
 
 use crate::polling::poll_host;
@@ -15,8 +15,9 @@ use server_ports::Clock;
 use session_table::{Directory, LiveSession, LiveSessions, Question};
 use std::alloc::AllocError;
 use std::sync::Wait;
+use xmpp_backend::Backend;
 
-impl Pump {
+impl<E: Backend> Pump<E> {
     /// Serves each live session once, polls each host for what its back end gave, and tells the sessions whose back ends failed. How
     /// many sessions are live after that. The only error is want of memory, which comes when all else is done; the next turn goes
     /// on from there.
@@ -31,8 +32,7 @@ impl Pump {
         ensures pass { IsPassOf directory.now self.new.purse.directory }
         ensures sessions { IfOk result (λ count. count ≡ length (live_of (known self.new.purse.directory).seen)) }
         ensures turns { Turns (C.moment clock.now)
-            (record { directory = known self.old.purse.directory; sessions = self.old.purse.sessions; lines = self.old.lines; hosts = map (λ stand. facts_of stand.host.name stand.kept (told stand.host.end) (counts stand.host.end) stand.failures (sum_by (λ spare. (counts spare).faults) stand.host.spares.items)) self.old.hosts.stands.items })
-            (record { directory = known self.new.purse.directory; sessions = self.new.purse.sessions; lines = self.new.lines; hosts = map (λ stand. facts_of stand.host.name stand.kept (told stand.host.end) (counts stand.host.end) stand.failures (sum_by (λ spare. (counts spare).faults) stand.host.spares.items)) self.new.hosts.stands.items })
+            (pumping_of E.told E.counts self.old) (pumping_of E.told E.counts self.new)
             result }
         ensures silences { B.silences bell.new ≡ B.silences bell.old }
     {
@@ -56,8 +56,7 @@ impl Pump {
         ensures pass { IsPassOf directory.now self.new.purse.directory }
         ensures sessions { IfOk result (λ count. count ≡ length (live_of (known self.new.purse.directory).seen)) }
         ensures counts { CountsLive
-            (record { directory = known self.old.purse.directory; sessions = self.old.purse.sessions; lines = self.old.lines; hosts = map (λ stand. facts_of stand.host.name stand.kept (told stand.host.end) (counts stand.host.end) stand.failures (sum_by (λ spare. (counts spare).faults) stand.host.spares.items)) self.old.hosts.stands.items })
-            (record { directory = known self.new.purse.directory; sessions = self.new.purse.sessions; lines = self.new.lines; hosts = map (λ stand. facts_of stand.host.name stand.kept (told stand.host.end) (counts stand.host.end) stand.failures (sum_by (λ spare. (counts spare).faults) stand.host.spares.items)) self.new.hosts.stands.items })
+            (pumping_of E.told E.counts self.old) (pumping_of E.told E.counts self.new)
             done result }
     {
         match done {
@@ -80,8 +79,7 @@ impl Pump {
         requires { IsPassOf directory.now self.old.purse.directory }
         ensures pass { IsPassOf directory.now self.new.purse.directory }
         ensures shuts_down { ShutsDown (C.moment clock.now)
-            (record { directory = known self.old.purse.directory; sessions = self.old.purse.sessions; lines = self.old.lines; hosts = map (λ stand. facts_of stand.host.name stand.kept (told stand.host.end) (counts stand.host.end) stand.failures (sum_by (λ spare. (counts spare).faults) stand.host.spares.items)) self.old.hosts.stands.items })
-            (record { directory = known self.new.purse.directory; sessions = self.new.purse.sessions; lines = self.new.lines; hosts = map (λ stand. facts_of stand.host.name stand.kept (told stand.host.end) (counts stand.host.end) stand.failures (sum_by (λ spare. (counts spare).faults) stand.host.spares.items)) self.new.hosts.stands.items })
+            (pumping_of E.told E.counts self.old) (pumping_of E.told E.counts self.new)
             result }
         ensures silences { B.silences bell.new ≡ B.silences bell.old }
     {
@@ -101,9 +99,9 @@ impl Pump {
         requires { IsPassOf directory.now self.old.purse.directory }
         ensures pass { IsPassOf directory.now self.new.purse.directory }
         ensures each { Each (ShutsOne (C.moment clock.now))
-            (record { directory = known self.old.purse.directory; sessions = self.old.purse.sessions; lines = self.old.lines; hosts = map (λ stand. facts_of stand.host.name stand.kept (told stand.host.end) (counts stand.host.end) stand.failures (sum_by (λ spare. (counts spare).faults) stand.host.spares.items)) self.old.hosts.stands.items })
+            (pumping_of E.told E.counts self.old)
             live.now
-            (record { directory = known self.new.purse.directory; sessions = self.new.purse.sessions; lines = self.new.lines; hosts = map (λ stand. facts_of stand.host.name stand.kept (told stand.host.end) (counts stand.host.end) stand.failures (sum_by (λ spare. (counts spare).faults) stand.host.spares.items)) self.new.hosts.stands.items })
+            (pumping_of E.told E.counts self.new)
             result }
         ensures silences { B.silences bell.new ≡ B.silences bell.old }
     {
@@ -126,8 +124,7 @@ impl Pump {
         requires { IsPassOf directory.now self.old.purse.directory }
         ensures pass { IsPassOf directory.now self.new.purse.directory }
         ensures shuts { ShutsOne (C.moment clock.now) session.now
-            (record { directory = known self.old.purse.directory; sessions = self.old.purse.sessions; lines = self.old.lines; hosts = map (λ stand. facts_of stand.host.name stand.kept (told stand.host.end) (counts stand.host.end) stand.failures (sum_by (λ spare. (counts spare).faults) stand.host.spares.items)) self.old.hosts.stands.items })
-            (record { directory = known self.new.purse.directory; sessions = self.new.purse.sessions; lines = self.new.lines; hosts = map (λ stand. facts_of stand.host.name stand.kept (told stand.host.end) (counts stand.host.end) stand.failures (sum_by (λ spare. (counts spare).faults) stand.host.spares.items)) self.new.hosts.stands.items })
+            (pumping_of E.told E.counts self.old) (pumping_of E.told E.counts self.new)
             result }
         ensures silences { B.silences bell.new ≡ B.silences bell.old }
     {
@@ -154,11 +151,9 @@ impl Pump {
         ensures pass { IsPassOf directory.now self.new.purse.directory }
         ensures live { IfOk result (λ live. length live ≡ length (live_of (known self.new.purse.directory).seen)) }
         ensures asked { IfOk result (λ live. AsksLive live
-            (record { directory = known self.old.purse.directory; sessions = self.old.purse.sessions; lines = self.old.lines; hosts = map (λ stand. facts_of stand.host.name stand.kept (told stand.host.end) (counts stand.host.end) stand.failures (sum_by (λ spare. (counts spare).faults) stand.host.spares.items)) self.old.hosts.stands.items })
-            (record { directory = known self.new.purse.directory; sessions = self.new.purse.sessions; lines = self.new.lines; hosts = map (λ stand. facts_of stand.host.name stand.kept (told stand.host.end) (counts stand.host.end) stand.failures (sum_by (λ spare. (counts spare).faults) stand.host.spares.items)) self.new.hosts.stands.items })) }
+            (pumping_of E.told E.counts self.old) (pumping_of E.told E.counts self.new)) }
         ensures err { OnErr result (AsksDirectory (Looks (λ log. Unit {0}))
-            (record { directory = known self.old.purse.directory; sessions = self.old.purse.sessions; lines = self.old.lines; hosts = map (λ stand. facts_of stand.host.name stand.kept (told stand.host.end) (counts stand.host.end) stand.failures (sum_by (λ spare. (counts spare).faults) stand.host.spares.items)) self.old.hosts.stands.items })
-            (record { directory = known self.new.purse.directory; sessions = self.new.purse.sessions; lines = self.new.lines; hosts = map (λ stand. facts_of stand.host.name stand.kept (told stand.host.end) (counts stand.host.end) stand.failures (sum_by (λ spare. (counts spare).faults) stand.host.spares.items)) self.new.hosts.stands.items })) }
+            (pumping_of E.told E.counts self.old) (pumping_of E.told E.counts self.new)) }
     {
         match directory.look(rt, &mut self.purse.directory, &Question::Live) {
             Ok(live) => Ok(live),
@@ -178,9 +173,9 @@ impl Pump {
         requires { IsPassOf directory.now self.old.purse.directory }
         ensures pass { IsPassOf directory.now self.new.purse.directory }
         ensures each { Each (ServesOne (C.moment clock.now))
-            (record { directory = known self.old.purse.directory; sessions = self.old.purse.sessions; lines = self.old.lines; hosts = map (λ stand. facts_of stand.host.name stand.kept (told stand.host.end) (counts stand.host.end) stand.failures (sum_by (λ spare. (counts spare).faults) stand.host.spares.items)) self.old.hosts.stands.items })
+            (pumping_of E.told E.counts self.old)
             live.now
-            (record { directory = known self.new.purse.directory; sessions = self.new.purse.sessions; lines = self.new.lines; hosts = map (λ stand. facts_of stand.host.name stand.kept (told stand.host.end) (counts stand.host.end) stand.failures (sum_by (λ spare. (counts spare).faults) stand.host.spares.items)) self.new.hosts.stands.items })
+            (pumping_of E.told E.counts self.new)
             result }
         ensures silences { B.silences bell.new ≡ B.silences bell.old }
     {
@@ -200,9 +195,9 @@ impl Pump {
     ) -> Result<(), AllocError>
         ensures directory { self.new.purse.directory ≡ self.old.purse.directory }
         ensures each { EachPlace (PollsAt (C.moment clock.now))
-            (record { directory = known self.old.purse.directory; sessions = self.old.purse.sessions; lines = self.old.lines; hosts = map (λ stand. facts_of stand.host.name stand.kept (told stand.host.end) (counts stand.host.end) stand.failures (sum_by (λ spare. (counts spare).faults) stand.host.spares.items)) self.old.hosts.stands.items })
+            (pumping_of E.told E.counts self.old)
             (length self.old.hosts.stands.items)
-            (record { directory = known self.new.purse.directory; sessions = self.new.purse.sessions; lines = self.new.lines; hosts = map (λ stand. facts_of stand.host.name stand.kept (told stand.host.end) (counts stand.host.end) stand.failures (sum_by (λ spare. (counts spare).faults) stand.host.spares.items)) self.new.hosts.stands.items })
+            (pumping_of E.told E.counts self.new)
             result }
         ensures silences { B.silences bell.new ≡ B.silences bell.old }
     {
@@ -225,8 +220,7 @@ impl Pump {
         ensures hosts { length self.new.hosts.stands.items ≡ length self.old.hosts.stands.items }
         ensures directory { self.new.purse.directory ≡ self.old.purse.directory }
         ensures polls { PollsAt (C.moment clock.now) place
-            (record { directory = known self.old.purse.directory; sessions = self.old.purse.sessions; lines = self.old.lines; hosts = map (λ stand. facts_of stand.host.name stand.kept (told stand.host.end) (counts stand.host.end) stand.failures (sum_by (λ spare. (counts spare).faults) stand.host.spares.items)) self.old.hosts.stands.items })
-            (record { directory = known self.new.purse.directory; sessions = self.new.purse.sessions; lines = self.new.lines; hosts = map (λ stand. facts_of stand.host.name stand.kept (told stand.host.end) (counts stand.host.end) stand.failures (sum_by (λ spare. (counts spare).faults) stand.host.spares.items)) self.new.hosts.stands.items })
+            (pumping_of E.told E.counts self.old) (pumping_of E.told E.counts self.new)
             result }
         ensures silences { B.silences bell.new ≡ B.silences bell.old }
     {
@@ -254,9 +248,9 @@ impl Pump {
     ) -> Result<(), AllocError>
         ensures directory { self.new.purse.directory ≡ self.old.purse.directory }
         ensures each { Each (TellsOne (C.moment clock.now))
-            (record { directory = known self.old.purse.directory; sessions = self.old.purse.sessions; lines = self.old.lines; hosts = map (λ stand. facts_of stand.host.name stand.kept (told stand.host.end) (counts stand.host.end) stand.failures (sum_by (λ spare. (counts spare).faults) stand.host.spares.items)) self.old.hosts.stands.items })
+            (pumping_of E.told E.counts self.old)
             live.now
-            (record { directory = known self.new.purse.directory; sessions = self.new.purse.sessions; lines = self.new.lines; hosts = map (λ stand. facts_of stand.host.name stand.kept (told stand.host.end) (counts stand.host.end) stand.failures (sum_by (λ spare. (counts spare).faults) stand.host.spares.items)) self.new.hosts.stands.items })
+            (pumping_of E.told E.counts self.new)
             result }
         ensures silences { B.silences bell.new ≡ B.silences bell.old }
     {

@@ -25,7 +25,7 @@ use session_table::{Directory, NewSession, Opening, Purse};
 use std::alloc::{AllocError, Global};
 use std::sync::Wait;
 use std::test::Fail;
-use xmpp_backend::{Backend, BackendCall, Echo, Failing, Room, Scripted, are_answers};
+use xmpp_backend::{BackendCall, Echo, Failing, InMemory, Room, Scripted, are_answers};
 
 const CREATION: &[u8] =
     b"<body rid='1000' to='example.org' wait='60' hold='1' ver='1.6' xmlns='http://jabber.org/protocol/httpbind'/>";
@@ -196,13 +196,13 @@ struct Scene {
     alloc: Global,
     directory: Gate<Directory>,
     worker: Purse,
-    pump: Pump,
+    pump: Pump<InMemory>,
     ghost worker_fits: { IsPassOf directory worker.directory },
     ghost pump_fits: { IsPassOf directory pump.purse.directory },
 }
 
 /// A scene with one host.
-fn set_up<R: Wait>(rt: &R, alloc: Global, host: Host) -> Result<Scene, &'static str> {
+fn set_up<R: Wait>(rt: &R, alloc: Global, host: Host<InMemory>) -> Result<Scene, &'static str> {
     let Ok(hosts) = only(alloc, host) else {
         return Err("no memory");
     };
@@ -210,7 +210,11 @@ fn set_up<R: Wait>(rt: &R, alloc: Global, host: Host) -> Result<Scene, &'static 
 }
 
 /// A scene with these hosts.
-fn set_up_over<R: Wait>(rt: &R, alloc: Global, hosts: Hosts) -> Result<Scene, &'static str> {
+fn set_up_over<R: Wait>(
+    rt: &R,
+    alloc: Global,
+    hosts: Hosts<InMemory>,
+) -> Result<Scene, &'static str> {
     let Ok((directory, mut mine)) = Gate::new(alloc, Directory::new(alloc)) else {
         return Err("no memory");
     };
@@ -226,27 +230,23 @@ fn set_up_over<R: Wait>(rt: &R, alloc: Global, hosts: Hosts) -> Result<Scene, &'
 }
 
 /// This host alone.
-fn only(alloc: Global, host: Host) -> Result<Hosts, AllocError> {
+fn only(alloc: Global, host: Host<InMemory>) -> Result<Hosts<InMemory>, AllocError> {
     let mut hosts = Vec::new(alloc);
     hosts.push(host)?;
     Hosts::new(alloc, hosts)
 }
 
 /// A host with this back end and these spares.
-fn host(
-    alloc: Global,
-    end: Box<dyn Backend + Send>,
-    spares: Vec<Box<dyn Backend + Send>>,
-) -> Result<Host, AllocError> {
+fn host(alloc: Global, end: InMemory, spares: Vec<InMemory>) -> Result<Host<InMemory>, AllocError> {
     host_named(alloc, b"example.org", end, spares)
 }
 
 fn host_named(
     alloc: Global,
     name: &[u8],
-    end: Box<dyn Backend + Send>,
-    spares: Vec<Box<dyn Backend + Send>>,
-) -> Result<Host, AllocError> {
+    end: InMemory,
+    spares: Vec<InMemory>,
+) -> Result<Host<InMemory>, AllocError> {
     Ok(Host {
         name: text(alloc, name)?,
         greeting: no_stanzas(alloc),
@@ -412,7 +412,7 @@ fn ends_with(answer: Option<SharedText>, end: &[u8]) -> bool {
 #[test]
 fn an_echo_gives_a_stanza_back(rt: HostRuntime) -> Result<(), Fail> {
     let alloc = rt.alloc();
-    let host = host(alloc, Box::new(alloc, Echo::new(alloc))?, Vec::new(alloc))?;
+    let host = host(alloc, InMemory::Echo(Echo::new(alloc)), Vec::new(alloc))?;
     let mut scene = set_up(&rt, alloc, host)?;
     let end = b" xmlns:stream='http://etherx.jabber.org/streams'><message/></body>";
     assert!(rt; is_answered_by_turn(&rt, &mut scene, STANZA, 0, end)?);
@@ -422,7 +422,7 @@ fn an_echo_gives_a_stanza_back(rt: HostRuntime) -> Result<(), Fail> {
 #[test]
 fn a_request_is_answered_when_its_time_is_over(rt: HostRuntime) -> Result<(), Fail> {
     let alloc = rt.alloc();
-    let host = host(alloc, Box::new(alloc, Echo::new(alloc))?, Vec::new(alloc))?;
+    let host = host(alloc, InMemory::Echo(Echo::new(alloc)), Vec::new(alloc))?;
     let mut scene = set_up(&rt, alloc, host)?;
     let end = b"<body xmlns='http://jabber.org/protocol/httpbind'/>";
     assert!(rt; is_answered_by_turn(&rt, &mut scene, EMPTY, 60000, end)?);
@@ -432,7 +432,7 @@ fn a_request_is_answered_when_its_time_is_over(rt: HostRuntime) -> Result<(), Fa
 #[test]
 fn a_session_that_has_ended_is_removed(rt: HostRuntime) -> Result<(), Fail> {
     let alloc = rt.alloc();
-    let host = host(alloc, Box::new(alloc, Echo::new(alloc))?, Vec::new(alloc))?;
+    let host = host(alloc, InMemory::Echo(Echo::new(alloc)), Vec::new(alloc))?;
     let mut scene = set_up(&rt, alloc, host)?;
     open(&rt, &mut scene)?;
     assert_eq!(rt; turn(&rt, &mut scene, 0)?, 1);
@@ -450,9 +450,9 @@ fn a_session_is_told_that_its_back_end_failed(rt: HostRuntime) -> Result<(), Fai
         number: 1,
     })?;
     let end = Scripted::new(alloc, Vec::new(alloc), failing);
-    let mut spares: Vec<Box<dyn Backend + Send>> = Vec::new(alloc);
-    spares.push(Box::new(alloc, Echo::new(alloc))?)?;
-    let host = host(alloc, Box::new(alloc, end)?, spares)?;
+    let mut spares: Vec<InMemory> = Vec::new(alloc);
+    spares.push(InMemory::Echo(Echo::new(alloc)))?;
+    let host = host(alloc, InMemory::Scripted(end), spares)?;
     let mut scene = set_up(&rt, alloc, host)?;
     let end = b" type='terminate' condition='remote-connection-failed'/>";
     assert!(rt; is_answered_by_turn(&rt, &mut scene, STANZA, 0, end)?);
@@ -479,7 +479,7 @@ fn is_answered_with(reply: &Reply, end: &[u8]) -> bool {
 fn what_a_session_has_no_room_for_is_kept_in_order(rt: HostRuntime) -> Result<(), Fail> {
     let alloc = rt.alloc();
     let end = giving(alloc, 1025)?;
-    let host = host(alloc, Box::new(alloc, end)?, Vec::new(alloc))?;
+    let host = host(alloc, InMemory::Scripted(end), Vec::new(alloc))?;
     let mut scene = set_up(&rt, alloc, host)?;
     let end = b" xmlns:stream='http://etherx.jabber.org/streams'><x/></body>";
     assert!(rt; is_answered_by_turn(&rt, &mut scene, ITEM, 0, end)?);
@@ -528,8 +528,8 @@ fn full_room<R: Wait>(rt: &R, alloc: Global) -> Result<Scene, &'static str> {
     Ok(scene)
 }
 
-fn room(alloc: Global) -> Result<Host, AllocError> {
-    host(alloc, Box::new(alloc, Room::new(alloc))?, Vec::new(alloc))
+fn room(alloc: Global) -> Result<Host<InMemory>, AllocError> {
+    host(alloc, InMemory::Room(Room::new(alloc)), Vec::new(alloc))
 }
 
 #[test]

@@ -11,7 +11,7 @@ use std::rt::Clock;
 use std::sync::{Arc, Mutex, Wait};
 use std::test::Fail;
 use std::thread::Threads;
-use xmpp_backend::{Backend, Echo, Scripted};
+use xmpp_backend::{Echo, InMemory, Scripted};
 
 const NAMESPACE: &str = "xmlns='http://jabber.org/protocol/httpbind'";
 
@@ -74,7 +74,7 @@ fn ends_with<R: Wait>(rt: &R, given: &Given, text: &String) -> bool {
 }
 
 // The host `example.org` with this back end behind it.
-fn one_host(alloc: Global, end: Box<dyn Backend + Send>) -> Result<Vec<Host>, AllocError> {
+fn one_host(alloc: Global, end: InMemory) -> Result<Vec<Host<InMemory>>, AllocError> {
     let features = Text::from_vec(b"<stream:features/>".to_vec(alloc)?);
     let greeting = Stanzas::from_vec(vec![in alloc; features]?);
     let name = Text::from_vec(b"example.org".to_vec(alloc)?);
@@ -97,7 +97,7 @@ fn served<R: Wait + Threads + Clock + Copy + Send + Drop + 'static>(
     net: ShownNetwork<R>,
     plan: &ServePlan,
     refused: Vec<u64>,
-    hosts: Vec<Host>,
+    hosts: Vec<Host<InMemory>>,
 ) -> Result<Ran, Fail> {
     let names = GivenNames::new(alloc, b"s", Rid::new(1000).ok_or("an id")?);
     let mut outside = Outside {
@@ -135,7 +135,7 @@ fn a_request_elsewhere_frees_the_one_that_waits(rt: HostRuntime) -> Result<(), F
         journal_limit: JOURNAL_BYTES,
     };
     let end = Scripted::new(alloc, Vec::new(alloc), Vec::new(alloc));
-    let hosts = one_host(alloc, Box::new(alloc, end)?)?;
+    let hosts = one_host(alloc, InMemory::Scripted(end))?;
     let ran = served(&rt, alloc, net, &plan, Vec::new(alloc), hosts)?;
     assert_eq!(rt; ran, Ran::Done { connections: 2 });
     let wanted = answer(
@@ -157,7 +157,7 @@ fn the_pump_brings_what_the_back_end_gives(rt: HostRuntime) -> Result<(), Fail> 
         connections: 1,
         journal_limit: JOURNAL_BYTES,
     };
-    let hosts = one_host(alloc, Box::new(alloc, Echo::new(alloc))?)?;
+    let hosts = one_host(alloc, InMemory::Echo(Echo::new(alloc)))?;
     let ran = served(&rt, alloc, net, &plan, Vec::new(alloc), hosts)?;
     assert_eq!(rt; ran, Ran::Done { connections: 1 });
     let wanted = answer(
@@ -180,7 +180,7 @@ fn a_network_that_stops_ends_the_server(rt: HostRuntime) -> Result<(), Fail> {
         journal_limit: JOURNAL_BYTES,
     };
     let end = Scripted::new(alloc, Vec::new(alloc), Vec::new(alloc));
-    let hosts = one_host(alloc, Box::new(alloc, end)?)?;
+    let hosts = one_host(alloc, InMemory::Scripted(end))?;
     let ran = served(&rt, alloc, net, &plan, Vec::new(alloc), hosts)?;
     assert_eq!(rt; ran, Ran::Done { connections: 1 });
     let wanted = answer(
@@ -203,7 +203,7 @@ fn a_refused_start_ends_the_server(rt: HostRuntime) -> Result<(), Fail> {
             connections: 1,
             journal_limit: JOURNAL_BYTES,
         };
-        let hosts = one_host(alloc, Box::new(alloc, Echo::new(alloc))?)?;
+        let hosts = one_host(alloc, InMemory::Echo(Echo::new(alloc)))?;
         let refused = vec![in alloc; number]?;
         let ran = served(&rt, alloc, net, &plan, refused, hosts)?;
         assert_eq!(rt; ran, Ran::SpawnFault);

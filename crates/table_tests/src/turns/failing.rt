@@ -11,7 +11,7 @@ use session_pump::{Hosts, Replaced};
 use std::alloc::{AllocError, Global};
 use std::sync::Wait;
 use std::test::Fail;
-use xmpp_backend::{Backend, BackendCall, Echo, Failing, Passed, Scripted, are_answers};
+use xmpp_backend::{Backend, BackendCall, Echo, Failing, InMemory, Passed, Scripted, are_answers};
 
 /// The last bytes of what a session is told whose back end failed.
 const FAILED: &[u8] = b" type='terminate' condition='remote-connection-failed'/>";
@@ -157,17 +157,17 @@ fn each_session_of_a_back_end_that_failed_is_told_once(rt: HostRuntime) -> Resul
         (BackendCall::Close, 9, true),
     ];
     for (call, number, is_replaced) in rows {
-        let mut spares: Vec<Box<dyn Backend + Send>> = Vec::new(alloc);
-        spares.push(Box::new(alloc, Echo::new(alloc))?)?;
-        let end = Box::new(alloc, silent(alloc, call, number)?)?;
+        let mut spares: Vec<InMemory> = Vec::new(alloc);
+        spares.push(InMemory::Echo(Echo::new(alloc)))?;
+        let end = InMemory::Scripted(silent(alloc, call, number)?);
         let here = host(alloc, end, spares)?;
-        let echo = Box::new(alloc, Echo::new(alloc))?;
+        let echo = InMemory::Echo(Echo::new(alloc));
         let there = host_named(alloc, b"example.com", echo, Vec::new(alloc))?;
         let hosts = Hosts::new(alloc, vec![in alloc; here, there]?)?;
         let mut scene = set_up_over(&rt, alloc, hosts)?;
         let tickets = four(&rt, &mut scene)?;
         if is_replaced {
-            let echo = Box::new(alloc, Echo::new(alloc))?;
+            let echo = InMemory::Echo(Echo::new(alloc));
             drop(scene.pump.hosts.replace(b"example.org", echo));
         }
         let told = told_in_two_turns(&rt, &mut scene, &tickets)?;
@@ -208,11 +208,11 @@ fn who_comes_after_a_failure_is_served_by_what_stands_there(rt: HostRuntime) -> 
     let alloc = rt.alloc();
     let rows: [(bool, &[u8]); 2] = [(true, b"><c/></body>"), (false, b"><d/></body>")];
     for (has_spare, end) in rows {
-        let mut spares: Vec<Box<dyn Backend + Send>> = Vec::new(alloc);
+        let mut spares: Vec<InMemory> = Vec::new(alloc);
         if has_spare {
-            spares.push(Box::new(alloc, Echo::new(alloc))?)?;
+            spares.push(InMemory::Echo(Echo::new(alloc)))?;
         }
-        let failing = Box::new(alloc, failing_at_second(alloc)?)?;
+        let failing = InMemory::Scripted(failing_at_second(alloc)?);
         let mut scene = set_up(&rt, alloc, host(alloc, failing, spares)?)?;
         open(&rt, &mut scene)?;
         parked(&rt, &mut scene, 1, 1001, "<a/>")?;
@@ -229,10 +229,10 @@ fn who_comes_after_a_failure_is_served_by_what_stands_there(rt: HostRuntime) -> 
 #[test]
 fn spares_take_the_place_one_after_the_other(rt: HostRuntime) -> Result<(), Fail> {
     let alloc = rt.alloc();
-    let end = Box::new(alloc, silent(alloc, BackendCall::Pass, 1)?)?;
-    let mut spares: Vec<Box<dyn Backend + Send>> = Vec::new(alloc);
-    spares.push(Box::new(alloc, silent(alloc, BackendCall::Pass, 1)?)?)?;
-    spares.push(Box::new(alloc, Echo::new(alloc))?)?;
+    let end = InMemory::Scripted(silent(alloc, BackendCall::Pass, 1)?);
+    let mut spares: Vec<InMemory> = Vec::new(alloc);
+    spares.push(InMemory::Scripted(silent(alloc, BackendCall::Pass, 1)?))?;
+    spares.push(InMemory::Echo(Echo::new(alloc)))?;
     let mut scene = set_up(&rt, alloc, host(alloc, end, spares)?)?;
     let rows: [(u64, &[u8]); 3] = [(1, FAILED), (2, FAILED), (3, b"><c/></body>")];
     for (number, end) in rows {
@@ -245,7 +245,7 @@ fn spares_take_the_place_one_after_the_other(rt: HostRuntime) -> Result<(), Fail
 #[test]
 fn a_back_end_whose_place_is_taken_is_handed_back(rt: HostRuntime) -> Result<(), Fail> {
     let alloc = rt.alloc();
-    let old = Box::new(alloc, silent(alloc, BackendCall::Open, 2)?)?;
+    let old = InMemory::Scripted(silent(alloc, BackendCall::Open, 2)?);
     let mut scene = set_up(&rt, alloc, host(alloc, old, Vec::new(alloc))?)?;
     open(&rt, &mut scene)?;
     turn(&rt, &mut scene, 0)?;
@@ -254,7 +254,7 @@ fn a_back_end_whose_place_is_taken_is_handed_back(rt: HostRuntime) -> Result<(),
         (b"example.org", true, Passed::Failed),
     ];
     for (name, was_there, passed) in rows {
-        let echo = Box::new(alloc, Echo::new(alloc))?;
+        let echo = InMemory::Echo(Echo::new(alloc));
         let (is_old, end) = match scene.pump.hosts.replace(name, echo) {
             Replaced::Old(end) => (true, end),
             Replaced::Unknown(end) => (false, end),

@@ -8,7 +8,7 @@ use server_ports::StillClock;
 use std::alloc::AllocError;
 use std::sync::Wait;
 use std::test::Fail;
-use xmpp_backend::Echo;
+use xmpp_backend::{Echo, InMemory};
 
 const ENDS: &[u8] =
     b"<body rid='1002' sid='s1' type='terminate' xmlns='http://jabber.org/protocol/httpbind'/>";
@@ -27,7 +27,7 @@ fn turn_for<R: Wait>(rt: &R, scene: &mut Scene, numbers: &[u64]) -> Result<(), A
 #[test]
 fn only_the_sessions_of_the_list_are_served(rt: HostRuntime) -> Result<(), Fail> {
     let alloc = rt.alloc();
-    let host = host(alloc, Box::new(alloc, Echo::new(alloc))?, Vec::new(alloc))?;
+    let host = host(alloc, InMemory::Echo(Echo::new(alloc)), Vec::new(alloc))?;
     let mut scene = set_up(&rt, alloc, host)?;
     open(&rt, &mut scene)?;
     open(&rt, &mut scene)?;
@@ -51,7 +51,7 @@ fn only_the_sessions_of_the_list_are_served(rt: HostRuntime) -> Result<(), Fail>
 #[test]
 fn a_session_that_has_ended_is_removed_by_its_number(rt: HostRuntime) -> Result<(), Fail> {
     let alloc = rt.alloc();
-    let host = host(alloc, Box::new(alloc, Echo::new(alloc))?, Vec::new(alloc))?;
+    let host = host(alloc, InMemory::Echo(Echo::new(alloc)), Vec::new(alloc))?;
     let mut scene = set_up(&rt, alloc, host)?;
     open(&rt, &mut scene)?;
     turn_for(&rt, &mut scene, &[1])?;
@@ -65,7 +65,7 @@ fn a_session_that_has_ended_is_removed_by_its_number(rt: HostRuntime) -> Result<
 #[test]
 fn who_is_due_is_told_by_number(rt: HostRuntime) -> Result<(), Fail> {
     let alloc = rt.alloc();
-    let host = host(alloc, Box::new(alloc, Echo::new(alloc))?, Vec::new(alloc))?;
+    let host = host(alloc, InMemory::Echo(Echo::new(alloc)), Vec::new(alloc))?;
     let mut scene = set_up(&rt, alloc, host)?;
     open(&rt, &mut scene)?;
     open(&rt, &mut scene)?;
@@ -95,7 +95,7 @@ fn the_first_due_moment_is_that_of_the_sessions_that_are_noted(
     rt: HostRuntime,
 ) -> Result<(), Fail> {
     let alloc = rt.alloc();
-    let host = host(alloc, Box::new(alloc, Echo::new(alloc))?, Vec::new(alloc))?;
+    let host = host(alloc, InMemory::Echo(Echo::new(alloc)), Vec::new(alloc))?;
     let mut scene = set_up(&rt, alloc, host)?;
     open(&rt, &mut scene)?;
     turn_for(&rt, &mut scene, &[1])?;

@@ -1,4 +1,4 @@
-use Rattle.std.specs.Prelude.{◌≡◌, ◌≢◌, ℕ, IsSome, Option, sum_by}
+use Rattle.std.specs.Prelude.{◌≡◌, ◌≢◌, ℕ, IsSome, Option}
 use Rattle.session_table.specs.Purses.{OthersStay, Turned, held}
 use Rattle.session_pump.specs.Ends.{ends_of}
 use Rattle.session_pump.specs.Sides.{Moves}
@@ -21,19 +21,11 @@ invariant-loop g l = record {
       (record {
         known = old;
         line = l.fn.line;
-        ends = ends_of
-            ((goal.Backend-dyn g (l.fn.stand.host.end.vtable, l.fn.stand.host.end.value)).told l.fn.stand.host.end.value)
-            ((goal.Backend-dyn g (l.fn.stand.host.end.vtable, l.fn.stand.host.end.value)).counts l.fn.stand.host.end.value)
-            l.fn.stand.failures
-            (sum_by (λ spare. ((goal.Backend-dyn g (spare.vtable, spare.value)).counts spare.value).faults) l.fn.stand.host.spares.items);
+        ends = ends_of g.E.Backend.told g.E.Backend.counts l.fn.stand;
       })
       (record {
         known = new;
         line = l.line;
-        ends = ends_of
-            ((goal.Backend-dyn g (l.stand.host.end.vtable, l.stand.host.end.value)).told l.stand.host.end.value)
-            ((goal.Backend-dyn g (l.stand.host.end.vtable, l.stand.host.end.value)).counts l.stand.host.end.value)
-            l.stand.failures
-            (sum_by (λ spare. ((goal.Backend-dyn g (spare.vtable, spare.value)).counts spare.value).faults) l.stand.host.spares.items);
+        ends = ends_of g.E.Backend.told g.E.Backend.counts l.stand;
       }));
 }

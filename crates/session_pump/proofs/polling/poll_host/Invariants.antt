@@ -1,4 +1,4 @@
-use Rattle.std.specs.Prelude.{◌≡◌, sum_by}
+use Rattle.std.specs.Prelude.{◌≡◌}
 use Rattle.session_pump.specs.Ends.{ends_of}
 use Rattle.session_pump.specs.Giving.{GivesTimes}
 use Rattle.session_pump.proofs.polling.poll_host.Given as goal
@@ -12,22 +12,14 @@ invariant-loop g l = record {
       (record {
         place = l.place;
         kept = l.fn.stand.kept;
-        ends = ends_of
-            ((goal.Backend-dyn g (l.fn.stand.host.end.vtable, l.fn.stand.host.end.value)).told l.fn.stand.host.end.value)
-            ((goal.Backend-dyn g (l.fn.stand.host.end.vtable, l.fn.stand.host.end.value)).counts l.fn.stand.host.end.value)
-            l.fn.stand.failures
-            (sum_by (λ spare. ((goal.Backend-dyn g (spare.vtable, spare.value)).counts spare.value).faults) l.fn.stand.host.spares.items);
+        ends = ends_of g.E.Backend.told g.E.Backend.counts l.fn.stand;
         sessions = l.fn.purse.sessions;
         lines = l.fn.lines;
       })
       (record {
         place = l.place;
         kept = l.stand.kept;
-        ends = ends_of
-            ((goal.Backend-dyn g (l.stand.host.end.vtable, l.stand.host.end.value)).told l.stand.host.end.value)
-            ((goal.Backend-dyn g (l.stand.host.end.vtable, l.stand.host.end.value)).counts l.stand.host.end.value)
-            l.stand.failures
-            (sum_by (λ spare. ((goal.Backend-dyn g (spare.vtable, spare.value)).counts spare.value).faults) l.stand.host.spares.items);
+        ends = ends_of g.E.Backend.told g.E.Backend.counts l.stand;
         sessions = l.purse.sessions;
         lines = l.lines;
       });

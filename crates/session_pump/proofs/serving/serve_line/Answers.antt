@@ -1,5 +1,7 @@
+use Rattle.std.proofs.Common.{◌≢◌, sym, ◌∙◌}
 use Rattle.session_pump.specs.Sides.{none}
-use Rattle.session_pump.proofs.ServingLemmas.{after_still, serves_early, serves_on, serves_untimed, serves_untried}
+use Rattle.session_pump.specs.declared.line.Stage.TheVariants as stages
+use Rattle.session_pump.proofs.ServingLemmas.{after_still, on_ok, serves_early, serves_on, serves_untimed, serves_untried}
 use Rattle.session_pump.proofs.TurnedLemmas.{turned_none}
 use Rattle.session_pump.proofs.serving.serve_line.Goals as goal
 
@@ -31,3 +33,7 @@ returns-clause-serves g c =
     (after_still _ _ _ _ _ _ _ _ _ (c.in_ok-open_wire.ensures.moves (g.C.Clock.moment c.args.clock.now)) c.in_ok-tell_cut.ensures.moves)
     c.in_ok-tick.ensures.ticks c.in_ok-give_owed.ensures.tries
     (c.pass_all.ensures.passes (g.C.Clock.moment c.args.clock.now))
+
+pub returns-clause-opened : goal.returns-clause-opened
+returns-clause-opened g c =
+    on_ok {P = c.pass_all.new.line.stage ≢ stages.Unopened} _ (λ is. c.in_ok-tell_cut.ensures.opened c.in_ok-open_wire.ensures.opened (sym (c.pass_all.ensures.stage ∙ c.in_ok-give_owed.ensures.stage) ∙ is))

@@ -10,4 +10,4 @@ pub returns-clause-closes : goal.returns-clause-closes
 returns-clause-closes g c =
     on_host_of _ _ _ _ _ _ _ _ _ c.in-Some.place _ _ c.in-Some-get_mut-2.stand.now _ _ refl (sym c.in-Some-get_mut.ensures.value)
     (c.get_mut.follows.holds c.close_line.new.line) (same_host c.in-Some.ensures.line (sym c.in-Some-get_mut.ensures.value)) c.close_line.ensures.host
-    c.in-Some.ensures.within (search rules) c.close_line.ensures.name c.close_line.ensures.kept (turned_none _ _ _ c.requires (λ k. c.close_line.ensures.closes k)) (λ other differs. refl)
+    c.in-Some.ensures.within (search rules) c.close_line.ensures.kept (turned_none _ _ _ c.requires (λ k. c.close_line.ensures.closes k)) (λ other differs. refl)

@@ -12,7 +12,7 @@ pub returns-clause-passes : goal.returns-clause-passes
 returns-clause-passes g c moment =
     on_host_of _ _ _ _ _ _ _ _ _ c.in-Some.place _ _ c.in-Some-get_mut-2.stand.now _ _ (ap known c.pass_all.ensures.directory) (sym c.in-Some-get_mut.ensures.value)
     (c.get_mut.follows.holds c.pass_all.new.line) (same_host c.in-Some.ensures.line (sym c.in-Some-get_mut.ensures.value)) c.pass_all.ensures.host
-    c.in-Some.ensures.within (search rules) c.pass_all.ensures.name c.pass_all.ensures.kept (c.pass_all.ensures.passes moment) c.pass_all.ensures.others
+    c.in-Some.ensures.within (search rules) c.pass_all.ensures.kept (c.pass_all.ensures.passes moment) c.pass_all.ensures.others
 
 pub pass_all-requires-clause-opened : goal.pass_all-requires-clause-opened
 pass_all-requires-clause-opened g c =

@@ -1,6 +1,5 @@
-use Rattle.std.specs.Prelude.{◌≡◌, length, map, sum_by}
-use Rattle.parked_gate.specs.Passes.{known}
-use Rattle.session_pump.specs.Pumping.{EachPlace, facts_of}
+use Rattle.std.specs.Prelude.{◌≡◌, length}
+use Rattle.session_pump.specs.Pumping.{EachPlace, pumping_of}
 use Rattle.session_pump.specs.Turns.{PollsAt}
 use Rattle.session_pump.proofs.pump.Pump.poll_all.Given as goal
 
@@ -10,20 +9,8 @@ invariant-loop-place g l = record {
   hosts : length l.self.hosts.stands.items ≡ length l.fn.self.hosts.stands.items;
   silences : g.B.Bell.silences l.bell ≡ g.B.Bell.silences l.fn.bell;
   each : EachPlace (PollsAt (g.C.Clock.moment l.clock))
-      (record {
-        directory = known l.fn.self.purse.directory;
-        sessions = l.fn.self.purse.sessions;
-        lines = l.fn.self.lines;
-        hosts = map (λ stand. facts_of stand.host.name stand.kept ((goal.Backend-dyn g (stand.host.end.vtable, stand.host.end.value)).told stand.host.end.value) ((goal.Backend-dyn g (stand.host.end.vtable, stand.host.end.value)).counts stand.host.end.value)
-            stand.failures (sum_by (λ spare. ((goal.Backend-dyn g (spare.vtable, spare.value)).counts spare.value).faults) stand.host.spares.items)) l.fn.self.hosts.stands.items;
-      })
+      (pumping_of g.E.Backend.told g.E.Backend.counts l.fn.self)
       l.place
-      (record {
-        directory = known l.self.purse.directory;
-        sessions = l.self.purse.sessions;
-        lines = l.self.lines;
-        hosts = map (λ stand. facts_of stand.host.name stand.kept ((goal.Backend-dyn g (stand.host.end.vtable, stand.host.end.value)).told stand.host.end.value) ((goal.Backend-dyn g (stand.host.end.vtable, stand.host.end.value)).counts stand.host.end.value)
-            stand.failures (sum_by (λ spare. ((goal.Backend-dyn g (spare.vtable, spare.value)).counts spare.value).faults) stand.host.spares.items)) l.self.hosts.stands.items;
-      })
+      (pumping_of g.E.Backend.told g.E.Backend.counts l.self)
       l.polled;
 }

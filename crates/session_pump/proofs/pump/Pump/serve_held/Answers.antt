@@ -11,7 +11,7 @@ pub returns-clause-serves : goal.returns-clause-serves
 returns-clause-serves g c =
     on_host_of _ _ _ _ _ _ _ _ _ c.in-Some.place _ _ c.in-Some-get_mut-2.stand.now _ _ (ap known c.serve_line.ensures.directory) (sym c.in-Some-get_mut.ensures.value)
     (c.get_mut.follows.holds c.serve_line.new.line) (same_host c.in-Some.ensures.line (sym c.in-Some-get_mut.ensures.value)) c.serve_line.ensures.host
-    c.in-Some.ensures.within (search rules) c.serve_line.ensures.name c.serve_line.ensures.kept c.serve_line.ensures.serves c.serve_line.ensures.others
+    c.in-Some.ensures.within (search rules) c.serve_line.ensures.kept c.serve_line.ensures.serves c.serve_line.ensures.others
 
 pub returns-in_default-clause-opened : goal.returns-in_default-clause-opened
 returns-in_default-clause-opened g c = on_ok _ (opened_nowhere _ _ c.in_default.ensures.none)

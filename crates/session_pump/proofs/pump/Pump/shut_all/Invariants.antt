@@ -1,6 +1,6 @@
-use Rattle.std.specs.Prelude.{◌≡◌, map, sum_by, take}
-use Rattle.parked_gate.specs.Passes.{IsPassOf, known}
-use Rattle.session_pump.specs.Pumping.{Each, facts_of}
+use Rattle.std.specs.Prelude.{◌≡◌, take}
+use Rattle.parked_gate.specs.Passes.{IsPassOf}
+use Rattle.session_pump.specs.Pumping.{Each, pumping_of}
 use Rattle.session_pump.specs.Turns.{ShutsOne}
 use Rattle.session_pump.proofs.pump.Pump.shut_all.Given as goal
 
@@ -9,20 +9,8 @@ invariant-loop-session g l = record {
   pass : IsPassOf l.directory l.self.purse.directory;
   silences : g.B.Bell.silences l.bell ≡ g.B.Bell.silences l.fn.bell;
   each : Each (ShutsOne (g.C.Clock.moment l.clock))
-      (record {
-        directory = known l.fn.self.purse.directory;
-        sessions = l.fn.self.purse.sessions;
-        lines = l.fn.self.lines;
-        hosts = map (λ stand. facts_of stand.host.name stand.kept ((goal.Backend-dyn g (stand.host.end.vtable, stand.host.end.value)).told stand.host.end.value) ((goal.Backend-dyn g (stand.host.end.vtable, stand.host.end.value)).counts stand.host.end.value)
-            stand.failures (sum_by (λ spare. ((goal.Backend-dyn g (spare.vtable, spare.value)).counts spare.value).faults) stand.host.spares.items)) l.fn.self.hosts.stands.items;
-      })
+      (pumping_of g.E.Backend.told g.E.Backend.counts l.fn.self)
       (take l.session-index l.live)
-      (record {
-        directory = known l.self.purse.directory;
-        sessions = l.self.purse.sessions;
-        lines = l.self.lines;
-        hosts = map (λ stand. facts_of stand.host.name stand.kept ((goal.Backend-dyn g (stand.host.end.vtable, stand.host.end.value)).told stand.host.end.value) ((goal.Backend-dyn g (stand.host.end.vtable, stand.host.end.value)).counts stand.host.end.value)
-            stand.failures (sum_by (λ spare. ((goal.Backend-dyn g (spare.vtable, spare.value)).counts spare.value).faults) stand.host.spares.items)) l.self.hosts.stands.items;
-      })
+      (pumping_of g.E.Backend.told g.E.Backend.counts l.self)
       l.told;
 }

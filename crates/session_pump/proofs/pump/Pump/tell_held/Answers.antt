@@ -11,4 +11,4 @@ pub returns-clause-tells : goal.returns-clause-tells
 returns-clause-tells g c =
     on_host_of _ _ _ _ _ _ _ _ _ c.in-Some.place _ _ c.in-Some-get_mut-2.stand.now _ _ (ap known c.tell_cut.ensures.directory) (sym c.in-Some-get_mut.ensures.value)
     (c.get_mut.follows.holds c.tell_cut.new.line) (same_host c.in-Some.ensures.line (sym c.in-Some-get_mut.ensures.value)) c.tell_cut.ensures.host
-    c.in-Some.ensures.within (search rules) refl refl (tells_of (g.C.Clock.moment c.args.clock.now) _ _ _ _ _ _ _ c.tell_cut.ensures.uncut c.tell_cut.ensures.moves) c.tell_cut.ensures.others
+    c.in-Some.ensures.within (search rules) refl (tells_of (g.C.Clock.moment c.args.clock.now) _ _ _ _ _ _ _ c.tell_cut.ensures.uncut c.tell_cut.ensures.moves) c.tell_cut.ensures.others
