@@ -1,15 +1,16 @@
 -- What the parser of words says of the options.
-use Rattle.std.proofs.Common.{◌≡◌, ◌≢◌, ◌⊎◌, List, [], ◌∷◌, Bool, Option, None, Result, Ok, Err, IfOk, true, false, ap, sym, refl, subst, ◌∙◌, inl, inr, codes}
-use Rattle.clap.specs.Words.{HasKind, IsAmong, Kinds, Row, Text, first_of, first_value, is_simple, is_simple_and_free, kind_of, rows_of}
+use Rattle.std.proofs.Common.{◌≡◌, ◌≢◌, ◌⊎◌, List, [], ◌∷◌, Bool, Option, None, Result, Ok, Err, IfOk, true, false, ap, option_map, sym, refl, subst, ◌∙◌, inl, inr, codes}
+use Rattle.clap.specs.Words.{HasKind, IsAmong, Kinds, Row, Text, all_of, first_of, first_value, is_simple, is_simple_and_free, kind_of, matched_of, raw_values, rows_of}
 use Rattle.clap.specs.declared.error.Error.{Error}
 use Rattle.clap.specs.declared.error.kind.ErrorKind.{ErrorKind}
 use Rattle.clap.specs.declared.error.kind.ErrorKind.TheVariants.{DisplayHelp, DisplayVersion, OutOfMemory}
 use Rattle.clap.specs.declared.parser.matches.Found.{Found}
 use Rattle.clap.proofs.OnLiterals.{clap_on_literals}
-use Rattle.clap.proofs.WalkLemmas.{first_value-rows}
+use Rattle.clap.proofs.WalkLemmas.{first_value-rows, raw_values-rows}
 use Rattle.bosh_commands.specs.declared.options.ServeOptions.{ServeOptions}
 use Rattle.bosh_commands.specs.declared.options.Wanted.{Wanted}
-use Rattle.bosh_commands.specs.Options.{ShowsWhatIsAsked, flag_in, number_in, options_by, options_from, options_of, options_wanted, serve_app}
+use Rattle.bosh_commands.specs.Options.{ShowsWhatIsAsked, flag_in, number_in, options_by, options_from, options_of, options_wanted, plan_from, plan_of, serve_app, site_in}
+use Rattle.bosh_commands.specs.Site.{site_of}
 
 pub serve_is_simple : is_simple serve_app ≡ true
 unfolding clap_on_literals
@@ -19,21 +20,44 @@ pub serve_is_free : is_simple_and_free serve_app ≡ true
 unfolding clap_on_literals
 serve_is_free = refl
 
--- without a fault, the options are those of the rows
-pub by_rows : (f : Found) (kinds : Kinds) (rows : List Row) → kinds ≡ [] → rows_of f ≡ rows → options_of (λ id. first_value f id) ≡ options_by kinds rows
-by_rows f kinds rows none are =
-    let reads : (id : Text) → first_value f id ≡ first_of id rows = λ id. first_value-rows f id ∙ ap (first_of id) are in
-    let eof = codes "until-eof" in
-    let port = codes "port" in
+plan_reads : (f : Text → Option Text) (g : Text → Option Text) → ((id : Text) → f id ≡ g id) → plan_of f ≡ plan_of g
+plan_reads f g reads =
     let workers = codes "workers" in
     let connections = codes "connections" in
     let limit = codes "journal-limit" in
-    ap (λ e. options_from (flag_in e) (number_in 1 65535 (first_value f port)) (number_in 1 64 (first_value f workers)) (number_in 0 1048576 (first_value f connections)) (number_in 65536 1099511627776 (first_value f limit))) (reads eof)
-    ∙ ap (λ p. options_from (flag_in (first_of eof rows)) (number_in 1 65535 p) (number_in 1 64 (first_value f workers)) (number_in 0 1048576 (first_value f connections)) (number_in 65536 1099511627776 (first_value f limit))) (reads port)
-    ∙ ap (λ w. options_from (flag_in (first_of eof rows)) (number_in 1 65535 (first_of port rows)) (number_in 1 64 w) (number_in 0 1048576 (first_value f connections)) (number_in 65536 1099511627776 (first_value f limit))) (reads workers)
-    ∙ ap (λ c. options_from (flag_in (first_of eof rows)) (number_in 1 65535 (first_of port rows)) (number_in 1 64 (first_of workers rows)) (number_in 0 1048576 c) (number_in 65536 1099511627776 (first_value f limit))) (reads connections)
-    ∙ ap (λ l. options_from (flag_in (first_of eof rows)) (number_in 1 65535 (first_of port rows)) (number_in 1 64 (first_of workers rows)) (number_in 0 1048576 (first_of connections rows)) (number_in 65536 1099511627776 l)) (reads limit)
+    ap (λ w. plan_from (number_in 1 64 w) (number_in 0 1048576 (f connections)) (number_in 65536 1099511627776 (f limit))) (reads workers)
+    ∙ ap (λ c. plan_from (number_in 1 64 (g workers)) (number_in 0 1048576 c) (number_in 65536 1099511627776 (f limit))) (reads connections)
+    ∙ ap (λ l. plan_from (number_in 1 64 (g workers)) (number_in 0 1048576 (g connections)) (number_in 65536 1099511627776 l)) (reads limit)
+
+site_reads : (f : Text → Option Text) (g : Text → Option Text) → ((id : Text) → f id ≡ g id) → (names : Option (List Text)) → site_in f names ≡ site_in g names
+site_reads f g reads names =
+    let test = codes "test-hosts" in
+    let port = codes "xmpp-port" in
+    ap (λ t. site_of (flag_in t) (number_in 1 65535 (f port)) names) (reads test)
+    ∙ ap (λ p. site_of (flag_in (g test)) (number_in 1 65535 p) names) (reads port)
+
+-- without a fault, the options are those of the rows
+pub by_rows : (f : Found) (kinds : Kinds) (rows : List Row) → kinds ≡ [] → rows_of f ≡ rows
+    → options_of (λ id. first_value f id) (option_map raw_values (matched_of f (codes "xmpp"))) ≡ options_by kinds rows
+by_rows f kinds rows none are =
+    let value : Text → Option Text = λ id. first_value f id in
+    let first : Text → Option Text = λ id. first_of id rows in
+    let reads : (id : Text) → value id ≡ first id = λ id. first_value-rows f id ∙ ap (first_of id) are in
+    let named : option_map raw_values (matched_of f (codes "xmpp")) ≡ all_of (codes "xmpp") rows = raw_values-rows f (codes "xmpp") ∙ ap (all_of (codes "xmpp")) are in
+    let names : Option (List Text) = all_of (codes "xmpp") rows in
+    let eof = codes "until-eof" in
+    let port = codes "port" in
+    ap (options_of value) named
+    ∙ ap (λ e. options_from (flag_in e) (number_in 1 65535 (value port)) (plan_of value) (site_in value names)) (reads eof)
+    ∙ ap (λ p. options_from (flag_in (first eof)) (number_in 1 65535 p) (plan_of value) (site_in value names)) (reads port)
+    ∙ ap (λ plan. options_from (flag_in (first eof)) (number_in 1 65535 (first port)) plan (site_in value names)) (plan_reads value first reads)
+    ∙ ap (λ site. options_from (flag_in (first eof)) (number_in 1 65535 (first port)) (plan_of first) site) (site_reads value first reads names)
     ∙ sym (ap (λ k. options_by k rows) none)
+
+pub wanted_so : {E : Type 0} (result : Result Wanted E) (found options : Option ServeOptions) → found ≡ options → IfOk result (λ wanted. options_wanted wanted ≡ found)
+    → IfOk result (λ wanted. options_wanted wanted ≡ options)
+wanted_so (Ok wanted) found options same is = is ∙ same
+wanted_so (Err e) found options same is = tt
 
 -- where the parser finds a fault, there are no options
 pub by_fault : (kinds : Kinds) (rows : List Row) (error : Error) → HasKind kinds error → kind_of error ≢ OutOfMemory → options_by kinds rows ≡ None

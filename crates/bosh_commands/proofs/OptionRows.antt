@@ -4,6 +4,7 @@ use Rattle.clap.specs.Words.{fault_of}
 use Rattle.clap.specs.declared.error.kind.ErrorKind.TheVariants.{ArgumentConflict, DisplayHelp, DisplayVersion, MissingRequiredArgument, UnknownArgument}
 use Rattle.clap.proofs.OnLiterals.{clap_on_literals}
 use Rattle.bosh_commands.specs.Options.{options_in, serve_app}
+use Rattle.bosh_commands.specs.Site.{are_different, is_test_host, usual_site}
 
 pub help : fault_of serve_app (codes "serve" ∷ codes "--help" ∷ []) ≡ DisplayHelp ∷ []
 unfolding clap_on_literals
@@ -25,30 +26,46 @@ no_option : fault_of serve_app (codes "serve" ∷ codes "--host" ∷ codes "h" �
 unfolding clap_on_literals
 no_option = refl
 
-usual : options_in (codes "serve" ∷ codes "--port" ∷ codes "5280" ∷ []) ≡ Some (record { port = 5280; until_eof = false; plan = record { workers = 8; connections = 0; journal_limit = 16777216 } })
-unfolding clap_on_literals
+usual : options_in (codes "serve" ∷ codes "--port" ∷ codes "5280" ∷ []) ≡ Some (record { port = 5280; until_eof = false; plan = record { workers = 8; connections = 0; journal_limit = 16777216 }; site = usual_site 5222 })
+unfolding clap_on_literals options_in
 usual = refl
 
-all_named : options_in (codes "serve" ∷ codes "--connections=2" ∷ codes "--port=1" ∷ codes "--workers" ∷ codes "64" ∷ []) ≡ Some (record { port = 1; until_eof = false; plan = record { workers = 64; connections = 2; journal_limit = 16777216 } })
-unfolding clap_on_literals
+all_named : options_in (codes "serve" ∷ codes "--connections=2" ∷ codes "--port=1" ∷ codes "--workers" ∷ codes "64" ∷ []) ≡ Some (record { port = 1; until_eof = false; plan = record { workers = 64; connections = 2; journal_limit = 16777216 }; site = usual_site 5222 })
+unfolding clap_on_literals options_in
 all_named = refl
 
-limit_named : options_in (codes "serve" ∷ codes "--port=1" ∷ codes "--journal-limit" ∷ codes "65536" ∷ []) ≡ Some (record { port = 1; until_eof = false; plan = record { workers = 8; connections = 0; journal_limit = 65536 } })
-unfolding clap_on_literals
+limit_named : options_in (codes "serve" ∷ codes "--port=1" ∷ codes "--journal-limit" ∷ codes "65536" ∷ []) ≡ Some (record { port = 1; until_eof = false; plan = record { workers = 8; connections = 0; journal_limit = 65536 }; site = usual_site 5222 })
+unfolding clap_on_literals options_in
 limit_named = refl
 
-with_input : options_in (codes "serve" ∷ codes "--until-eof" ∷ codes "--port=1" ∷ []) ≡ Some (record { port = 1; until_eof = true; plan = record { workers = 8; connections = 0; journal_limit = 16777216 } })
-unfolding clap_on_literals
+with_input : options_in (codes "serve" ∷ codes "--until-eof" ∷ codes "--port=1" ∷ []) ≡ Some (record { port = 1; until_eof = true; plan = record { workers = 8; connections = 0; journal_limit = 16777216 }; site = usual_site 5222 })
+unfolding clap_on_literals options_in
 with_input = refl
+
+domain_twice : options_in (codes "serve" ∷ codes "--port=1" ∷ codes "--xmpp=a.org" ∷ codes "--xmpp=a.org" ∷ []) ≡ None
+unfolding clap_on_literals options_in is_test_host are_different
+domain_twice = refl
+
+test_host_as_domain : options_in (codes "serve" ∷ codes "--port=1" ∷ codes "--xmpp=room.localhost" ∷ []) ≡ None
+unfolding clap_on_literals options_in is_test_host are_different
+test_host_as_domain = refl
+
+nine_domains : options_in (codes "serve" ∷ codes "--port=1" ∷ codes "--xmpp=a" ∷ codes "--xmpp=b" ∷ codes "--xmpp=c" ∷ codes "--xmpp=d" ∷ codes "--xmpp=e" ∷ codes "--xmpp=f" ∷ codes "--xmpp=g" ∷ codes "--xmpp=h" ∷ codes "--xmpp=i" ∷ []) ≡ None
+unfolding clap_on_literals options_in is_test_host are_different
+nine_domains = refl
+
+xmpp_port_0 : options_in (codes "serve" ∷ codes "--port=1" ∷ codes "--xmpp-port=0" ∷ []) ≡ None
+unfolding clap_on_literals options_in
+xmpp_port_0 = refl
 
 with_input_twice : fault_of serve_app (codes "serve" ∷ codes "--until-eof" ∷ codes "--port=1" ∷ codes "--until-eof" ∷ []) ≡ ArgumentConflict ∷ []
 unfolding clap_on_literals
 with_input_twice = refl
 
 limit_too_low : options_in (codes "serve" ∷ codes "--port=1" ∷ codes "--journal-limit" ∷ codes "65535" ∷ []) ≡ None
-unfolding clap_on_literals
+unfolding clap_on_literals options_in
 limit_too_low = refl
 
 port_0 : options_in (codes "serve" ∷ codes "--port" ∷ codes "0" ∷ []) ≡ None
-unfolding clap_on_literals
+unfolding clap_on_literals options_in
 port_0 = refl

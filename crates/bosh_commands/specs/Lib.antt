@@ -4,6 +4,7 @@ pub mod Run
 pub mod Why
 pub mod WrongWords
 pub mod ServeCommand
+pub mod Site
 pub mod Options
 pub mod ClientOptions
 pub mod ClientCommand

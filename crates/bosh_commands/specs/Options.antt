@@ -1,11 +1,14 @@
 -- The words of the command `serve`.
-use Rattle.std.specs.Prelude.{ℕ, ◌≡◌, ◌⊎◌, ◌&&◌, nat_le, Bool, true, false, List, [], ◌∷◌, Option, Some, None, String, codes, map, string_bytes, if◌then◌else◌}
+use Rattle.std.specs.Prelude.{ℕ, ◌≡◌, ◌⊎◌, ◌&&◌, nat_le, Bool, true, false, List, [], ◌∷◌, Option, Some, None, String, codes, map, option_map, string_bytes, if◌then◌else◌}
 use Rattle.std.specs.Str.{bytes_eq}
 use Rattle.std.specs.Global.{Global}
-use Rattle.clap.specs.Words.{App, IsAmong, Kinds, Row, Rule, Text, fault_of, first_of, matches_of, new_app, new_rule, with_rule}
-use Rattle.clap.specs.declared.builder.action.ArgAction.TheVariants.{SetTrue}
+use Rattle.clap.specs.Words.{App, IsAmong, Kinds, Row, Rule, Text, all_of, fault_of, first_of, matches_of, new_app, new_rule, with_rule}
+use Rattle.clap.specs.declared.builder.action.ArgAction.TheVariants.{Append, SetTrue}
 use Rattle.clap.specs.declared.error.kind.ErrorKind.TheVariants.{DisplayHelp, DisplayVersion}
 use Rattle.bosh_types.specs.Rid.{rid_of}
+use Rattle.bosh_server.specs.declared.plan.ServePlan.{ServePlan}
+use Rattle.bosh_commands.specs.Site.{site_of}
+use Rattle.bosh_commands.specs.declared.site.Site.{Site}
 use Rattle.bosh_commands.specs.declared.options.ServeOptions.{ServeOptions}
 use Rattle.bosh_commands.specs.declared.options.Wanted.{Wanted}
 use Rattle.bosh_commands.specs.declared.options.Wanted.TheVariants as wanted
@@ -31,8 +34,23 @@ until_eof_rule = record (new_rule (codes "until-eof")) { long = Some (codes "unt
 abbrev pub with_version : App → App
 with_version app = record app { top = record app.top { has_version = true } }
 
+-- one that may stand several times
+abbrev pub xmpp_rule : Rule
+xmpp_rule = record (new_rule (codes "xmpp")) { long = Some (codes "xmpp"); value_names = 1; action = Some Append }
+
+abbrev pub xmpp_port_rule : Rule
+xmpp_port_rule = record (new_rule (codes "xmpp-port")) { long = Some (codes "xmpp-port"); value_names = 1; defaults = codes "5222" ∷ [] }
+
+abbrev pub test_hosts_rule : Rule
+test_hosts_rule = record (new_rule (codes "test-hosts")) { long = Some (codes "test-hosts"); action = Some SetTrue }
+
+-- the rules of how a server runs
+abbrev pub run_app : App
+run_app = with_rule (with_rule (with_rule (with_rule (with_rule (with_version (new_app (codes "serve"))) port_rule) workers_rule) connections_rule) journal_limit_rule) until_eof_rule
+
+-- and of which hosts it has
 abbrev pub serve_app : App
-serve_app = with_rule (with_rule (with_rule (with_rule (with_rule (with_version (new_app (codes "serve"))) port_rule) workers_rule) connections_rule) journal_limit_rule) until_eof_rule
+serve_app = with_rule (with_rule (with_rule run_app xmpp_rule) xmpp_port_rule) test_hosts_rule
 
 -- the number that a text writes in plain decimal, without a sign or a leading zero
 abbrev pub plain_number : Text → Option ℕ
@@ -52,28 +70,41 @@ abbrev pub flag_in : Option Text → Bool
 flag_in None = false
 flag_in (Some text) = bytes_eq text (codes "true")
 
-abbrev pub options_from : Bool → Option ℕ → Option ℕ → Option ℕ → Option ℕ → Option ServeOptions
-options_from until_eof (Some port) (Some workers) (Some connections) (Some limit) =
-    Some (record { port = port; until_eof = until_eof; plan = record { workers = workers; connections = connections; journal_limit = limit } })
-options_from until_eof (Some port) (Some workers) (Some connections) None = None
-options_from until_eof (Some port) (Some workers) None limit = None
-options_from until_eof (Some port) None connections limit = None
-options_from until_eof None workers connections limit = None
+abbrev pub plan_from : Option ℕ → Option ℕ → Option ℕ → Option ServePlan
+plan_from (Some workers) (Some connections) (Some limit) = Some (record { workers = workers; connections = connections; journal_limit = limit })
+plan_from (Some workers) (Some connections) None = None
+plan_from (Some workers) None limit = None
+plan_from None connections limit = None
 
--- what the texts of the options say: the port from 1 to 65535, 1 to 64 workers, up to 1048576 connections, and a journal of 65,536 to
--- 1,099,511,627,776 counted bytes; and whether it ends with its input
-abbrev pub options_of : (Text → Option Text) → Option ServeOptions
-options_of text_of =
-    options_from (flag_in (text_of (codes "until-eof"))) (number_in 1 65535 (text_of (codes "port"))) (number_in 1 64 (text_of (codes "workers"))) (number_in 0 1048576 (text_of (codes "connections")))
-    (number_in 65536 1099511627776 (text_of (codes "journal-limit")))
+-- what the texts of these options say: 1 to 64 workers, up to 1048576 connections, and a journal of 65,536 to 1,099,511,627,776 counted
+-- bytes
+abbrev pub plan_of : (Text → Option Text) → Option ServePlan
+plan_of text_of =
+    plan_from (number_in 1 64 (text_of (codes "workers"))) (number_in 0 1048576 (text_of (codes "connections"))) (number_in 65536 1099511627776 (text_of (codes "journal-limit")))
+
+-- the port of the XMPP server from 1 to 65535, the domains that are named, and whether the test hosts are wanted
+abbrev pub site_in : (Text → Option Text) → Option (List Text) → Option Site
+site_in text_of names = site_of (flag_in (text_of (codes "test-hosts"))) (number_in 1 65535 (text_of (codes "xmpp-port"))) names
+
+abbrev pub options_from : Bool → Option ℕ → Option ServePlan → Option Site → Option ServeOptions
+options_from until_eof (Some port) (Some plan) (Some site) = Some (record { port = port; until_eof = until_eof; plan = plan; site = site })
+options_from until_eof (Some port) (Some plan) None = None
+options_from until_eof (Some port) None site = None
+options_from until_eof None plan site = None
+
+-- what the texts of the options say, and these names of domains: the port from 1 to 65535, how it runs, its hosts, and whether it ends
+-- with its input
+abbrev pub options_of : (Text → Option Text) → Option (List Text) → Option ServeOptions
+options_of text_of names =
+    options_from (flag_in (text_of (codes "until-eof"))) (number_in 1 65535 (text_of (codes "port"))) (plan_of text_of) (site_in text_of names)
 
 -- options where the parser of words has no fault to find
 abbrev pub options_by : Kinds → List Row → Option ServeOptions
-options_by [] rows = options_of (λ id. first_of id rows)
+options_by [] rows = options_of (λ id. first_of id rows) (all_of (codes "xmpp") rows)
 options_by (kind ∷ kinds) rows = None
 
 -- the options that the words of `serve` are, where they are any
-abbrev pub options_in : List Text → Option ServeOptions
+unfoldable pub options_in : List Text → Option ServeOptions
 options_in words = options_by (fault_of serve_app words) (matches_of serve_app words)
 
 abbrev pub options_wanted : Wanted → Option ServeOptions
@@ -85,6 +116,10 @@ options_wanted wanted.Nothing = None
 abbrev pub ends_with_input : Option ServeOptions → Bool
 ends_with_input None = false
 ends_with_input (Some options) = options.until_eof
+
+-- the hosts that the server is to have
+abbrev pub site_among : Option ServeOptions → Option Site
+site_among options = option_map (λ (options : ServeOptions). options.site) options
 
 -- a text is to be shown
 abbrev pub is_shown : Wanted → Bool

@@ -11,6 +11,7 @@ mod number;
 mod options;
 mod run;
 mod serve_command;
+mod site;
 mod why;
 mod wrong_words;
 
@@ -19,5 +20,6 @@ pub use run::{
     BAD_SCRIPT, BROKEN_RULE, DONE, NO_MEMORY, READ_FAULT, WRITE_FAULT, WRONG_WORDS, run_local,
     status_without_words,
 };
-pub use serve_command::{NET_FAULT, SPAWN_FAULT, run_serve_command, serves_until_eof};
+pub use serve_command::{NET_FAULT, SPAWN_FAULT, run_serve_command, serves_until_eof, site_wanted};
+pub use site::Site;
 pub use wrong_words::{Mistake, mistake_in, wrong_words_text};

@@ -1,8 +1,9 @@
 // The words of the command `serve`.
-ghost use Rattle.std.specs.Prelude.{◌≡◌, ◌≢◌, ◌≤◌, ◌⊎◌, ℕ, true, false, IfOk, IfSome, None, map, option_map, string_bytes};
-ghost use Rattle.clap.specs.Words.{app_of, first_value, found_of, kind_of};
-ghost use Rattle.bosh_commands.specs.Options.{ShowsWhatIsAsked, flag_in, is_shown, number_in, options_from, options_in, options_of, options_wanted, plain_number, serve_app, serve_faults};
+ghost use Rattle.std.specs.Prelude.{◌≡◌, ◌≢◌, ◌≤◌, ◌⊎◌, ℕ, true, false, IfOk, IfSome, None, codes, map, option_map, string_bytes};
+ghost use Rattle.clap.specs.Words.{app_of, first_value, found_of, kind_of, matched_of, raw_values};
+ghost use Rattle.bosh_commands.specs.Options.{ShowsWhatIsAsked, flag_in, is_shown, number_in, options_from, options_in, options_of, options_wanted, plain_number, plan_from, plan_of, serve_app, serve_faults, site_in};
 
+use crate::site::{Site, site_of};
 use bosh_server::ServePlan;
 use bosh_types::Rid;
 use clap::error::ErrorKind;
@@ -10,12 +11,13 @@ use clap::{Arg, ArgAction, ArgMatches, Command, Error};
 use std::alloc::{AllocError, Global};
 
 /// How the command `serve` is to run.
-#[derive(Clone, Copy, Debug, PartialEq, Eq)]
+#[derive(Debug, Drop)]
 pub struct ServeOptions {
     pub port: u16,
     /// Whether the server ends with its input too.
     pub until_eof: bool,
     pub plan: ServePlan,
+    pub site: Site,
 }
 
 /// What the words ask for.
@@ -30,6 +32,8 @@ pub enum Wanted {
 
 /// The version of the program.
 pub const VERSION: &str = "0.1.0";
+
+const PORTS: u32 = 65_535;
 
 const WORKERS: u32 = 64;
 
@@ -68,16 +72,35 @@ fn serve_command<'a>(alloc: Global) -> Result<Command<'a>, AllocError>
         .long("until-eof")
         .help("Read standard input, and end where that does")
         .action(ArgAction::SetTrue);
+    let xmpp = Arg::new(alloc, "xmpp")
+        .long("xmpp")
+        .value_name("DOMAIN")
+        .help(
+            "A domain whose XMPP server listens at 127.0.0.1; up to eight times. Without it there are xmpp.localhost and the test hosts",
+        )
+        .action(ArgAction::Append);
+    let xmpp_port = Arg::new(alloc, "xmpp-port")
+        .long("xmpp-port")
+        .value_name("PORT")
+        .help("The port of 127.0.0.1 at which the XMPP server listens, from 1 to 65535")
+        .default_value("5222");
+    let test_hosts = Arg::new(alloc, "test-hosts")
+        .long("test-hosts")
+        .help("Serve an echo at echo.localhost and a room at room.localhost beside the domains")
+        .action(ArgAction::SetTrue);
     Command::new(alloc, "serve")
         .about(
-            "Serves XMPP over BOSH at http://127.0.0.1:PORT/http-bind, with an echo at echo.localhost and a room at room.localhost",
+            "Serves XMPP over BOSH at http://127.0.0.1:PORT/http-bind, for a server of XMPP behind it",
         )
         .version(VERSION)
         .arg(port)?
         .arg(workers)?
         .arg(connections)?
         .arg(journal_limit)?
-        .arg(until_eof)
+        .arg(until_eof)?
+        .arg(xmpp)?
+        .arg(xmpp_port)?
+        .arg(test_hosts)
 }
 
 /// Reads the words, of which the first is the command's. The only error is want of memory.
@@ -87,7 +110,7 @@ pub fn read_options(alloc: Global, words: &[String]) -> Result<Wanted, AllocErro
 {
     let command = serve_command(alloc)?;
     match command.try_get_matches_from(words) {
-        Ok(matches) => Ok(wanted_by(&matches)),
+        Ok(matches) => wanted_by(alloc, &matches),
         Err(error) => without_matches(alloc, &error),
     }
 }
@@ -107,20 +130,30 @@ fn without_matches(alloc: Global, error: &Error) -> Result<Wanted, AllocError>
     }
 }
 
-fn wanted_by(matches: &ArgMatches<'_>) -> Wanted
-    ensures options { options_wanted result ≡ options_of (λ id. first_value (found_of matches.now) id) }
-    ensures shows { is_shown result ≡ false }
+fn wanted_by(alloc: Global, matches: &ArgMatches<'_>) -> Result<Wanted, AllocError>
+    ensures options { IfOk result (λ wanted. options_wanted wanted ≡ options_of (λ id. first_value (found_of matches.now) id) (option_map raw_values (matched_of (found_of matches.now) (codes "xmpp")))) }
+    ensures shows { IfOk result (λ wanted. is_shown wanted ≡ false) }
 {
-    match options(matches) {
-        Some(options) => Wanted::Serve(options),
-        None => Wanted::Nothing,
+    match options(alloc, matches) {
+        Ok(Some(options)) => Ok(Wanted::Serve(options)),
+        Ok(None) => Ok(Wanted::Nothing),
+        Err(AllocError) => Err(AllocError),
     }
 }
 
-fn options(matches: &ArgMatches<'_>) -> Option<ServeOptions>
-    ensures { result ≡ options_of (λ id. first_value (found_of matches.now) id) }
+fn options(alloc: Global, matches: &ArgMatches<'_>) -> Result<Option<ServeOptions>, AllocError>
+    ensures { IfOk result (λ options. options ≡ options_of (λ id. first_value (found_of matches.now) id) (option_map raw_values (matched_of (found_of matches.now) (codes "xmpp")))) }
 {
-    let port = number(matches.get_str("port"), 1, u32::from(u16::MAX));
+    let until_eof = flag(matches.get_str("until-eof"));
+    let port = number(matches.get_str("port"), 1, PORTS);
+    let plan = plan(matches);
+    let site = site(alloc, matches)?;
+    Ok(options_from(until_eof, port, plan, site))
+}
+
+fn plan(matches: &ArgMatches<'_>) -> Option<ServePlan>
+    ensures { result ≡ plan_of (λ id. first_value (found_of matches.now) id) }
+{
     let workers = number(matches.get_str("workers"), 1, WORKERS);
     let connections = number(matches.get_str("connections"), 0, CONNECTIONS);
     let journal_limit = wide_number(
@@ -128,32 +161,53 @@ fn options(matches: &ArgMatches<'_>) -> Option<ServeOptions>
         LEAST_JOURNAL,
         GREATEST_JOURNAL,
     );
-    let until_eof = flag(matches.get_str("until-eof"));
-    options_from(until_eof, port, workers, connections, journal_limit)
+    plan_from(workers, connections, journal_limit)
+}
+
+fn plan_from(
+    workers: Option<u32>,
+    connections: Option<u32>,
+    journal_limit: Option<u64>,
+) -> Option<ServePlan>
+    ensures { result ≡ plan_from workers connections journal_limit }
+{
+    let workers = workers?;
+    let connections = connections?;
+    let journal_limit = journal_limit?;
+    Some(ServePlan {
+        workers,
+        connections,
+        journal_limit,
+    })
+}
+
+// The only error is want of memory.
+fn site(alloc: Global, matches: &ArgMatches<'_>) -> Result<Option<Site>, AllocError>
+    ensures { IfOk result (λ site. site ≡ site_in (λ id. first_value (found_of matches.now) id) (option_map raw_values (matched_of (found_of matches.now) (codes "xmpp")))) }
+{
+    let names = matches.get_strs("xmpp");
+    let port = number(matches.get_str("xmpp-port"), 1, PORTS);
+    let has_test_hosts = flag(matches.get_str("test-hosts"));
+    site_of(alloc, has_test_hosts, port, names)
 }
 
 fn options_from(
     until_eof: bool,
     port: Option<u32>,
-    workers: Option<u32>,
-    connections: Option<u32>,
-    journal_limit: Option<u64>,
+    plan: Option<ServePlan>,
+    site: Option<Site>,
 ) -> Option<ServeOptions>
     requires { IfSome port (λ port. port ≤ 65535) }
-    ensures { result ≡ options_from until_eof port workers connections journal_limit }
+    ensures { result ≡ options_from until_eof port plan site }
 {
     let port = port?;
-    let workers = workers?;
-    let connections = connections?;
-    let journal_limit = journal_limit?;
+    let plan = plan?;
+    let site = site?;
     Some(ServeOptions {
         port: port as u16,
         until_eof,
-        plan: ServePlan {
-            workers,
-            connections,
-            journal_limit,
-        },
+        plan,
+        site,
     })
 }
 

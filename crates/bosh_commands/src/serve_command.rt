@@ -2,12 +2,13 @@
 ghost use Rattle.std.specs.Prelude.{◌≡◌, ◌≢◌, ◌≤◌, [], ◌∷◌, Contains, IfOk, IfSome, IsSome, None, codes, false};
 ghost use Rattle.std.specs.Io.KnownBytes.{Appends};
 ghost use Rattle.bosh_ports.specs.Faults.{HasRisen};
-ghost use Rattle.bosh_commands.specs.Options.{Asks, MayAsk, ShowsWhatIsAsked, ends_with_input, is_shown, options_wanted, serve_findings, serve_options};
+ghost use Rattle.bosh_commands.specs.Options.{Asks, MayAsk, ShowsWhatIsAsked, ends_with_input, is_shown, options_wanted, serve_findings, serve_options, site_among};
 ghost use Rattle.bosh_commands.specs.ServeCommand.{Served, served_line};
 
 use crate::input_end::tell_end;
 use crate::options::{ServeOptions, Wanted, read_options};
 use crate::run::{DONE, NO_MEMORY, WRITE_FAULT, WRONG_WORDS};
+use crate::site::Site;
 use bosh_ports::{Bell, Sink, give_all};
 use bosh_server::{Outside, Ran, run_workers};
 use client_run::Ready;
@@ -16,6 +17,7 @@ use session_pump::Host;
 use std::alloc::{AllocError, Global};
 use std::sync::Wait;
 use std::thread::Threads;
+use xmpp_backend::Backend;
 
 /// The network failed.
 pub const NET_FAULT: u8 = 7;
@@ -26,7 +28,7 @@ pub const SPAWN_FAULT: u8 = 8;
 /// `serving` to the sink once that takes connections, and how many it served at the end. Where the port can't be had a line of
 /// `errors` says so. Where the words say that it ends with its input, the network is to stop at the end of that, or where it
 /// fails; a fault of it is then answered once all else is done.
-pub fn run_serve_command<R, I, K, E, N, C, B, S, M>(
+pub fn run_serve_command<R, I, K, E, N, C, B, S, M, H>(
     rt: &R,
     alloc: Global,
     words: &[String],
@@ -34,7 +36,7 @@ pub fn run_serve_command<R, I, K, E, N, C, B, S, M>(
     sink: &mut K,
     errors: &mut E,
     outside: &mut Outside<N, C, B, S, M>,
-    hosts: Vec<Host>,
+    hosts: Vec<Host<H>>,
 ) -> u8
 where
     R: Wait + Threads + Copy + Send + Drop + 'static,
@@ -47,6 +49,7 @@ where
     B: Bell + Send + Drop + 'static,
     S: Spawner,
     M: Names + Send + Drop + 'static,
+    H: Backend + Send + 'static,
     ensures statuses { Contains (0 ∷ 2 ∷ 4 ∷ 5 ∷ 6 ∷ 7 ∷ 8 ∷ []) result }
 
     // A count of faults rises with the status that names it, and with no other.
@@ -97,6 +100,24 @@ pub fn serves_until_eof(alloc: Global, words: &[String]) -> Result<bool, AllocEr
     }
 }
 
+/// The hosts that the server is to have, where the words say how to serve. The only error is want of memory.
+pub fn site_wanted(alloc: Global, words: &[String]) -> Result<Option<Site>, AllocError>
+    ensures { IfOk result (λ site. site ≡ site_among (serve_options words.now)) }
+{
+    match wanted(alloc, words)? {
+        Wanted::Serve(options) => {
+            let ServeOptions {
+                port: _,
+                until_eof: _,
+                plan: _,
+                site,
+            } = options;
+            Ok(Some(site))
+        }
+        Wanted::Shown(_) | Wanted::Nothing => Ok(None),
+    }
+}
+
 fn wanted(alloc: Global, words: &[String]) -> Result<Wanted, AllocError>
     ensures options { IfOk result (λ wanted. options_wanted wanted ≡ serve_options words.now) }
     ensures shows { IfOk result (λ wanted. ShowsWhatIsAsked (serve_findings words.now) (is_shown wanted)) }
@@ -125,7 +146,7 @@ pub(crate) fn status_given<K: Sink>(sink: &mut K, text: &[u8]) -> u8
 }
 
 // Serves these hosts as the options have it.
-fn serve<R, I, K, E, N, C, B, S, M>(
+fn serve<R, I, K, E, N, C, B, S, M, H>(
     rt: &R,
     alloc: Global,
     options: &ServeOptions,
@@ -133,7 +154,7 @@ fn serve<R, I, K, E, N, C, B, S, M>(
     sink: &mut K,
     errors: &mut E,
     outside: &mut Outside<N, C, B, S, M>,
-    hosts: Vec<Host>,
+    hosts: Vec<Host<H>>,
 ) -> u8
 where
     R: Wait + Threads + Copy + Send + Drop + 'static,
@@ -146,6 +167,7 @@ where
     B: Bell + Send + Drop + 'static,
     S: Spawner,
     M: Names + Send + Drop + 'static,
+    H: Backend + Send + 'static,
     ensures statuses { Contains (0 ∷ 4 ∷ 5 ∷ 6 ∷ 7 ∷ 8 ∷ []) result }
     ensures net_fault { result ≡ 7 → HasRisen (N.counts outside.old.net).faults (N.counts outside.new.net).faults }
     ensures net_counts { result ≢ 7 → (N.counts outside.new.net).faults ≡ (N.counts outside.old.net).faults }

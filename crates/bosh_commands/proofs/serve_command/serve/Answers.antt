@@ -5,6 +5,12 @@ use Rattle.bosh_server.specs.Runs.{Accepts, IsEnough, RunsBy}
 use Rattle.bosh_commands.proofs.StatusLemmas.{of_end}
 use Rattle.bosh_commands.proofs.serve_command.serve.Goals as goal
 
+pub returns-in-Failed-clause-statuses : goal.returns-in-Failed-clause-statuses
+returns-in-Failed-clause-statuses g c = (4, lit< tt, refl)
+
+pub returns-in-Err-clause-statuses : goal.returns-in-Err-clause-statuses
+returns-in-Err-clause-statuses g c = (2, lit< tt, refl)
+
 pub returns-in-Err-run_workers-clause-statuses : goal.returns-in-Err-run_workers-clause-statuses
 returns-in-Err-run_workers-clause-statuses g c = (3, lit< tt, refl)
 
