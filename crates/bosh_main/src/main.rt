@@ -2,8 +2,7 @@
 #![tactic(auto)]
 
 mod serving;
-mod stoppable;
-mod stopper;
+mod streams;
 mod typed;
 
 use crate::serving::serve_for_real;

@@ -1,22 +1,29 @@
 // The command `serve` over the real network, with the real clock, bell, threads and names.
 
-use crate::stoppable::StoppableNetwork;
-use crate::stopper::{EndOfInput, Stopper, stop_at_end};
-use bosh_commands::{NO_MEMORY, run_serve_command, serves_until_eof};
-use bosh_ports::{QuietSource, RealBell, Sink};
+use crate::streams::{start_teller, stream_end};
+use bosh_commands::{NET_FAULT, NO_MEMORY, run_serve_command, serves_until_eof, site_wanted};
+use bosh_ports::{Bell, QuietSource, RealBell, Sink};
 use bosh_server::Outside;
 use bosh_types::{Stanzas, Text};
 use client_run::Ready;
-use server_ports::{Network, RealClock, RealNames, TcpNetwork, ThreadSpawner, system_seed};
+use server_ports::{
+    Names, Network, RealClock, RealNames, Spawner, TcpNetwork, ThreadSpawner, system_seed,
+};
 use session_pump::Host;
 use std::alloc::{AllocError, Global};
 use std::io::Read;
 use std::net::{Net, TcpListener, TcpStream};
 use std::rt::{Clock, Files};
 use std::sync::{Arc, Wait};
-use std::thread;
 use std::thread::Threads;
-use xmpp_backend::{Backend, Echo, Room};
+use stop_net::{EndOfInput, StoppableNetwork, Stopper, stop_apart};
+use stream_backend::{StreamBackend, Watch};
+use stream_net::Desks;
+use xmpp_backend::{Backend, Echo, Either, InMemory, Room};
+use xmpp_stream::PollLink;
+
+/// What a host greets with whose back end is in memory (RFC 6120, section 4.3.2). A server of XMPP greets by itself.
+const FEATURES: &[u8] = b"<stream:features/>";
 
 /// Serves the hosts of the program over the real network. Where the words say that the server ends with its input, a thread of its own
 /// reads that, and is left behind where the server ends before it does.
@@ -54,31 +61,7 @@ where
     serve_over(rt, alloc, words, &mut end, sink, errors, net)
 }
 
-/// Starts the thread that reads the input of a server.
-fn stop_apart<R, I>(rt: &R, input: I, stopper: Arc<Stopper>) -> Result<(), AllocError>
-where
-    R: Wait
-        + Threads
-        + Clock
-        + Net<Listener = TcpListener, Stream = TcpStream>
-        + Copy
-        + Send
-        + Drop
-        + 'static,
-    I: Read + Send + Drop + 'static,
-{
-    let own = *rt;
-    let mut input = input;
-    match thread::spawn(rt, move || stop_at_end(&own, &mut input, &stopper)) {
-        Ok(reader) => {
-            drop(reader);
-            Ok(())
-        }
-        Err(_) => Err(AllocError),
-    }
-}
-
-/// Serves an echo and a room, each with a spare of its kind, over this network, with the real clock, bell, threads and names.
+/// Serves the hosts that the words want over this network, each with a spare of its kind, with the real clock, bell, threads and names.
 fn serve_over<R, I, K, E, N>(
     rt: &R,
     alloc: Global,
@@ -89,7 +72,15 @@ fn serve_over<R, I, K, E, N>(
     net: N,
 ) -> Result<u8, AllocError>
 where
-    R: Wait + Threads + Files + Clock + Copy + Send + Drop + 'static,
+    R: Wait
+        + Threads
+        + Files
+        + Clock
+        + Net<Listener = TcpListener, Stream = TcpStream>
+        + Copy
+        + Send
+        + Drop
+        + 'static,
     I: Ready,
     K: Sink,
     E: Sink,
@@ -99,21 +90,28 @@ where
     let Ok(seed) = system_seed(rt) else {
         return Ok(NO_MEMORY);
     };
-    let hosts = vec![in alloc;
-        host(
-            alloc,
-            "echo.localhost",
-            Box::new(alloc, Echo::new(alloc))?,
-            Box::new(alloc, Echo::new(alloc))?
-        )?,
-        host(
-            alloc,
-            "room.localhost",
-            Box::new(alloc, Room::new(alloc))?,
-            Box::new(alloc, Room::new(alloc))?
-        )?,
-    ]?;
     let bell = RealBell::new(alloc, *rt)?;
+    let mut hosts = Vec::new(alloc);
+    let mut teller = None;
+    if let Some(site) = site_wanted(alloc, words)? {
+        if site.has_test_hosts {
+            let end = InMemory::Echo(Echo::new(alloc));
+            let spare = InMemory::Echo(Echo::new(alloc));
+            hosts.push(test_host(alloc, b"echo.localhost", end, spare)?)?;
+            let end = InMemory::Room(Room::new(alloc));
+            let spare = InMemory::Room(Room::new(alloc));
+            hosts.push(test_host(alloc, b"room.localhost", end, spare)?)?;
+        }
+        let Ok(mut desks) = Desks::new(rt, alloc) else {
+            return Ok(NET_FAULT);
+        };
+        for domain in site.domains.as_slice() {
+            let end = Either::Right(stream_end(rt, alloc, site.port, &mut desks)?);
+            let spare = Either::Right(stream_end(rt, alloc, site.port, &mut desks)?);
+            hosts.push(host(alloc, domain.as_slice(), &[], end, spare)?)?;
+        }
+        teller = Some(start_teller(rt, desks, bell.share()?)?);
+    }
     let mut outside = Outside {
         net,
         clock: RealClock::new(*rt),
@@ -121,7 +119,7 @@ where
         spawner: ThreadSpawner::new(alloc),
         names: RealNames::new(alloc, seed),
     };
-    let status = run_serve_command(rt, alloc, words, input, sink, errors, &mut outside, hosts);
+    let status = serve_hosts(rt, alloc, words, input, sink, errors, &mut outside, hosts);
     let Outside {
         net: _net,
         clock: _clock,
@@ -130,21 +128,78 @@ where
         names: _names,
     } = outside;
     spawner.join_all(rt);
+    if let Some(teller) = teller {
+        teller.end(rt);
+    }
     Ok(status)
 }
 
-/// A host with this name, which greets with the features of a stream.
-fn host(
+/// Serves these hosts, of which each has a back end of one kind or one over TCP. Over any outside of these, so that whether they may cross
+/// to a thread is asked apart from what they are.
+fn serve_hosts<R, I, K, E, N, C, B, S, M, A, D, W, T>(
+    rt: &R,
     alloc: Global,
-    name: &str,
-    end: Box<dyn Backend + Send>,
-    spare: Box<dyn Backend + Send>,
-) -> Result<Host, AllocError> {
-    let features = Text::from_vec(b"<stream:features/>".to_vec(alloc)?);
+    words: &[String],
+    input: &mut I,
+    sink: &mut K,
+    errors: &mut E,
+    outside: &mut Outside<N, C, B, S, M>,
+    hosts: Vec<Host<Either<A, StreamBackend<D, W, T>>>>,
+) -> u8
+where
+    R: Wait + Threads + Copy + Send + Drop + 'static,
+    I: Ready,
+    K: Sink,
+    E: Sink,
+    N: Network,
+    N::Link: Send + Drop + 'static,
+    C: server_ports::Clock + Send + Drop + 'static,
+    B: Bell + Send + Drop + 'static,
+    S: Spawner,
+    M: Names + Send + Drop + 'static,
+    A: Backend + Send + 'static,
+    D: Network + Send + Drop + 'static,
+    D::Link: PollLink + Send + Drop + 'static,
+    W: Watch<D::Link> + Send + Drop + 'static,
+    T: server_ports::Clock + Send + Drop + 'static,
+{
+    run_serve_command(rt, alloc, words, input, sink, errors, outside, hosts)
+}
+
+/// A host with a back end in memory, which greets with the features of a stream.
+fn test_host<S: Backend>(
+    alloc: Global,
+    name: &[u8],
+    end: InMemory,
+    spare: InMemory,
+) -> Result<Host<Either<InMemory, S>>, AllocError> {
+    host(
+        alloc,
+        name,
+        &[FEATURES],
+        Either::Left(end),
+        Either::Left(spare),
+    )
+}
+
+/// A host with this name and greeting.
+fn host<E: Backend>(
+    alloc: Global,
+    name: &[u8],
+    greeting: &[&[u8]],
+    end: E,
+    spare: E,
+) -> Result<Host<E>, AllocError> {
+    let mut stanzas = Vec::new(alloc);
+    for stanza in greeting {
+        stanzas.push(Text::from_vec(stanza.to_vec(alloc)?))?;
+    }
+    let mut spares = Vec::new(alloc);
+    spares.push(spare)?;
     Ok(Host {
-        name: Text::from_vec(name.as_bytes().to_vec(alloc)?),
-        greeting: Stanzas::from_vec(vec![in alloc; features]?),
+        name: Text::from_vec(name.to_vec(alloc)?),
+        greeting: Stanzas::from_vec(stanzas),
         end,
-        spares: vec![in alloc; spare]?,
+        spares,
     })
 }
