@@ -21,7 +21,7 @@ use std::sync::{Arc, Mutex, Wait};
 use std::test::Fail;
 use std::thread::{Threads, join, sleep};
 use std::time::Duration;
-use xmpp_backend::Echo;
+use xmpp_backend::{Echo, InMemory};
 
 fn words_of(alloc: Global, line: &str) -> Result<Vec<String>, AllocError> {
     let mut words = Vec::new(alloc);
@@ -160,12 +160,12 @@ impl<R: Wait + Copy + Drop> Sink for Announcing<R> {
 }
 
 // The host `example.org`, which gives every stanza back.
-fn echo_host(alloc: Global) -> Result<Host, AllocError> {
+fn echo_host(alloc: Global) -> Result<Host<InMemory>, AllocError> {
     let features = Text::from_vec(b"<stream:features/>".to_vec(alloc)?);
     Ok(Host {
         name: Text::from_vec(b"example.org".to_vec(alloc)?),
         greeting: Stanzas::from_vec(vec![in alloc; features]?),
-        end: Box::new(alloc, Echo::new(alloc))?,
+        end: InMemory::Echo(Echo::new(alloc)),
         spares: Vec::new(alloc),
     })
 }
@@ -321,8 +321,8 @@ where
     Ok((status, sink))
 }
 
-// Connections that nothing is sent on, until nobody listens any more.
-fn fill<R>(rt: &R, port: u16)
+/// Connections that nothing is sent on, until nobody listens any more.
+pub(crate) fn fill<R>(rt: &R, port: u16)
 where
     R: Net<Listener = TcpListener, Stream = TcpStream>,
 {

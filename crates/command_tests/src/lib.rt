@@ -4,11 +4,17 @@
 #[cfg(test)]
 mod asking;
 #[cfg(test)]
+mod ending;
+#[cfg(test)]
 mod limits;
 #[cfg(test)]
 mod loopback;
 #[cfg(test)]
 mod noting;
+#[cfg(test)]
+mod refusing;
+#[cfg(test)]
+mod room;
 #[cfg(test)]
 mod scripts;
 #[cfg(test)]

@@ -14,7 +14,7 @@ use std::sync::Wait;
 use std::test::Fail;
 use std::thread::{Threads, join, sleep};
 use std::time::Duration;
-use xmpp_backend::Echo;
+use xmpp_backend::{Echo, InMemory};
 
 const CREATION: &[u8] =
     b"POST /http-bind HTTP/1.1\r\nHost: localhost\r\nConnection: close\r\nContent-Length: 108\r\n\r\n<body rid='1000' to='example.org' wait='60' hold='1' ver='1.6' xmlns='http://jabber.org/protocol/httpbind'/>";
@@ -23,11 +23,11 @@ const ANSWERED: &[u8] =
     b" sid='s1' wait='60' requests='2' inactivity='30' polling='5' maxpause='120' hold='1' ver='1.6' from='example.org' ack='1000' xmpp:version='1.0' xmpp:restartlogic='true'/>";
 
 // The host `example.org`, which greets nobody.
-fn echo_host(alloc: Global) -> Result<Host, AllocError> {
+pub(crate) fn echo_host(alloc: Global) -> Result<Host<InMemory>, AllocError> {
     Ok(Host {
         name: Text::from_vec(b"example.org".to_vec(alloc)?),
         greeting: Stanzas::from_vec(Vec::new(alloc)),
-        end: Box::new(alloc, Echo::new(alloc))?,
+        end: InMemory::Echo(Echo::new(alloc)),
         spares: Vec::new(alloc),
     })
 }
@@ -44,24 +44,47 @@ where
         + Drop
         + 'static,
 {
+    let line = format!(in alloc; "serve --port {port} --connections 1")?;
+    let hosts = vec![in alloc; echo_host(alloc)?]?;
+    let clock = StillClock {
+        moment: Moment::from_millis(0),
+    };
+    serve_by(rt, alloc, line.as_str(), clock, hosts)
+}
+
+/// Serves these hosts over loopback as the words of a line say. The status, where there was memory to begin.
+pub(crate) fn serve_by<R, C>(
+    rt: &R,
+    alloc: Global,
+    line: &str,
+    clock: C,
+    hosts: Vec<Host<InMemory>>,
+) -> Result<u8, AllocError>
+where
+    R: Wait
+        + Threads
+        + Clock
+        + Net<Listener = TcpListener, Stream = TcpStream>
+        + Copy
+        + Send
+        + Drop
+        + 'static,
+    C: server_ports::Clock + Send + Drop + 'static,
+{
     let Some(first) = Rid::new(1000) else {
         return Err(AllocError);
     };
-    let line = format!(in alloc; "serve --port {port} --connections 1")?;
     let mut words = Vec::new(alloc);
-    for word in line.as_str().split(' ') {
+    for word in line.split(' ') {
         words.push(String::from_str(alloc, word)?)?;
     }
-    let hosts = vec![in alloc; echo_host(alloc)?]?;
     let bell = RealBell::new(alloc, *rt)?;
     let mut input = QuietSource::new(Vec::new(alloc));
     let mut written = MemorySink::new(alloc, Vec::new(alloc));
     let mut errors = MemorySink::new(alloc, Vec::new(alloc));
     let mut outside = Outside {
         net: TcpNetwork::new(*rt),
-        clock: StillClock {
-            moment: Moment::from_millis(0),
-        },
+        clock,
         bell,
         spawner: ThreadSpawner::new(alloc),
         names: GivenNames::new(alloc, b"s", first),

@@ -1,16 +1,18 @@
 // The command `serve` over a network in memory.
 use bosh_commands::{
-    DONE, NET_FAULT, READ_FAULT, WRONG_WORDS, run_serve_command, serves_until_eof,
+    DONE, NET_FAULT, READ_FAULT, WRONG_WORDS, run_serve_command, serves_until_eof, site_wanted,
 };
 use bosh_ports::{MemorySink, MemorySource, SteadyBell};
 use bosh_server::Outside;
 use bosh_types::{Moment, Rid};
 use server_ports::{GivenNames, LinkPlan, MemoryNetwork, StillClock, ThreadSpawner};
+use session_pump::Host;
 use std::alloc::{AllocError, Global};
 use std::rt::Clock;
 use std::sync::Wait;
 use std::test::Fail;
 use std::thread::Threads;
+use xmpp_backend::InMemory;
 
 const LATER: &[u8] =
     b"POST /http-bind HTTP/1.1\r\nHost: localhost\r\nContent-Length: 68\r\n\r\n<body rid='7' sid='zz' xmlns='http://jabber.org/protocol/httpbind'/>";
@@ -65,6 +67,7 @@ fn shown_over<R: Wait + Threads + Copy + Send + Drop + 'static>(
         spawner: ThreadSpawner::new(alloc),
         names,
     };
+    let nobody: Vec<Host<InMemory>> = Vec::new(alloc);
     let status = run_serve_command(
         rt,
         alloc,
@@ -73,7 +76,7 @@ fn shown_over<R: Wait + Threads + Copy + Send + Drop + 'static>(
         &mut written,
         &mut errors,
         &mut outside,
-        Vec::new(alloc),
+        nobody,
     );
     let Outside {
         net: _net,
@@ -139,6 +142,50 @@ fn words_say_whether_a_server_ends_with_its_input(rt: HostRuntime) -> Result<(),
     Ok(())
 }
 
+// The hosts that these words want, as a line.
+fn site_line(alloc: Global, line: &str) -> Result<String, AllocError> {
+    let words = words_of(alloc, line)?;
+    let Some(site) = site_wanted(alloc, &words)? else {
+        return String::from_str(alloc, "none");
+    };
+    let port = site.port;
+    let tests = site.has_test_hosts;
+    let mut text = format!(in alloc; "{port} {tests}")?;
+    for domain in site.domains.as_slice() {
+        text.push_str(" ")?;
+        text.push_str(str::from_utf8(domain.as_slice()).unwrap_or("?"))?;
+    }
+    Ok(text)
+}
+
+#[test]
+fn words_say_which_hosts_a_server_has(rt: HostRuntime) -> Result<(), Fail> {
+    let rows = [
+        ("serve --port 1", "5222 true xmpp.localhost"),
+        (
+            "serve --port 1 --test-hosts --xmpp-port 5223",
+            "5223 true xmpp.localhost",
+        ),
+        ("serve --port 1 --xmpp a.example", "5222 false a.example"),
+        (
+            "serve --xmpp b.example --port 1 --xmpp=a.example --test-hosts --xmpp-port 65535",
+            "65535 true b.example a.example",
+        ),
+        (
+            "serve --port 1 --xmpp a --xmpp b --xmpp c --xmpp d --xmpp e --xmpp f --xmpp g --xmpp h",
+            "5222 false a b c d e f g h",
+        ),
+        ("serve --xmpp a.example", "none"),
+        ("serve --port 1 --xmpp a --xmpp a", "none"),
+        ("client --port 1 --to a", "none"),
+    ];
+    for (line, wanted) in rows {
+        let site = site_line(rt.alloc(), line)?;
+        assert_eq!(rt; site.as_str(), wanted, "of {line:?}");
+    }
+    Ok(())
+}
+
 #[test]
 fn words_that_are_no_command_write_nothing(rt: HostRuntime) -> Result<(), Fail> {
     let lines = [
@@ -154,6 +201,14 @@ fn words_that_are_no_command_write_nothing(rt: HostRuntime) -> Result<(), Fail> 
         "serve --port 5280 --port 5281",
         "serve --port 5280 --until-eof --until-eof",
         "serve --port 5280 --until-eof=true",
+        "serve --port 5280 --xmpp-port 0",
+        "serve --port 5280 --xmpp",
+        "serve --port 5280 --xmpp=",
+        "serve --port 5280 --xmpp echo.localhost",
+        "serve --port 5280 --xmpp room.localhost --test-hosts",
+        "serve --port 5280 --xmpp a.example --xmpp b.example --xmpp a.example",
+        "serve --port 5280 --xmpp a --xmpp b --xmpp c --xmpp d --xmpp e --xmpp f --xmpp g --xmpp h --xmpp i",
+        "serve --port 5280 --test-hosts --test-hosts",
         "client --port 5280",
     ];
     for line in lines {
