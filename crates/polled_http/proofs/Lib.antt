@@ -1,0 +1,2 @@
+mod PollingLemmas
+mod WindowLemmas
