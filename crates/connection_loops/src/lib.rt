@@ -1,0 +1,24 @@
+// Loops over connections: one thread steps as many as there are, each where its link or a ring says that it may go on, and none is
+// stepped meanwhile.
+#![tactic(auto)]
+
+mod bits;
+mod chains;
+mod door;
+mod inbox;
+mod listed_poller;
+mod poller;
+mod ready_poller;
+mod seat;
+mod slots;
+mod turning;
+
+pub use bits::{Bits, bit_of};
+pub use door::{Door, Rouse};
+pub use inbox::Inbox;
+pub use listed_poller::{CountedRouse, ListedPoller};
+pub use poller::Poller;
+pub use ready_poller::{ReadyPoller, ReadyRouse};
+pub use seat::{Seat, Wanted};
+pub use slots::Slots;
+pub use turning::{Loop, Turned};

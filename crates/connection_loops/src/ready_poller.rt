@@ -1,0 +1,73 @@
+// A poller over what the system tells of descriptors.
+use crate::door::Rouse;
+use crate::poller::Poller;
+use mio::unix::SourceFd;
+use mio::{Events, Interest, Poll, Token, Waker};
+use std::alloc::{AllocError, Global};
+use std::io;
+use std::net::Net;
+use std::os::fd::AsRawFd;
+use std::time::Duration;
+
+/// The token by which a wait is ended. No link has it.
+const ROUSED: Token = Token(usize::MAX);
+
+/// How much news is taken from the system at once.
+const EVENTS: usize = 1024;
+
+/// Tells of links whose descriptors the system reports.
+#[derive(Drop)]
+pub struct ReadyPoller {
+    poll: Poll,
+    events: Events,
+}
+
+/// Ends the wait of a loop at the system.
+#[derive(Drop)]
+pub struct ReadyRouse {
+    waker: Waker,
+}
+
+impl Rouse for ReadyRouse {
+    fn rouse(&self) {
+        let _ = self.waker.wake();
+    }
+}
+
+impl ReadyPoller {
+    /// No link is told of yet. With it comes what ends its waits.
+    pub fn new<R: Net>(rt: &R, alloc: Global) -> io::Result<(ReadyPoller, ReadyRouse)> {
+        let poll = Poll::new(rt)?;
+        let waker = Waker::new(poll.registry(), ROUSED)?;
+        let events = Events::with_capacity(alloc, EVENTS)?;
+        Ok((ReadyPoller { poll, events }, ReadyRouse { waker }))
+    }
+}
+
+impl<S: AsRawFd> Poller<S> for ReadyPoller {
+    // The system reports each change once, so that a link is registered once. It reports it no longer when it is closed.
+    fn enter(&mut self, seat: &S, at: usize) -> bool {
+        let both = Interest::READABLE | Interest::WRITABLE;
+        let fd = seat.as_raw_fd();
+        self.poll
+            .registry()
+            .register(&mut SourceFd(&fd), Token(at), both)
+            .is_ok()
+    }
+
+    fn wait(&mut self, most: Option<u64>, ready: &mut Vec<usize>) -> Result<(), AllocError> {
+        let limit = match most {
+            Some(millis) => Some(Duration::from_millis(millis)),
+            None => None,
+        };
+        if self.poll.poll(&mut self.events, limit).is_err() {
+            return Ok(());
+        }
+        for event in self.events.iter() {
+            if event.token() != ROUSED {
+                ready.push(event.token().0)?;
+            }
+        }
+        Ok(())
+    }
+}

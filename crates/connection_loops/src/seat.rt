@@ -1,0 +1,34 @@
+// What a loop steps.
+use bosh_ports::BellKey;
+use std::sync::Wait;
+
+/// What a seat wants when it has made its steps.
+#[derive(Clone, Copy, Debug, PartialEq, Eq)]
+pub enum Wanted {
+    /// Bytes of its link, or room there: its link has neither now.
+    Link,
+    /// To go on: it has made as many steps as it may make in one go.
+    Turn,
+    /// What a ring with this key tells of. It has looked for it, and there is nothing yet.
+    Ring(BellKey),
+    /// Nothing more: it has ended.
+    End,
+}
+
+/// A connection with its link and all else that it needs to be stepped. It never waits.
+pub trait Seat: Sized {
+    /// What comes to a loop.
+    type Link;
+
+    /// What a thread has for all its seats.
+    type Tools;
+
+    /// A seat for a link on which nothing came yet. None where there is no memory for it: the link is closed then.
+    fn seated<R: Wait>(rt: &R, tools: &mut Self::Tools, link: Self::Link) -> Option<Self>;
+
+    /// Makes steps, at most so many, until it wants something.
+    fn go_on<R: Wait>(&mut self, rt: &R, tools: &mut Self::Tools, most: u32) -> Wanted;
+
+    /// It has ended, or is to end: its link is closed.
+    fn leave<R: Wait>(self, rt: &R, tools: &mut Self::Tools);
+}

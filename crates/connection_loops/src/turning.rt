@@ -1,0 +1,180 @@
+// A loop: its turns, each of which steps those that may go on.
+use crate::bits::bit_of;
+use crate::chains::Chain;
+use crate::door::Rouse;
+use crate::inbox::Inbox;
+use crate::poller::Poller;
+use crate::seat::{Seat, Wanted};
+use crate::slots::Slots;
+use std::alloc::{AllocError, Global};
+use std::sync::Wait;
+
+/// How many steps a seat makes in one go, at most.
+const STEPS: u32 = 64;
+
+/// How long a loop waits where a number wasn't told for want of memory, in milliseconds.
+const PAUSE: u64 = 100;
+
+/// What a turn did.
+#[derive(Clone, Copy, Debug, PartialEq, Eq)]
+pub enum Turned {
+    /// A next turn may do more.
+    On,
+    /// No more seats come, and none is here.
+    Done,
+}
+
+/// The seats of one thread, and who tells it of their links.
+#[derive(Drop)]
+pub struct Loop<S: Seat + Drop, P: Poller<S> + Drop>
+where
+    S::Link: Drop,
+    S::Tools: Drop,
+{
+    slots: Slots<S>,
+    poller: P,
+    tools: S::Tools,
+    // Numbers of links on which something may have happened.
+    news: Vec<usize>,
+    // There was no memory for one.
+    is_short: bool,
+}
+
+impl<S: Seat + Drop, P: Poller<S> + Drop> Loop<S, P>
+where
+    S::Link: Drop,
+    S::Tools: Drop,
+{
+    /// No seat is here. The only error is want of memory.
+    pub fn new(alloc: Global, poller: P, tools: S::Tools) -> Result<Loop<S, P>, AllocError> {
+        Ok(Loop {
+            slots: Slots::new(alloc)?,
+            poller,
+            tools,
+            news: Vec::new(alloc),
+            is_short: false,
+        })
+    }
+
+    /// How many seats are here.
+    pub fn len(&self) -> usize {
+        self.slots.len()
+    }
+
+    /// Waits until somebody may go on, and steps those who may.
+    pub fn turn<R: Wait, W: Rouse + Drop>(&mut self, rt: &R, inbox: &Inbox<S::Link, W>) -> Turned {
+        self.wait(inbox);
+        self.take_links(rt, inbox);
+        self.step_rung(rt, inbox);
+        let ready = self.slots.take_ready();
+        self.step_chain(rt, ready);
+        self.step_news(rt);
+        if self.slots.is_empty() && inbox.door.is_done() {
+            return Turned::Done;
+        }
+        Turned::On
+    }
+
+    fn wait<W: Rouse + Drop>(&mut self, inbox: &Inbox<S::Link, W>) {
+        let most = if self.slots.has_ready() || !inbox.door.lie_down() {
+            Some(0)
+        } else if self.is_short {
+            Some(PAUSE)
+        } else {
+            None
+        };
+        self.is_short = self.poller.wait(most, &mut self.news).is_err();
+        inbox.door.get_up();
+    }
+
+    // Takes the links that were left.
+    fn take_links<R: Wait, W: Rouse + Drop>(&mut self, rt: &R, inbox: &Inbox<S::Link, W>) {
+        for _ in 0..u16::MAX {
+            match inbox.take(rt) {
+                Some(link) => self.seat(rt, link),
+                None => return,
+            }
+        }
+    }
+
+    fn seat<R: Wait>(&mut self, rt: &R, link: S::Link) {
+        match S::seated(rt, &mut self.tools, link) {
+            Some(seat) => self.enter(rt, seat),
+            None => {}
+        }
+    }
+
+    fn enter<R: Wait>(&mut self, rt: &R, seat: S) {
+        match self.slots.enter(seat) {
+            Ok(at) => {
+                if self.watch(at) {
+                    self.step(rt, at);
+                } else {
+                    self.let_go(rt, at);
+                }
+            }
+            Err(seat) => seat.leave(rt, &mut self.tools),
+        }
+    }
+
+    fn watch(&mut self, at: usize) -> bool {
+        match self.slots.seat(at) {
+            Some(seat) => self.poller.enter(seat, at),
+            None => false,
+        }
+    }
+
+    fn let_go<R: Wait>(&mut self, rt: &R, at: usize) {
+        if let Some(seat) = self.slots.remove(at) {
+            seat.leave(rt, &mut self.tools);
+        }
+    }
+
+    // Steps those who wait for a ring that came.
+    fn step_rung<R: Wait, W: Rouse + Drop>(&mut self, rt: &R, inbox: &Inbox<S::Link, W>) {
+        for bit in 0..=u8::MAX {
+            if inbox.door.take_rung(bit) {
+                let chain = self.slots.take_parked(bit);
+                self.step_chain(rt, chain);
+            }
+        }
+    }
+
+    fn step_chain<R: Wait>(&mut self, rt: &R, chain: Chain) {
+        let mut chain = chain;
+        for _ in 0..self.slots.len() {
+            match self.slots.take_first(chain) {
+                Some((at, rest)) => {
+                    self.step(rt, at);
+                    chain = rest;
+                }
+                None => return,
+            }
+        }
+    }
+
+    // Steps those on whose links something may have happened, unless they wait for a ring.
+    fn step_news<R: Wait>(&mut self, rt: &R) {
+        for i in 0..self.news.len() {
+            if let Some(at) = self.news.get(i) {
+                let at = *at;
+                if self.slots.is_at_link(at) {
+                    self.step(rt, at);
+                }
+            }
+        }
+        self.news.clear();
+    }
+
+    fn step<R: Wait>(&mut self, rt: &R, at: usize) {
+        let Some(seat) = self.slots.seat_mut(at) else {
+            return;
+        };
+        match seat.go_on(rt, &mut self.tools, STEPS) {
+            Wanted::Link => {}
+            Wanted::Turn => self.slots.make_ready(at),
+            Wanted::Ring(key) => self.slots.park(at, bit_of(key)),
+            Wanted::End => self.let_go(rt, at),
+        }
+    }
+}
