@@ -149,7 +149,7 @@ goes_on site start s s' given given' trail purse n m text h gave keeps same =
     )
 
 -- what is owed is owed on
-owes_on : (site : Setting) (start : Outside) (s s' given : Option (List ℕ)) (trail : List Traced) (purse : Purse) (n m : ℕ) (what : Owed) → Keeps s s' → m ≡ n → Owes site start (after_write s given trail purse n) what → Owes site start (after_write s' given trail purse m) what
+pub owes_on : (site : Setting) (start : Outside) (s s' given : Option (List ℕ)) (trail : List Traced) (purse : Purse) (n m : ℕ) (what : Owed) → Keeps s s' → m ≡ n → Owes site start (after_write s given trail purse n) what → Owes site start (after_write s' given trail purse m) what
 owes_on site start s s' given trail purse n m (owed.Answer text closing) keeps same h = record {
   exchanges = h.exchanges;
   stream = h.stream;

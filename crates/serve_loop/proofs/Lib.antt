@@ -8,4 +8,5 @@ pub mod EntryLemmas
 pub mod LookingLemmas
 pub mod OpeningLemmas
 pub mod SiteLemmas
+mod SteppingLemmas
 pub mod TellingLemmas

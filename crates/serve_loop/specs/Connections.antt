@@ -306,7 +306,7 @@ stage_after answering.Superseded closing looked = stages.Over ends.Superseded
 abbrev pub wanted_by : Stage → Wants
 wanted_by stages.Reading = wants.Bytes
 wanted_by (stages.Asked body closing) = wants.Nothing
-wanted_by (stages.Waiting w closing looked) = if looked then wants.Answer else wants.Nothing
+wanted_by (stages.Waiting w closing looked) = if looked then wants.Answer w.session.number else wants.Nothing
 wanted_by (stages.Owing what) = wants.Room
 wanted_by (stages.Over end) = wants.End end
 

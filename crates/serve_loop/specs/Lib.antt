@@ -2,4 +2,5 @@ pub mod Answering
 pub mod Asked
 pub mod Connections
 pub mod Effects
+pub mod Stepping
 pub mod Trail

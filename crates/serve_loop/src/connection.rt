@@ -45,8 +45,8 @@ pub enum Wants {
     Nothing,
     /// To give an answer to the link.
     Room,
-    /// The answer of a request that waits.
-    Answer,
+    /// The answer of a request that waits in the session with this opening number.
+    Answer(u64),
     /// The connection has ended so.
     End(ConnectionEnd),
 }
@@ -67,6 +67,26 @@ pub(crate) enum Stage {
     },
     Owing(Owed),
     Over(ConnectionEnd),
+}
+
+impl Stage {
+    /// What a connection that stands here wants next.
+    pub(crate) fn wants(&self) -> Wants
+        ensures { result ≡ wanted_by self.now }
+    {
+        match self {
+            Stage::Reading => Wants::Bytes,
+            Stage::Asked { .. } => Wants::Nothing,
+            Stage::Waiting {
+                waiting,
+                looked: true,
+                ..
+            } => Wants::Answer(waiting.session.number),
+            Stage::Waiting { looked: false, .. } => Wants::Nothing,
+            Stage::Owing(_) => Wants::Room,
+            Stage::Over(end) => Wants::End(*end),
+        }
+    }
 }
 
 /// A connection: its bytes that make no request yet, and where its last request stands.
@@ -96,14 +116,7 @@ impl Connection {
     pub fn wants(&self) -> Wants
         ensures { result ≡ wanted_by self.now.stage }
     {
-        match &self.stage {
-            Stage::Reading => Wants::Bytes,
-            Stage::Asked { .. } => Wants::Nothing,
-            Stage::Waiting { looked: true, .. } => Wants::Answer,
-            Stage::Waiting { looked: false, .. } => Wants::Nothing,
-            Stage::Owing(_) => Wants::Room,
-            Stage::Over(end) => Wants::End(*end),
-        }
+        self.stage.wants()
     }
 
     /// Makes one move: reads a request, makes its call, looks for its answer, or writes that.
@@ -205,7 +218,7 @@ impl Connection {
 }
 
 // Where the connection stands when what it owed was given.
-fn stage_behind(owed: &Owed) -> Stage
+pub(crate) fn stage_behind(owed: &Owed) -> Stage
     ensures { result ≡ stage_behind owed.now }
 {
     if owed.closes() {
@@ -215,7 +228,7 @@ fn stage_behind(owed: &Owed) -> Stage
 }
 
 // A request was read.
-fn asked_stage(alloc: Global, body: Text, closing: bool) -> Stage
+pub(crate) fn asked_stage(alloc: Global, body: Text, closing: bool) -> Stage
     ensures { IsAskedOr body closing result }
 {
     match SharedText::new(alloc, body) {
@@ -225,7 +238,7 @@ fn asked_stage(alloc: Global, body: Text, closing: bool) -> Stage
 }
 
 // What came is no request that is served: the connection ends after that is said.
-fn refused(trail: &mut Trail, refusal: HttpRefusal) -> Stage
+pub(crate) fn refused(trail: &mut Trail, refusal: HttpRefusal) -> Stage
     ensures stage { result ≡ Stage.Owing (Owed.Refusal refusal) }
     ensures told { trail.new ≡ trail.old ++ record { line = TrailLine.Http refusal; evidence = Evidence.Request } ∷ [] }
 {
@@ -234,7 +247,7 @@ fn refused(trail: &mut Trail, refusal: HttpRefusal) -> Stage
 }
 
 // Makes the call that a body asks for.
-fn ask<R: Wait, C: Clock, B: Bell, M: Names>(
+pub(crate) fn ask<R: Wait, C: Clock, B: Bell, M: Names>(
     rt: &R,
     site: &Site<'_, C>,
     worker: &mut Worker<B, M>,
@@ -258,7 +271,7 @@ fn ask<R: Wait, C: Clock, B: Bell, M: Names>(
 }
 
 // Looks for the answer of a request that waits.
-fn collected<R: Wait, B: Bell, M: Names>(
+pub(crate) fn collected<R: Wait, B: Bell, M: Names>(
     rt: &R,
     worker: &mut Worker<B, M>,
     waiting: Waiting,

@@ -48,7 +48,7 @@ pub fn serve_connection<R: Wait, L: Link, C: Clock, B: Bell, M: Names>(
 }
 
 // Whether a wait for a session ends silent. Where the session wasn't looked at yet, nobody waits.
-fn is_silent<B: Bell>(bell: &mut B, looked: bool) -> bool
+pub(crate) fn is_silent<B: Bell>(bell: &mut B, looked: bool) -> bool
     ensures looked { result ≡ true → looked ≡ true }
     ensures silent { result ≡ true → HasRisen (B.silences bell.old) (B.silences bell.new) }
     ensures never_falls { B.silences bell.old ≤ B.silences bell.new }

@@ -1,0 +1,52 @@
+// A connection over a link that is asked, stepped to its end by one thread.
+ghost use Rattle.std.specs.Prelude.{◌≡◌, ◌≤◌, []};
+ghost use Rattle.bosh_ports.specs.Faults.{HasRisen};
+ghost use Rattle.parked_gate.specs.Passes.{IsPassOf};
+ghost use Rattle.serve_loop.specs.Connections.{outside, Serves};
+ghost use Rattle.serve_loop.specs.Trail.{setting};
+
+use crate::connection::{ConnectionEnd, Stage};
+use crate::polled_connection::PolledConnection;
+use crate::serve::is_silent;
+use crate::worker::{Site, Worker};
+use bosh_ports::{Bell, Polled};
+use polled_http::Rooms;
+use server_ports::{Clock, Names};
+use std::sync::Wait;
+
+/// Steps a connection to its end, as `serve_connection` serves one over a link that waits. Where the link has nothing now it is asked
+/// again at once, so it is for one that seldom has nothing, as `Waited`.
+pub fn serve_polled<R: Wait, K: Polled, C: Clock, B: Bell, M: Names>(
+    rt: &R,
+    site: &Site<'_, C>,
+    worker: &mut Worker<B, M>,
+    rooms: &mut Rooms,
+    link: &mut K,
+) -> ConnectionEnd
+    requires { IsPassOf site.now.directory.now worker.old.purse.directory }
+    ensures pass { IsPassOf site.now.directory.now worker.new.purse.directory }
+
+    // What was read, answered and told, in order, what was added for it to which history, and how the connection ended.
+    ensures served { Serves (setting site.now.hosts.now site.now.limit (C.moment site.now.clock.now))
+        (outside [] (K.left link.old) (K.given link.old) worker.old.trail worker.old.purse (K.faults link.old))
+        (K.left link.new) (K.given link.new) worker.new.trail worker.new.purse (K.faults link.new) result }
+    ensures silent { result ≡ ConnectionEnd.Silent → HasRisen (B.silences worker.old.bell) (B.silences worker.new.bell) }
+    ensures silences { B.silences worker.old.bell ≤ B.silences worker.new.bell }
+    ensures faults { K.faults link.old ≤ K.faults link.new }
+{
+    let _ = worker.purse.drop_removed(rt, site.directory);
+    let mut connection = PolledConnection::new(site.alloc);
+    for _ in rt.forever() {
+        connection.step(rt, site, worker, rooms, link);
+        match &connection.standing.stage {
+            Stage::Waiting { looked, .. } => {
+                if is_silent(&mut worker.bell, *looked) {
+                    return ConnectionEnd::Silent;
+                }
+            }
+            Stage::Over(end) => return *end,
+            Stage::Reading | Stage::Asked { .. } | Stage::Owing(_) => {}
+        }
+    }
+    unreachable!()
+}
