@@ -1,0 +1,4 @@
+pub mod Moments
+pub mod Numbers
+pub mod RecordLemmas
+pub mod StoreLemmas

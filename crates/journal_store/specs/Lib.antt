@@ -1,0 +1,6 @@
+pub mod Crash
+pub mod Disk
+pub mod Group
+pub mod Opening
+pub mod RecordFile
+pub mod Records

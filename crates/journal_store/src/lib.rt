@@ -1,0 +1,15 @@
+// Journals on a disk: one file of records, each on the disk before it is acknowledged. What a crash at any moment leaves of
+// it is the row of records from before the call or the row after it.
+#![tactic(auto)]
+
+mod disk;
+mod group;
+mod opening;
+mod record_file;
+mod steps;
+
+pub use disk::{Disk, DiskDone, Length};
+pub use group::{AddError, Group};
+pub use opening::{Begun, Finished, Next, Opening};
+pub use record_file::{RecordFile, Stored};
+pub use steps::{put, trim};
