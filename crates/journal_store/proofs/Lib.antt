@@ -1,3 +1,4 @@
+pub mod GroupLemmas
 pub mod Moments
 pub mod Numbers
 pub mod RecordLemmas

@@ -1,5 +1,6 @@
 -- Rows of records.
-use Rattle.std.proofs.Common.{◌≡◌, ◌≢◌, ◌⊎◌, inl, inr, ⊎_elim, ℕ, ◌+◌, ◌<◌, ◌≤◌, ◌^◌, List, [], ◌∷◌, ◌++◌, length, take, drop, refl, sym, ◌∙◌, ap, subst, arith, append_assoc, length-append}
+use Rattle.std.proofs.Common.{◌≡◌, ◌==◌, true, ◌≢◌, ◌⊎◌, inl, inr, ⊎_elim, ℕ, ◌+◌, ◌<◌, ◌≤◌, ◌^◌, List, [], ◌∷◌, ◌++◌, length, take, drop, refl, sym, ◌∙◌, ap, subst, arith, append_assoc, length-append}
+use Rattle.std.proofs.lemmas.Bool.Decides.{nat_tests}
 use Rattle.std.proofs.lemmas.List.{append-nil, take_at, drop_at}
 use Rattle.std.specs.List.{AllByRecursion}
 use Rattle.journal_store.specs.Records.{HasLength, number4, record_of, records_of, file_of, BeginsNoRecord, IsRowOf}
@@ -67,3 +68,11 @@ one_row image one other row row' = same_row image one other row.end row'.end row
 -- a whole file has the row that it was made of
 pub row_of_file : (contents : List (List ℕ)) → AllByRecursion HasLength contents → IsRowOf (file_of contents) contents
 row_of_file contents fits = record { end = 0 ∷ []; split = refl; lengths = fits; ended = no_record_gate 0 [] (omega arith) }
+
+-- there is no record in no byte
+pub none_added : (bytes : List ℕ) (added : List (List ℕ)) → (length bytes == 0) ≡ true → bytes ≡ records_of added → added ≡ []
+none_added bytes [] empty is = refl
+none_added bytes (content ∷ added) empty is =
+    let none : length bytes ≡ 0 = grind (arith, nat_tests) in
+    let some : length bytes ≡ length (record_of content ++ records_of added) = ap length is in
+    absurd (omega (arith, none, some, length-append (record_of content) (records_of added), length-record content))

@@ -1,5 +1,6 @@
 // Records that are stored together.
 ghost use Rattle.std.specs.Prelude.{◌≡◌, ◌≤◌, ◌^◌, ◌↔◌, ◌∷◌, [], ◌++◌, ◌==◌, ◌<◌, length, take, IfOk, OnOk, OnErr, IsErrOf};
+ghost use Rattle.journal_store.specs.Group.{AreRecords};
 ghost use Rattle.journal_store.specs.Records.{record_of, framed};
 
 use std::alloc::{AllocError, Global};
@@ -32,14 +33,14 @@ pub struct Group {
 }
 
 impl Model for Group {
-    ghost use Rattle.std.specs.Prelude.{ℕ, List, ◌-◌, take, vec_len};
-    ghost use Rattle.journal_store.specs.Group.{HoldsRecords};
+    ghost use Rattle.std.specs.Prelude.{◌≡◌, ℕ, List, [], ◌∷◌, ◌++◌, ◌-◌, take, vec_len};
+    ghost use Rattle.journal_store.specs.Group.{AreRecords};
 
     ghost Value = { List ℕ };
 
     ghost view = { λ g. take (vec_len g.bytes - 1) g.bytes.items };
 
-    ghost invariant = { λ g. HoldsRecords g.bytes.items };
+    ghost invariant = { λ g. AreRecords (take (vec_len g.bytes - 1) g.bytes.items) × (g.bytes.items ≡ take (vec_len g.bytes - 1) g.bytes.items ++ 0 ∷ []) };
 }
 
 impl Group {
@@ -92,7 +93,8 @@ impl Group {
     // What stands behind the gate of the first record.
     pub(crate) fn behind_gate(&self) -> &[u8]
         requires { 0 < length self.now }
-        ensures { 1 ∷ result.now ≡ self.now ++ 0 ∷ [] }
+        ensures behind { 1 ∷ result.now ≡ self.now ++ 0 ∷ [] }
+        ensures records { AreRecords self.now }
     {
         &self.bytes[1..]
     }
