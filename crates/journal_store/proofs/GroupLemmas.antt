@@ -24,8 +24,8 @@ pub added_records : (view content : List ℕ) → AreRecords view → HasLength 
 added_records view content records fits = record {
   contents = records.contents ++ content ∷ [];
   split =
-    ap (λ (l : List ℕ). l ++ record_of content) records.split
-    ∙ sym (records-append records.contents (content ∷ []) ∙ ap (λ (l : List ℕ). records_of records.contents ++ l) (append-nil (record_of content)));
+      ap (λ (l : List ℕ). l ++ record_of content) records.split
+      ∙ sym (records-append records.contents (content ∷ []) ∙ ap (λ (l : List ℕ). records_of records.contents ++ l) (append-nil (record_of content)));
   lengths = all-append HasLength records.contents (content ∷ []) records.lengths (fits, tt);
 }
 

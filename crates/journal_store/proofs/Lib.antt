@@ -1,5 +1,6 @@
 pub mod GroupLemmas
 pub mod Moments
 pub mod Numbers
+pub mod OpeningLemmas
 pub mod RecordLemmas
 pub mod StoreLemmas

@@ -38,12 +38,12 @@ pub same_record : (content content' rest rest' : List ℕ) → HasLength content
 same_record content content' rest rest' fits fits' same =
     let behind : (number4 (length content) ++ content) ++ rest ≡ (number4 (length content') ++ content') ++ rest' = cc in
     let grouped : number4 (length content) ++ (content ++ rest) ≡ number4 (length content') ++ (content' ++ rest') =
-      sym (append_assoc (number4 (length content)) content rest) ∙ behind ∙ append_assoc (number4 (length content')) content' rest' in
+    sym (append_assoc (number4 (length content)) content rest) ∙ behind ∙ append_assoc (number4 (length content')) content' rest' in
     let numbers : number4 (length content) ≡ number4 (length content') =
-      sym (take_at (number4 (length content)) (content ++ rest) 4 (length-number4 (length content))) ∙ ap (λ (l : List ℕ). take 4 l) grouped ∙ take_at (number4 (length content')) (content' ++ rest') 4 (length-number4 (length content')) in
+    sym (take_at (number4 (length content)) (content ++ rest) 4 (length-number4 (length content))) ∙ ap (λ (l : List ℕ). take 4 l) grouped ∙ take_at (number4 (length content')) (content' ++ rest') 4 (length-number4 (length content')) in
     let counts : length content ≡ length content' = same_number4 _ _ fits fits' numbers in
     let contents : content ++ rest ≡ content' ++ rest' =
-      sym (drop_at (number4 (length content)) (content ++ rest) 4 (length-number4 (length content))) ∙ ap (λ (l : List ℕ). drop 4 l) grouped ∙ drop_at (number4 (length content')) (content' ++ rest') 4 (length-number4 (length content')) in (
+    sym (drop_at (number4 (length content)) (content ++ rest) 4 (length-number4 (length content))) ∙ ap (λ (l : List ℕ). drop 4 l) grouped ∙ drop_at (number4 (length content')) (content' ++ rest') 4 (length-number4 (length content')) in (
       sym (take_at content rest (length content) refl) ∙ ap (λ (l : List ℕ). take (length content) l) contents ∙ take_at content' rest' (length content) (sym counts),
       sym (drop_at content rest (length content) refl) ∙ ap (λ (l : List ℕ). drop (length content) l) contents ∙ drop_at content' rest' (length content) (sym counts),
     )
@@ -57,7 +57,7 @@ same_row image (content ∷ one) [] end end' is is' fits fits' ended ended' =
     absurd (ended' content (records_of one ++ end) fits.0 (sym is' ∙ is ∙ append_assoc (record_of content) (records_of one) end))
 same_row image (content ∷ one) (content' ∷ other) end end' is is' fits fits' ended ended' =
     let same = same_record content content' (records_of one ++ end) (records_of other ++ end') fits.0 fits'.0
-      (sym (append_assoc (record_of content) (records_of one) end) ∙ sym is ∙ is' ∙ append_assoc (record_of content') (records_of other) end') in
+    (sym (append_assoc (record_of content) (records_of one) end) ∙ sym is ∙ is' ∙ append_assoc (record_of content') (records_of other) end') in
     let behind : one ≡ other = same_row (records_of one ++ end) one other end end' refl same.1 fits.1 fits'.1 ended ended' in
     ap (λ (c : List ℕ). c ∷ one) same.0 ∙ ap (λ (l : List (List ℕ)). content' ∷ l) behind
 

@@ -53,9 +53,9 @@ module _ (contents added : List (List ℕ)) (gate : ℕ) (behind : List ℕ) (at
   torn_behind fits image torn = record {
     end = 0 ∷ drop (gate + 1) image;
     split =
-      sym (take-append-drop (gate + 1) image)
-      ∙ ap (λ (l : List ℕ). l ++ drop (gate + 1) image) (torn.before ∙ take_all (gate + 1) (file_of contents) (omega (arith, length_file)))
-      ∙ grouped 0 (drop (gate + 1) image);
+        sym (take-append-drop (gate + 1) image)
+        ∙ ap (λ (l : List ℕ). l ++ drop (gate + 1) image) (torn.before ∙ take_all (gate + 1) (file_of contents) (omega (arith, length_file)))
+        ∙ grouped 0 (drop (gate + 1) image);
     lengths = fits;
     ended = no_record_gate 0 (drop (gate + 1) image) (omega arith);
   }
@@ -65,17 +65,17 @@ module _ (contents added : List (List ℕ)) (gate : ℕ) (behind : List ℕ) (at
   torn_gate image torn =
       let byte = get_or image gate 0 in
       let rest : drop gate image ≡ byte ∷ behind =
-        drop_more image gate 0 (omega (arith, torn.no_shorter, length_with 0)) ∙ ap (λ (l : List ℕ). byte ∷ l) (torn.after ∙ back 0) in
+      drop_more image gate 0 (omega (arith, torn.no_shorter, length_with 0)) ∙ ap (λ (l : List ℕ). byte ∷ l) (torn.after ∙ back 0) in
       sym (take-append-drop gate image) ∙ ap (λ (l : List ℕ). l ++ drop gate image) (torn.before ∙ front 0 behind) ∙ ap (λ (l : List ℕ). records_of contents ++ l) rest
 
   row_of_gate : AllByRecursion HasLength contents → AllByRecursion HasLength added → (byte : ℕ) (image : List ℕ) → image ≡ with_gate byte → IsBeforeOrAfter contents added image
   row_of_gate fits fits' byte image is = elim (cases_eq byte 1) [
     | inl open_gate ↦ inr (record {
-        end = 0 ∷ [];
-        split = is ∙ ap with_gate open_gate ∙ opened;
-        lengths = all-append HasLength contents added fits fits';
-        ended = no_record_gate 0 [] (omega arith);
-      })
+      end = 0 ∷ [];
+      split = is ∙ ap with_gate open_gate ∙ opened;
+      lengths = all-append HasLength contents added fits fits';
+      ended = no_record_gate 0 [] (omega arith);
+    })
     | inr shut ↦ inl (record { end = byte ∷ behind; split = is; lengths = fits; ended = no_record_gate byte behind shut })
   ]
 
@@ -94,5 +94,5 @@ module _ (contents added : List (List ℕ)) (gate : ℕ) (behind : List ℕ) (at
     both_crash old mid new file staged is is_staged first second =
         let stands : staged ≡ with_gate 0 = is_staged ∙ ap (λ (l : List ℕ). written (gate + 1) behind l) is ∙ written_behind in
         then_crash time left old mid new (IsBeforeOrAfter contents added) (first_crash old mid file is first)
-          (weaker time left mid new _ (IsBeforeOrAfter contents added) second (λ image torn.
-            row_of_gate fits fits' (get_or image gate 0) image (torn_gate image (subst (λ (f : List ℕ). Torn gate 1 f image) stands torn))))
+        (weaker time left mid new _ (IsBeforeOrAfter contents added) second (λ image torn.
+        row_of_gate fits fits' (get_or image gate 0) image (torn_gate image (subst (λ (f : List ℕ). Torn gate 1 f image) stands torn))))

@@ -69,8 +69,9 @@ impl<D: Disk> Opening<D> {
         ensures faults { CountsBegun D.faults (D.faults disk) result }
     {
         let mut disk = disk;
-        if let DiskDone::Failed = disk.sync() {
-            return Begun::Failed(disk);
+        match disk.sync() {
+            DiskDone::Done => {}
+            DiskDone::Failed => return Begun::Failed(disk),
         }
         match disk.length() {
             Length::Bytes(length) => Begun::Opened(Opening {
@@ -144,8 +145,9 @@ impl<D: Disk> Opening<D> {
         ensures faults { CountsFinished D.faults (D.faults self.disk) result }
     {
         let mut disk = self.disk;
-        if let DiskDone::Failed = trim(&mut disk, self.at) {
-            return Finished::Failed(disk);
+        match trim(&mut disk, self.at) {
+            DiskDone::Done => {}
+            DiskDone::Failed => return Finished::Failed(disk),
         }
         match put(&mut disk, self.at, &[0]) {
             DiskDone::Done => Finished::Opened(RecordFile {
@@ -182,20 +184,24 @@ fn read_head<D: Disk>(disk: &mut D, at: u64, length_: u64) -> Head
     }
     let mut bytes = [0u8; 5];
     match disk.read(at, &mut bytes) {
-        DiskDone::Done => head_of(bytes, room - HEAD),
+        DiskDone::Done => {
+            let [gate, a, b, c, d] = bytes;
+            head_of(gate, a, b, c, d, room - HEAD)
+        }
         DiskDone::Failed => Head::Failed,
     }
 }
 
-// What the first bytes of a record say, where so many follow them.
-fn head_of(bytes: [u8; 5], behind: u64) -> Head
-    ensures { SaysHead bytes behind result }
+// What the first five bytes of a record say, a gate and a number, where so many bytes follow them.
+fn head_of(gate: u8, a: u8, b: u8, c: u8, d: u8, behind: u64) -> Head
+    ensures { SaysHead (gate ∷ a ∷ b ∷ c ∷ d ∷ []) behind result }
 {
-    let [gate, a, b, c, d] = bytes;
-    let count = u64::from(u32::from_be_bytes([a, b, c, d]));
-    if gate == 1 && count <= behind {
-        Head::Record(count)
-    } else {
-        Head::NoRecord
+    if gate != 1 {
+        return Head::NoRecord;
     }
+    let count = u64::from(u32::from_be_bytes([a, b, c, d]));
+    if count > behind {
+        return Head::NoRecord;
+    }
+    Head::Record(count)
 }

@@ -16,14 +16,15 @@ gate_is c =
 view_after : (c : goal.After-self-1) → take (c.push_framed.new.bytes.len - 1) (slice_set c.push_framed.new.bytes.items (c.len-gate.result - 1) 1) ≡ c.args.self.now ++ record_of c.args.content.now
 view_after c =
     lemmas.opened_view c.self.inside.bytes.items c.args.self.now c.args.content.now c.push_framed.new.bytes.items (c.len-gate.result - 1)
-      (bytes_are c) (gate_is c) c.in-Ok-push_framed.ensures.ok c.push_framed.new.bytes.len (omega (arith, c.push_framed.new.bytes.ok.0))
+    (bytes_are c) (gate_is c) c.in-Ok-push_framed.ensures.ok c.push_framed.new.bytes.len (omega (arith, c.push_framed.new.bytes.ok.0))
 
 pub invariant_of-self : goal.invariant_of-self
 invariant_of-self c =
-    let fits : length c.args.content.now < 2 ^ 32 = omega (arith, c.in-Ok.ensures) in
-    (subst AreRecords (sym (view_after c)) (lemmas.added_records c.args.self.now c.args.content.now (subst AreRecords c.self.view_is c.self.invariant.0) fits),
+    let fits : length c.args.content.now < 2 ^ 32 = omega (arith, c.in-Ok.ensures) in (
+      subst AreRecords (sym (view_after c)) (lemmas.added_records c.args.self.now c.args.content.now (subst AreRecords c.self.view_is c.self.invariant.0) fits),
       lemmas.opened c.self.inside.bytes.items c.args.self.now c.args.content.now c.push_framed.new.bytes.items (c.len-gate.result - 1) (bytes_are c) (gate_is c) c.in-Ok-push_framed.ensures.ok
-      ∙ ap (λ (l : List ℕ). l ++ 0 ∷ []) (sym (view_after c)))
+          ∙ ap (λ (l : List ℕ). l ++ 0 ∷ []) (sym (view_after c)),
+    )
 
 pub returns-in-Ok-push_framed-clause-added : goal.returns-in-Ok-push_framed-clause-added
 returns-in-Ok-push_framed-clause-added c = view_after c

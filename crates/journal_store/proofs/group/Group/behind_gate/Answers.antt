@@ -6,4 +6,4 @@ use Rattle.journal_store.proofs.group.Group.behind_gate.Goals as goal
 pub returns-clause-behind : goal.returns-clause-behind
 returns-clause-behind c =
     lemmas.behind_gate c.deref.result.now c.args.self.now (c.deref.ensures.value ∙ c.self.invariant.1 ∙ ap (λ (l : List ℕ). l ++ 0 ∷ []) c.self.view_is)
-      (subst AreRecords c.self.view_is c.self.invariant.0) c.requires
+    (subst AreRecords c.self.view_is c.self.invariant.0) c.requires

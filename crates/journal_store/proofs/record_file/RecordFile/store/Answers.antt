@@ -14,7 +14,7 @@ returns-then-is_empty-clause-stored g c = λ told is_done contents added fits is
 pub returns-in-Done-clause-stored : goal.returns-in-Done-clause-stored
 returns-in-Done-clause-stored g c = λ told is_done contents added fits is rest.
     let sizes : length (records_of (contents ++ added)) ≡ length (records_of contents) + length (records_of added) =
-      ap length (records-append contents added) ∙ length-append (records_of contents) (records_of added) in
+    ap length (records-append contents added) ∙ length-append (records_of contents) (records_of added) in
     let size : length c.args.group.now ≡ length (records_of added) = ap length is in
     record {
       content = c.put_behind.ensures.stored told c.in-Done.is contents added rest.content rest.end (c.behind_gate.ensures.behind ∙ ap (λ (l : List ℕ). l ++ 0 ∷ []) is);
