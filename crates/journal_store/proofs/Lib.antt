@@ -1,4 +1,5 @@
 pub mod GroupLemmas
+pub mod MemoryLemmas
 pub mod Moments
 pub mod Numbers
 pub mod OpeningLemmas

@@ -145,7 +145,7 @@ has_more seen time left opening new contents content count read head is same at_
     let file = seen opening.disk in
     let fits : length content < 2 ^ 32 = omega (arith, size file contents opening.at count head.0 content read.front read.at head.1 head.2 is, head.3) in
     let front : file ≡ records_of (contents ++ content ∷ []) ++ drop new.at file =
-      front_more file contents opening.at count head.0 content read.front read.at head.1 head.2 is ∙ ap (λ (n : ℕ). records_of (contents ++ content ∷ []) ++ drop n file) (sym at_new) in
+    front_more file contents opening.at count head.0 content read.front read.at head.1 head.2 is ∙ ap (λ (n : ℕ). records_of (contents ++ content ∷ []) ++ drop n file) (sym at_new) in
     record {
       front = same ∙ front ∙ ap (λ (l : List ℕ). records_of (contents ++ content ∷ []) ++ drop new.at l) (sym same);
       lengths = all-append HasLength contents (content ∷ []) read.lengths (fits, tt);

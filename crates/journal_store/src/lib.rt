@@ -4,12 +4,16 @@
 
 mod disk;
 mod group;
+mod laws;
+mod memory_disk;
 mod opening;
 mod record_file;
 mod steps;
 
 pub use disk::{Disk, DiskDone, Length};
 pub use group::{AddError, Group};
+pub use laws::an_image_has_one_row;
+pub use memory_disk::{Change, MemoryDisk};
 pub use opening::{Begun, Finished, Next, Opening};
 pub use record_file::{RecordFile, Stored};
 pub use steps::{put, trim};

@@ -18,5 +18,5 @@ returns-in-Done-clause-head g c = λ told.
     let bytes = c.read.new.into in
     let read = c.read.ensures.bytes told c.in-Done.is in
     head_at (g.D.Disk.seen c.args.disk.now) c.args.at (c.saturating_sub-room.result - 5) c.head_of.result
-      (omega (arith, within.0, within.1, c.saturating_sub-room.ensures, c.if-room-lt-HEAD.false))
-      (subst (λ (l : List ℕ). SaysHead l (c.saturating_sub-room.result - 5) c.head_of.result) (sym (five bytes (ap length read ∙ length-take-le 5 (drop c.args.at file) (omega (arith, within.0, within.1, length-drop c.args.at file, c.saturating_sub-room.ensures, c.if-room-lt-HEAD.false)))) ∙ read) c.head_of.ensures)
+    (omega (arith, within.0, within.1, c.saturating_sub-room.ensures, c.if-room-lt-HEAD.false))
+    (subst (λ (l : List ℕ). SaysHead l (c.saturating_sub-room.result - 5) c.head_of.result) (sym (five bytes (ap length read ∙ length-take-le 5 (drop c.args.at file) (omega (arith, within.0, within.1, length-drop c.args.at file, c.saturating_sub-room.ensures, c.if-room-lt-HEAD.false)))) ∙ read) c.head_of.ensures)

@@ -15,5 +15,5 @@ returns-in-Done-clause-reads g c = λ told contents read head open_end.
     let size : length c.read.new.into ≡ c.args.count = ap length bytes ∙ length-take-le c.args.count (drop (at + 5) file) room in
     let long : length c.read.new.into ≡ c.in-Ok.content.len = omega (arith, size, c.in-Ok.ensures.len) in
     has_more g.D.Disk.seen g.D.Disk.time g.D.Disk.left c.args.self.now (record c.args.self.now { disk = c.read.new.self; at = at + (5 + c.args.count) }) contents c.from_vec.result c.args.count read head
-      (c.from_vec.ensures ∙ with_items_is c.in-Ok.content c.read.new.into long ∙ bytes)
-      (c.read.ensures.seen told) refl refl (still_only _ _ _ _ _ read.durable (c.read.ensures.crash told)) open_end
+    (c.from_vec.ensures ∙ with_items_is c.in-Ok.content c.read.new.into long ∙ bytes)
+    (c.read.ensures.seen told) refl refl (still_only _ _ _ _ _ read.durable (c.read.ensures.crash told)) open_end
