@@ -85,9 +85,9 @@ pub written_torn : (at count : ℕ) (bytes content : List ℕ) → at ≤ length
 written_torn at count bytes content within short = record {
   before = ap (λ (l : List ℕ). take at l) regrouped ∙ take_at (take at content) (bytes ++ behind) at front;
   after =
-    ap (λ (n : ℕ). drop n whole) places ∙ sym (drop-drop (count - length bytes) (at + length bytes) whole)
-    ∙ ap (λ (l : List ℕ). drop (count - length bytes) l) (drop_at (take at content ++ bytes) behind (at + length bytes) parts)
-    ∙ drop-drop (count - length bytes) (at + length bytes) content ∙ ap (λ (n : ℕ). drop n content) (sym places);
+      ap (λ (n : ℕ). drop n whole) places ∙ sym (drop-drop (count - length bytes) (at + length bytes) whole)
+      ∙ ap (λ (l : List ℕ). drop (count - length bytes) l) (drop_at (take at content ++ bytes) behind (at + length bytes) parts)
+      ∙ drop-drop (count - length bytes) (at + length bytes) content ∙ ap (λ (n : ℕ). drop n content) (sym places);
   no_shorter = omega (arith, size);
   no_longer = omega (arith, size, short);
 }

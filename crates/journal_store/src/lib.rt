@@ -3,6 +3,7 @@
 #![tactic(auto)]
 
 mod disk;
+mod file_disk;
 mod group;
 mod laws;
 mod memory_disk;
@@ -11,6 +12,7 @@ mod record_file;
 mod steps;
 
 pub use disk::{Disk, DiskDone, Length};
+pub use file_disk::FileDisk;
 pub use group::{AddError, Group};
 pub use laws::an_image_has_one_row;
 pub use memory_disk::{Change, MemoryDisk};

@@ -8,12 +8,12 @@ use Rattle.journal_store.proofs.memory_disk.MemoryDiskDisk.cut.Goals as goal
 pub invariant_of-self : goal.invariant_of-self
 invariant_of-self c =
     holds_after c.self.inside.changes.items c.and-self-inside.result.items c.self.inside.bytes (Cut c.args.to) c.truncate.new.self.items c.and-self-inside.ensures
-      (c.self.inside.bytes.items, c.self.invariant, inr c.truncate.ensures.items)
+    (c.self.inside.bytes.items, c.self.invariant, inr c.truncate.ensures.items)
 
 pub invariant_of-self-in-Failed : goal.invariant_of-self-in-Failed
 invariant_of-self-in-Failed c =
     holds_after c.self.inside.changes.items c.and-self-inside.result.items c.self.inside.bytes (Cut c.args.to) c.self.inside.bytes.items c.and-self-inside.ensures
-      (c.self.inside.bytes.items, c.self.invariant, inl refl)
+    (c.self.inside.bytes.items, c.self.invariant, inl refl)
 
 pub returns-in-Done-clause-crash : goal.returns-in-Done-clause-crash
 returns-in-Done-clause-crash c = λ told.

@@ -17,4 +17,4 @@ pub returns-in-Done-clause-crash : goal.returns-in-Done-clause-crash
 returns-in-Done-clause-crash c = λ told.
     let same = ap (λ (m : Memory). m.changes) c.self.view_is in
     goes_on c.args.self.now.changes c.and-self-inside.result.items c.self.inside.bytes Synced Untouched (c.and-self-inside.ensures ∙ ap (λ (l : Changes). l ++ (c.self.inside.bytes, Synced) ∷ []) same)
-      (λ image is. (c.self.inside.bytes.items, subst (λ (l : Changes). left_by l c.self.inside.bytes.items) same c.self.invariant, is))
+    (λ image is. (c.self.inside.bytes.items, subst (λ (l : Changes). left_by l c.self.inside.bytes.items) same c.self.invariant, is))
