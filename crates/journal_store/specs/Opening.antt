@@ -61,6 +61,11 @@ abbrev pub CountsBegun : {D : Type 0} → (D → ℕ) → ℕ → Begun D → Ty
 CountsBegun faults old (begun.Opened opening) = faults opening.disk ≡ old
 CountsBegun faults old (begun.Failed disk) = (old ≤ faults disk) × HasRisen old (faults disk)
 
+-- the disk that was handed in, within the opening or by itself
+abbrev pub disk_begun : {D : Type 0} → Begun D → D
+disk_begun (begun.Opened opening) = opening.disk
+disk_begun (begun.Failed disk) = disk
+
 abbrev pub IfOpened : {D : Type 0} → Begun D → (Opening D → Type 0) → Type 0
 IfOpened (begun.Opened opening) P = P opening
 IfOpened (begun.Failed disk) P = Unit {0}

@@ -3,7 +3,7 @@ ghost use Rattle.std.specs.Prelude.{◌≡◌, ◌≤◌, ◌^◌, ◌↔◌, �
 ghost use Rattle.journal_store.specs.Group.{AreRecords};
 ghost use Rattle.journal_store.specs.Records.{record_of, framed};
 
-use std::alloc::{AllocError, Global};
+use std::alloc::{AllocError, AllocFailed, Global};
 use std::marker::Model;
 
 /// Why a content isn't added.
@@ -21,6 +21,17 @@ impl From<AllocError> for AddError {
     ghost from_gives = { λ _ e. e ≡ NoMemory };
 
     fn from(_error: AllocError) -> AddError {
+        AddError::NoMemory
+    }
+}
+
+impl<T: Drop> From<AllocFailed<T>> for AddError {
+    ghost use Rattle.std.specs.Prelude.{◌≡◌};
+    ghost use Rattle.journal_store.specs.declared.group.AddError.TheVariants.{NoMemory};
+
+    ghost from_gives = { λ _ e. e ≡ NoMemory };
+
+    fn from(_error: AllocFailed<T>) -> AddError {
         AddError::NoMemory
     }
 }

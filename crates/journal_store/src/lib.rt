@@ -2,6 +2,7 @@
 // it is the row of records from before the call or the row after it.
 #![tactic(auto)]
 
+mod content;
 mod disk;
 mod file_disk;
 mod group;
@@ -11,6 +12,7 @@ mod opening;
 mod record_file;
 mod steps;
 
+pub use content::write_content;
 pub use disk::{Disk, DiskDone, Length};
 pub use file_disk::FileDisk;
 pub use group::{AddError, Group};
@@ -18,4 +20,3 @@ pub use laws::an_image_has_one_row;
 pub use memory_disk::{Change, MemoryDisk};
 pub use opening::{Begun, Finished, Next, Opening};
 pub use record_file::{RecordFile, Stored};
-pub use steps::{put, trim};

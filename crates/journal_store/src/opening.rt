@@ -3,7 +3,7 @@ ghost use Rattle.std.specs.Prelude.{◌≡◌, ℕ, ◌+◌, ◌≤◌, ◌<◌,
 ghost use Rattle.std.specs.List.{AllByRecursion};
 ghost use Rattle.journal_store.specs.Crash.{EachCrash};
 ghost use Rattle.journal_store.specs.Disk.{Only, Untouched, CountsDone};
-ghost use Rattle.journal_store.specs.Opening.{HasRead, ReadsNext, IsHead, SaysHead, IsRecordWithin, CountsHead, CountsNext, CountsBegun, IfOpened, CountsFinished, IfFinished, disk_of};
+ghost use Rattle.journal_store.specs.Opening.{HasRead, ReadsNext, IsHead, SaysHead, IsRecordWithin, CountsHead, CountsNext, CountsBegun, IfOpened, CountsFinished, IfFinished, disk_begun, disk_of};
 ghost use Rattle.journal_store.specs.RecordFile.{IsAtRest};
 ghost use Rattle.journal_store.specs.Records.{HasLength, IsRowOf, BeginsNoRecord};
 
@@ -65,7 +65,7 @@ impl<D: Disk> Opening<D> {
         ensures nothing_read { D.told → IfOpened result (λ opening. HasRead D.seen D.time D.left opening [] × (D.seen opening.disk ≡ D.seen disk)) }
         ensures begins { IfOpened result (λ opening. opening.has_ended ≡ false) }
         ensures any_moment { D.told → Only (D.seen disk) (D.left disk (D.time disk)) →
-            IfOpened result (λ opening. EachCrash D.time D.left disk opening.disk (Untouched (D.seen disk))) }
+            EachCrash D.time D.left disk (disk_begun result) (Untouched (D.seen disk)) }
         ensures faults { CountsBegun D.faults (D.faults disk) result }
     {
         let mut disk = disk;

@@ -5,8 +5,8 @@ ghost use Rattle.journal_store.specs.Disk.{written, Torn, CutOrNot, Only, Counts
 
 use crate::disk::{Disk, DiskDone};
 
-/// Writes and syncs. A crash meanwhile leaves the content with any bytes in their place.
-pub fn put<D: Disk>(disk: &mut D, at: u64, bytes: &[u8]) -> DiskDone
+// Writes and syncs. A crash meanwhile leaves the content with any bytes in their place.
+pub(crate) fn put<D: Disk>(disk: &mut D, at: u64, bytes: &[u8]) -> DiskDone
     requires { D.told → at ≤ length (D.seen disk.old) }
     ensures written { D.told → result ≡ DiskDone.Done → D.seen disk.new ≡ written at bytes.now (D.seen disk.old) }
     ensures durable { D.told → result ≡ DiskDone.Done → Only (D.seen disk.new) (D.left disk.new (D.time disk.new)) }
@@ -20,8 +20,8 @@ pub fn put<D: Disk>(disk: &mut D, at: u64, bytes: &[u8]) -> DiskDone
     }
 }
 
-/// Cuts and syncs. A crash meanwhile leaves the content whole or cut.
-pub fn trim<D: Disk>(disk: &mut D, to: u64) -> DiskDone
+// Cuts and syncs. A crash meanwhile leaves the content whole or cut.
+pub(crate) fn trim<D: Disk>(disk: &mut D, to: u64) -> DiskDone
     requires { D.told → to ≤ length (D.seen disk.old) }
     ensures cut { D.told → result ≡ DiskDone.Done → D.seen disk.new ≡ take to (D.seen disk.old) }
     ensures durable { D.told → result ≡ DiskDone.Done → Only (D.seen disk.new) (D.left disk.new (D.time disk.new)) }
