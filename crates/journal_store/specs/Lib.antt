@@ -4,5 +4,6 @@ pub mod Disk
 pub mod Group
 pub mod MemoryDisk
 pub mod Opening
+pub mod Reading
 pub mod RecordFile
 pub mod Records

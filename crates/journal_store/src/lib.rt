@@ -4,11 +4,13 @@
 
 mod content;
 mod disk;
+mod fields;
 mod file_disk;
 mod group;
 mod laws;
 mod memory_disk;
 mod opening;
+mod reading;
 mod record_file;
 mod steps;
 
@@ -19,4 +21,5 @@ pub use group::{AddError, Group};
 pub use laws::an_image_has_one_row;
 pub use memory_disk::{Change, MemoryDisk};
 pub use opening::{Begun, Finished, Next, Opening};
+pub use reading::{ReadError, SessionEntry, read_content};
 pub use record_file::{RecordFile, Stored};
