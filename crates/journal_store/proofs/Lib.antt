@@ -1,3 +1,4 @@
+pub mod EntryLemmas
 pub mod GroupLemmas
 pub mod MemoryLemmas
 pub mod Moments

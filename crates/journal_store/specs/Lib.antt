@@ -1,6 +1,7 @@
 pub mod Contents
 pub mod Crash
 pub mod Disk
+pub mod Entries
 pub mod Group
 pub mod MemoryDisk
 pub mod Opening

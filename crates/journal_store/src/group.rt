@@ -101,6 +101,14 @@ impl Group {
         self.len() == 0
     }
 
+    /// Lets its records go.
+    pub fn clear(&mut self)
+        ensures { self.new ≡ [] }
+    {
+        self.bytes.truncate(1);
+        self.bytes[0] = 0;
+    }
+
     // What stands behind the gate of the first record.
     pub(crate) fn behind_gate(&self) -> &[u8]
         requires { 0 < length self.now }
