@@ -31,10 +31,10 @@ pub waits_more : {D : Type 0} (seen : D → List ℕ) (time : D → ℕ) (left :
 waits_more seen time left old new stored waiting e content keeps same is fits added = record {
   file = subst (λ f. IsAtRest seen time left f (contents_of stored)) (sym same) keeps.file;
   group =
-    added ∙ ap (λ (l : List ℕ). l ++ record_of content) keeps.group ∙ ap (λ (l : List ℕ). records_of (contents_of waiting) ++ record_of l) is
-    ∙ ap (λ (l : List ℕ). records_of (contents_of waiting) ++ l) (sym (append-nil (record_of (content_of e.session e.entry))))
-    ∙ sym (ap records_of (contents-append waiting (e ∷ [])) ∙ records-append (contents_of waiting) (contents_of (e ∷ [])));
+      added ∙ ap (λ (l : List ℕ). l ++ record_of content) keeps.group ∙ ap (λ (l : List ℕ). records_of (contents_of waiting) ++ record_of l) is
+      ∙ ap (λ (l : List ℕ). records_of (contents_of waiting) ++ l) (sym (append-nil (record_of (content_of e.session e.entry))))
+      ∙ sym (ap records_of (contents-append waiting (e ∷ [])) ∙ records-append (contents_of waiting) (contents_of (e ∷ [])));
   lengths =
-    subst (λ (l : List (List ℕ)). AllByRecursion HasLength l) (sym (contents-append waiting (e ∷ [])))
+      subst (λ (l : List (List ℕ)). AllByRecursion HasLength l) (sym (contents-append waiting (e ∷ [])))
       (all-append HasLength (contents_of waiting) (contents_of (e ∷ [])) keeps.lengths (subst HasLength is fits, tt));
 }

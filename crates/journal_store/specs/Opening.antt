@@ -1,5 +1,5 @@
 -- How far the records of a file are read.
-use Rattle.std.specs.Prelude.{◌≡◌, ℕ, ◌+◌, ◌<◌, ◌≤◌, ◌^◌, List, [], ◌∷◌, ◌++◌, true, length, drop}
+use Rattle.std.specs.Prelude.{◌≡◌, ℕ, ◌+◌, ◌-◌, ◌<◌, ◌≤◌, ◌^◌, List, [], ◌∷◌, ◌++◌, true, Result, Ok, Err, length, drop}
 use Rattle.std.specs.List.{AllByRecursion}
 use Rattle.bosh_ports.specs.Faults.{HasRisen}
 use Rattle.journal_store.specs.Disk.{Only}
@@ -13,6 +13,8 @@ use Rattle.journal_store.specs.declared.opening.Head.{Head}
 use Rattle.journal_store.specs.declared.opening.Head.TheVariants as heads
 use Rattle.journal_store.specs.declared.opening.Next.{Next}
 use Rattle.journal_store.specs.declared.opening.Next.TheVariants as next
+use Rattle.journal_store.specs.declared.opening.RowError.{RowError}
+use Rattle.journal_store.specs.declared.opening.RowError.TheVariants as rows
 use Rattle.journal_store.specs.declared.record_file.RecordFile.{RecordFile}
 
 -- The records of these contents were read, the first ones of the file; and where it says that they are all, no further one stands there.
@@ -29,6 +31,15 @@ abbrev pub ReadsNext : {D : Type 0} → (D → List ℕ) → (D → ℕ) → (D 
 ReadsNext seen time left opening contents (next.Content content) = HasRead seen time left opening (contents ++ content ∷ [])
 ReadsNext seen time left opening contents next.End = HasRead seen time left opening contents × (opening.has_ended ≡ true)
 ReadsNext seen time left opening contents _ = HasRead seen time left opening contents
+
+-- how many bytes are left to be read
+abbrev pub left_to_read : {D : Type 0} → Opening D → ℕ
+left_to_read opening = opening.length - opening.at
+
+-- with each record that is read fewer bytes are left
+abbrev pub IsNearer : {D : Type 0} → Opening D → Opening D → Next → Type 0
+IsNearer old new (next.Content content) = left_to_read new < left_to_read old
+IsNearer old new _ = Unit {0}
 
 -- what the five bytes before so many others say
 abbrev pub SaysHead : List ℕ → ℕ → Head → Type 0
@@ -82,3 +93,12 @@ IfFinished (finished.Failed disk) P = Unit {0}
 abbrev pub disk_of : {D : Type 0} → Finished D → D
 disk_of (finished.Opened file) = file.disk
 disk_of (finished.Failed disk) = disk
+
+-- all records of the file were read, or it says why not
+abbrev pub HasReadRow : {D : Type 0} → (D → List ℕ) → (D → ℕ) → (D → ℕ → List ℕ → Type 0) → Opening D → List (List ℕ) → Type 0
+HasReadRow seen time left opening contents = HasRead seen time left opening contents × (opening.has_ended ≡ true)
+
+abbrev pub CountsRow : {T : Type 0} → ℕ → ℕ → Result T RowError → Type 0
+CountsRow old new (Ok contents) = new ≡ old
+CountsRow old new (Err rows.NoMemory) = new ≡ old
+CountsRow old new (Err rows.Failed) = (old ≤ new) × HasRisen old new

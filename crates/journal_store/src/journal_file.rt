@@ -72,4 +72,10 @@ impl<D: Disk> JournalFile<D> {
             Stored::Spent => Stored::Spent,
         }
     }
+
+    pub fn file(&self) -> &RecordFile<D>
+        ensures { result.now ≡ self.now.file }
+    {
+        &self.file
+    }
 }

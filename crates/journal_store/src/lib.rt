@@ -22,6 +22,6 @@ pub use group::{AddError, Group};
 pub use journal_file::JournalFile;
 pub use laws::an_image_has_one_row;
 pub use memory_disk::{Change, MemoryDisk};
-pub use opening::{Begun, Finished, Next, Opening};
+pub use opening::{Begun, Finished, Next, Opening, RowError};
 pub use reading::{ReadError, SessionEntry, read_content};
 pub use record_file::{RecordFile, Stored};

@@ -1,9 +1,9 @@
 // Reading the records of a file that a crash may have left, and mending its end.
-ghost use Rattle.std.specs.Prelude.{◌≡◌, ℕ, ◌+◌, ◌≤◌, ◌<◌, ◌^◌, List, [], ◌∷◌, ◌++◌, IsTrue, true, false, length, drop};
+ghost use Rattle.std.specs.Prelude.{◌≡◌, ℕ, ◌+◌, ◌≤◌, ◌<◌, ◌^◌, List, [], ◌∷◌, ◌++◌, IsTrue, true, false, IfOk, OnOk, length, drop};
 ghost use Rattle.std.specs.List.{AllByRecursion};
 ghost use Rattle.journal_store.specs.Crash.{EachCrash};
 ghost use Rattle.journal_store.specs.Disk.{Only, Untouched, CountsDone};
-ghost use Rattle.journal_store.specs.Opening.{HasRead, ReadsNext, IsHead, SaysHead, IsRecordWithin, CountsHead, CountsNext, CountsBegun, IfOpened, CountsFinished, IfFinished, disk_begun, disk_of};
+ghost use Rattle.journal_store.specs.Opening.{HasRead, ReadsNext, IsHead, SaysHead, IsRecordWithin, IsNearer, HasReadRow, CountsRow, CountsHead, CountsNext, CountsBegun, IfOpened, CountsFinished, IfFinished, disk_begun, disk_of};
 ghost use Rattle.journal_store.specs.RecordFile.{IsAtRest};
 ghost use Rattle.journal_store.specs.Records.{HasLength, IsRowOf, BeginsNoRecord};
 
@@ -11,7 +11,7 @@ use crate::disk::{Disk, DiskDone, Length};
 use crate::record_file::RecordFile;
 use crate::steps::{put, trim};
 use bosh_types::Text;
-use std::alloc::Global;
+use std::alloc::{AllocFailed, Global};
 
 const HEAD: u64 = 5;
 
@@ -32,6 +32,24 @@ pub enum Next {
     End,
     Failed,
     NoMemory,
+}
+
+/// Why the records aren't all read.
+#[derive(Clone, Copy, Debug, PartialEq, Eq)]
+pub enum RowError {
+    Failed,
+    NoMemory,
+}
+
+impl<T: Drop> From<AllocFailed<T>> for RowError {
+    ghost use Rattle.std.specs.Prelude.{◌≡◌};
+    ghost use Rattle.journal_store.specs.declared.opening.RowError.TheVariants.{NoMemory};
+
+    ghost from_gives = { λ _ e. e ≡ NoMemory };
+
+    fn from(_error: AllocFailed<T>) -> RowError {
+        RowError::NoMemory
+    }
 }
 
 /// What the end of an opening did.
@@ -91,6 +109,7 @@ impl<D: Disk> Opening<D> {
             ReadsNext D.seen D.time D.left self.new contents result }
         ensures seen { D.told → D.seen self.new.disk ≡ D.seen self.old.disk }
         ensures ended { result ≡ Next.End → self.new.has_ended ≡ true }
+        ensures nearer { IsNearer self.old self.new result }
         ensures any_moment { D.told → (contents : List (List ℕ)) → HasRead D.seen D.time D.left self.old contents →
             EachCrash D.time D.left self.old.disk self.new.disk (Untouched (D.seen self.old.disk)) }
         ensures faults { CountsNext (D.faults self.old.disk) (D.faults self.new.disk) result }
@@ -108,6 +127,25 @@ impl<D: Disk> Opening<D> {
         }
     }
 
+    /// Reads all records, for a file that is known to be small.
+    pub fn read_row(&mut self, alloc: Global) -> Result<Vec<Text>, RowError>
+        requires { D.told → HasRead D.seen D.time D.left self.old [] }
+        ensures read { D.told → IfOk result (λ contents. HasReadRow D.seen D.time D.left self.new contents.items) }
+        ensures ended { OnOk result (self.new.has_ended ≡ true) }
+        ensures any_moment { D.told → EachCrash D.time D.left self.old.disk self.new.disk (Untouched (D.seen self.old.disk)) }
+        ensures faults { CountsRow (D.faults self.old.disk) (D.faults self.new.disk) result }
+    {
+        let mut contents = Vec::new(alloc);
+        loop {
+            match self.next(alloc) {
+                Next::Content(content) => contents.push(content)?,
+                Next::End => return Ok(contents),
+                Next::Failed => return Err(RowError::Failed),
+                Next::NoMemory => return Err(RowError::NoMemory),
+            }
+        }
+    }
+
     // Reads the content of the record that is next, of so many bytes.
     fn read_content(&mut self, alloc: Global, count: u64) -> Next
         requires head { D.told → (self.old.length ≡ length (D.seen self.old.disk)) × IsHead (D.seen self.old.disk) self.old.at (Head.Record count) }
@@ -116,6 +154,7 @@ impl<D: Disk> Opening<D> {
             self.old.has_ended ≡ false → ReadsNext D.seen D.time D.left self.new contents result }
         ensures seen { D.told → D.seen self.new.disk ≡ D.seen self.old.disk }
         ensures not_end { result ≡ Next.End → ⊥ }
+        ensures nearer { IsNearer self.old self.new result }
         ensures any_moment { D.told → Only (D.seen self.old.disk) (D.left self.old.disk (D.time self.old.disk)) →
             EachCrash D.time D.left self.old.disk self.new.disk (Untouched (D.seen self.old.disk)) }
         ensures faults { CountsNext (D.faults self.old.disk) (D.faults self.new.disk) result }

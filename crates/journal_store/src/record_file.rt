@@ -72,6 +72,14 @@ impl<D: Disk> RecordFile<D> {
     }
 }
 
+impl<D: Disk> RecordFile<D> {
+    pub fn disk(&self) -> &D
+        ensures { result.now ≡ self.now.disk }
+    {
+        &self.disk
+    }
+}
+
 // Writes behind the closed gate, syncs, opens the gate, and syncs.
 fn put_behind<D: Disk>(disk: &mut D, gate: u64, behind: &[u8]) -> DiskDone
     requires in_file { D.told → gate < length (D.seen disk.old) }
