@@ -198,6 +198,13 @@ impl<D: Disk> Opening<D> {
         }
     }
 
+    /// Gives the disk back.
+    pub fn into_disk(self) -> D
+        ensures { result ≡ self.disk }
+    {
+        self.disk
+    }
+
     /// Whether `next` said that no further record stands there.
     pub fn has_ended(&self) -> bool
         ensures { result ≡ self.now.has_ended }
