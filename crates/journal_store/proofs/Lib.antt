@@ -1,4 +1,5 @@
 pub mod EntryLemmas
+pub mod FormatLemmas
 pub mod GroupLemmas
 pub mod MemoryLemmas
 pub mod Moments

@@ -2,6 +2,7 @@
 use Rattle.std.specs.Prelude.{◌≡◌, ℕ, ◌<◌, ◌^◌, List, [], ◌∷◌, ◌++◌, length}
 use Rattle.std.specs.Int.{to_be_bytes, w16, w64}
 use Rattle.std.specs.List.{AllByRecursion}
+use Rattle.bosh_types.specs.Limits.{most_streams}
 use Rattle.bosh_types.specs.declared.ending.Closing.{Closing}
 use Rattle.bosh_types.specs.declared.ending.Closing.TheVariants as closings
 use Rattle.session_journal.specs.declared.entry.Entered.{Entered}
@@ -87,3 +88,21 @@ HasLengths (stored.Open sid host greeting body now limit) = HasLength sid × Has
 HasLengths (stored.Arrive body now) = HasLength body
 HasLengths (stored.Back stream stanza now) = HasLength stanza
 HasLengths _ = Unit {0}
+
+-- each number of a call fits the bytes that it has
+abbrev pub HasRanges : Entered → Type 0
+HasRanges (stored.Open sid host greeting body now limit) = (now < 2 ^ 64) × (limit < 2 ^ 64)
+HasRanges (stored.Arrive body now) = now < 2 ^ 64
+HasRanges (stored.Collect ticket) = ticket < 2 ^ 32
+HasRanges (stored.Back stream stanza now) = (stream < most_streams) × (now < 2 ^ 64)
+HasRanges (stored.BackClosed stream closing now) = (stream < most_streams) × (now < 2 ^ 64)
+HasRanges (stored.Tick now) = now < 2 ^ 64
+HasRanges stored.TakeInward = Unit {0}
+HasRanges (stored.Limit kind cost now) = (cost < 2 ^ 64) × (now < 2 ^ 64)
+
+-- an entry of a session that has a content
+pub record HasContent (session : ℕ) (e : Entry) : Type 0 where
+  pub session_fits : session < 2 ^ 32
+  pub caller : e.caller < 2 ^ 32
+  pub lengths : HasLengths e.call
+  pub ranges : HasRanges e.call

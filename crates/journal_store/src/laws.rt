@@ -1,5 +1,8 @@
 // What holds of rows of records.
-ghost use Rattle.std.specs.Prelude.{◌≡◌, ℕ, List};
+ghost use Rattle.std.specs.Prelude.{◌≡◌, ℕ, List, Some};
+ghost use Rattle.session_journal.specs.declared.entry.Entry.{Entry};
+ghost use Rattle.journal_store.specs.Contents.{content_of, HasContent};
+ghost use Rattle.journal_store.specs.Reading.{entry_at};
 ghost use Rattle.journal_store.specs.Records.{IsRowOf, file_of, HasLength};
 ghost use Rattle.std.specs.List.{AllByRecursion};
 
@@ -7,4 +10,9 @@ ghost use Rattle.std.specs.List.{AllByRecursion};
 pub fn an_image_has_one_row()
     ensures one { (image : List ℕ) (contents others : List (List ℕ)) → IsRowOf image contents → IsRowOf image others → contents ≡ others }
     ensures whole { (contents : List (List ℕ)) → AllByRecursion HasLength contents → IsRowOf (file_of contents) contents }
+{}
+
+/// What is written as the content of an entry is read as that entry.
+pub fn a_content_is_read_as_its_entry()
+    ensures { (session : ℕ) (e : Entry) → HasContent session e → entry_at (content_of session e) ≡ Some (record { session = session; entry = e }) }
 {}
