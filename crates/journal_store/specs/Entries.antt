@@ -2,7 +2,7 @@
 use Rattle.std.specs.Prelude.{◌≡◌, ◌⊎◌, ℕ, ◌==◌, List, [], ◌∷◌, ◌++◌, map, filter}
 use Rattle.std.specs.List.{AllByRecursion}
 use Rattle.session_journal.specs.declared.entry.Entry.{Entry}
-use Rattle.journal_store.specs.Contents.{content_of}
+use Rattle.journal_store.specs.Contents.{content_of, HasContent}
 use Rattle.journal_store.specs.RecordFile.{IsAtRest}
 use Rattle.journal_store.specs.Records.{HasLength, records_of, IsRowOf}
 use Rattle.journal_store.specs.declared.journal_file.JournalFile.{JournalFile}
@@ -11,6 +11,10 @@ use Rattle.journal_store.specs.declared.reading.SessionEntry.{SessionEntry}
 -- the content of each entry
 abbrev pub contents_of : List SessionEntry → List (List ℕ)
 contents_of entries = map (λ e. content_of e.session e.entry) entries
+
+-- it has a content
+abbrev pub FitsContent : SessionEntry → Type 0
+FitsContent e = HasContent e.session e.entry
 
 -- an image has these entries and no others
 abbrev pub AreEntriesOf : List ℕ → List SessionEntry → Type 0

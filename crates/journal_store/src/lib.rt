@@ -20,7 +20,9 @@ pub use disk::{Disk, DiskDone, Length};
 pub use file_disk::FileDisk;
 pub use group::{AddError, Group};
 pub use journal_file::JournalFile;
-pub use laws::{a_content_is_read_as_its_entry, an_image_has_one_row};
+pub use laws::{
+    a_content_is_read_as_its_entry, an_image_has_one_row, an_image_has_the_entries_of_one_list,
+};
 pub use memory_disk::{Change, MemoryDisk};
 pub use opening::{Begun, Finished, Next, Opening, RowError};
 pub use reading::{ReadError, SessionEntry, read_content};
