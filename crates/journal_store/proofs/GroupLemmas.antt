@@ -1,10 +1,10 @@
 -- Records that are added to a group.
-use Rattle.std.proofs.Common.{◌≡◌, ℕ, ◌+◌, ◌-◌, ◌<◌, ◌≤◌, ◌^◌, List, [], ◌∷◌, ◌++◌, length, take, drop, slice_set, refl, sym, ◌∙◌, ap, subst, arith, append_assoc, length-append}
+use Rattle.std.proofs.Common.{◌≡◌, ℕ, ◌+◌, ◌-◌, ◌<◌, List, [], ◌∷◌, ◌++◌, length, take, drop, slice_set, sym, ◌∙◌, ap, arith, append_assoc, length-append}
 use Rattle.std.proofs.Math.Seq.{set-append_seam}
 use Rattle.std.proofs.lemmas.List.{append-nil, take_at, take_all}
 use Rattle.journal_store.specs.Group.{AreRecords}
 use Rattle.journal_store.specs.Records.{HasLength, framed, record_of, records_of}
-use Rattle.journal_store.proofs.RecordLemmas.{records-append, all-append, length-record}
+use Rattle.journal_store.proofs.RecordLemmas.{records-append, all-append}
 
 first_open : (bytes : List ℕ) (contents : List (List ℕ)) → bytes ≡ records_of contents → 0 < length bytes → (rest : List ℕ) × (bytes ≡ 1 ∷ rest)
 first_open bytes [] is some = let none : length bytes ≡ 0 = ap length is in absurd (omega (arith, none, some))

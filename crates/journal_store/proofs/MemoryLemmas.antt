@@ -1,14 +1,14 @@
 -- How a disk in memory changes.
-use Rattle.std.proofs.Common.{◌≡◌, ◌⊎◌, inl, inr, ⊎_elim, ℕ, zero, suc, ◌+◌, ◌-◌, ◌<◌, ◌≤◌, List, [], ◌∷◌, ◌++◌, length, take, drop, Vec, add-zero, take-append-drop, refl, sym, ◌∙◌, ap, subst, arith, append_assoc, length-append, length-drop}
+use Rattle.std.proofs.Common.{◌≡◌, ◌⊎◌, inl, inr, ℕ, ◌+◌, ◌-◌, ◌<◌, ◌≤◌, List, [], ◌∷◌, ◌++◌, length, take, drop, Vec, add-zero, take-append-drop, refl, sym, ◌∙◌, ap, subst, arith, append_assoc, length-append, length-drop}
 use Rattle.std.specs.declared.alloc.Global.{Global}
 use Rattle.std.proofs.lemmas.Bool.{cases_lt}
-use Rattle.std.proofs.lemmas.List.{append-nil, take_at, drop_at, take_all, drop_all, length-take-le, drop-drop, take-append-le}
-use Rattle.journal_store.specs.Disk.{written, Torn, CutOrNot, Untouched, Only, GoesOn}
+use Rattle.std.proofs.lemmas.List.{append-nil, take_at, drop_at, take_all, length-take-le, drop-drop, take-append-le}
+use Rattle.journal_store.specs.Disk.{written, Torn, Only, GoesOn}
 use Rattle.journal_store.specs.MemoryDisk.{Changes, left_after, left_after_all, left_by, LeftSince}
 use Rattle.journal_store.specs.declared.disk.DiskDone.{DiskDone}
 use Rattle.journal_store.specs.declared.disk.DiskDone.TheVariants.{Done, Failed}
 use Rattle.journal_store.specs.declared.memory_disk.Change.{Change}
-use Rattle.journal_store.specs.declared.memory_disk.Change.TheVariants.{Written, Cut, Synced}
+use Rattle.journal_store.specs.declared.memory_disk.Change.TheVariants.{Synced}
 
 -- what one change more leaves
 split : (images : List ℕ → Type 0) (changes : Changes) (v : Vec ℕ Global) (change : Change) (image : List ℕ)

@@ -1,5 +1,5 @@
 -- How what a crash may leave goes on from call to call.
-use Rattle.std.proofs.Common.{inl, inr, ⊎_elim, ◌⊎◌, ℕ, List, arith}
+use Rattle.std.proofs.Common.{inl, inr, ⊎_elim, ℕ, List, arith}
 use Rattle.journal_store.specs.Crash.{EachCrash}
 
 module _ {D : Type 0} (time : D → ℕ) (left : D → ℕ → List ℕ → Type 0) where

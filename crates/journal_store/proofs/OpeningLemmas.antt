@@ -1,11 +1,11 @@
 -- Reading records, and what a crash leaves while the end of a file is mended.
-use Rattle.std.proofs.Common.{◌≡◌, ◌⊎◌, inl, inr, ⊎_elim, ℕ, ◌+◌, ◌-◌, ◌<◌, ◌≤◌, ◌^◌, List, [], ◌∷◌, ◌++◌, length, get_or, take, drop, true, false, refl, sym, ◌∙◌, ap, subst, arith, append_assoc, length-append, length-drop, take-append-drop}
+use Rattle.std.proofs.Common.{◌≡◌, inl, inr, ℕ, ◌+◌, ◌<◌, ◌≤◌, ◌^◌, List, [], ◌∷◌, ◌++◌, length, get_or, take, drop, true, false, refl, sym, ◌∙◌, ap, subst, arith, append_assoc, length-append, length-drop, take-append-drop}
 use Rattle.std.proofs.lemmas.List.{append-nil, take_at, drop_at, take_all, drop_all, length-take-le, drop-drop}
 use Rattle.std.specs.List.{AllByRecursion}
 use Rattle.journal_store.specs.Crash.{EachCrash}
 use Rattle.journal_store.specs.Disk.{part, written, Torn, CutOrNot, Only, Untouched, GoesOn}
 use Rattle.journal_store.specs.Opening.{HasRead, SaysHead, IsHead}
-use Rattle.journal_store.specs.Records.{HasLength, number4, framed, record_of, records_of, file_of, BeginsNoRecord, IsRowOf}
+use Rattle.journal_store.specs.Records.{HasLength, number4, record_of, records_of, file_of, IsRowOf}
 use Rattle.journal_store.specs.declared.opening.Head.{Head}
 use Rattle.journal_store.specs.declared.opening.Head.TheVariants as heads
 use Rattle.journal_store.specs.declared.opening.Opening.{Opening}

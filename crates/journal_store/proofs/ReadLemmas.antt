@@ -1,5 +1,5 @@
 -- Reading texts one after the other.
-use Rattle.std.proofs.Common.{◌≡◌, ℕ, suc, List, [], ◌∷◌, ◌++◌, Option, Some, None, Result, Ok, Err, refl, sym, ◌∙◌, ap, append_assoc}
+use Rattle.std.proofs.Common.{◌≡◌, ℕ, suc, List, [], ◌∷◌, ◌++◌, Option, Some, None, Err, refl, sym, ◌∙◌, ap, append_assoc}
 use Rattle.journal_store.specs.Reading.{◌>>=◌, Gives, text_at, texts_at}
 use Rattle.journal_store.specs.declared.reading.ReadError.{ReadError}
 use Rattle.journal_store.specs.declared.reading.ReadError.TheVariants.{NoEntry, NoMemory}

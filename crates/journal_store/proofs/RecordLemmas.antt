@@ -1,7 +1,7 @@
 -- Rows of records.
-use Rattle.std.proofs.Common.{◌≡◌, ◌==◌, true, ◌≢◌, ◌⊎◌, inl, inr, ⊎_elim, ℕ, ◌+◌, ◌<◌, ◌≤◌, ◌^◌, List, [], ◌∷◌, ◌++◌, length, take, drop, refl, sym, ◌∙◌, ap, subst, arith, append_assoc, length-append}
+use Rattle.std.proofs.Common.{◌≡◌, ◌==◌, true, ◌≢◌, ℕ, ◌+◌, ◌<◌, List, [], ◌∷◌, ◌++◌, length, take, drop, refl, sym, ◌∙◌, ap, arith, append_assoc, length-append}
 use Rattle.std.proofs.lemmas.Bool.Decides.{nat_tests}
-use Rattle.std.proofs.lemmas.List.{append-nil, take_at, drop_at}
+use Rattle.std.proofs.lemmas.List.{take_at, drop_at}
 use Rattle.std.specs.List.{AllByRecursion}
 use Rattle.journal_store.specs.Records.{HasLength, number4, record_of, records_of, file_of, BeginsNoRecord, IsRowOf}
 use Rattle.journal_store.proofs.Numbers.{length-number4, same_number4}

@@ -1,13 +1,13 @@
 -- What a crash leaves while records are put behind a closed gate and the gate is opened.
-use Rattle.std.proofs.Common.{◌≡◌, ◌≢◌, ◌⊎◌, inl, inr, ⊎_elim, ℕ, ◌+◌, ◌<◌, ◌≤◌, List, [], ◌∷◌, ◌++◌, length, get_or, take, drop, refl, sym, ◌∙◌, ap, subst, arith, append_assoc, length-append, take-append-drop}
+use Rattle.std.proofs.Common.{◌≡◌, inl, inr, ℕ, ◌+◌, List, [], ◌∷◌, ◌++◌, length, get_or, take, drop, sym, ◌∙◌, ap, subst, arith, append_assoc, length-append, take-append-drop}
 use Rattle.std.proofs.lemmas.Bool.{cases_eq}
 use Rattle.std.proofs.lemmas.List.{append-nil, take_at, drop_at, take_all, drop_all, drop_more}
 use Rattle.std.specs.List.{AllByRecursion}
 use Rattle.journal_store.specs.Crash.{EachCrash}
 use Rattle.journal_store.specs.Disk.{written, Torn}
-use Rattle.journal_store.specs.Records.{HasLength, records_of, file_of, BeginsNoRecord, IsRowOf, IsBeforeOrAfter}
+use Rattle.journal_store.specs.Records.{HasLength, records_of, file_of, IsRowOf, IsBeforeOrAfter}
 use Rattle.journal_store.proofs.Moments.{weaker, then_crash}
-use Rattle.journal_store.proofs.RecordLemmas.{records-append, file-append, all-append, no_record_gate}
+use Rattle.journal_store.proofs.RecordLemmas.{file-append, all-append, no_record_gate}
 
 module _ (contents added : List (List ℕ)) (gate : ℕ) (behind : List ℕ) (at_end : gate ≡ length (records_of contents)) (is_added : 1 ∷ behind ≡ file_of added) where
   -- the file with the records behind a gate

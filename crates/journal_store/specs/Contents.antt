@@ -1,5 +1,5 @@
 -- The content of a record: the number of a session, and an entry of its journal.
-use Rattle.std.specs.Prelude.{◌≡◌, ℕ, ◌<◌, ◌^◌, List, [], ◌∷◌, ◌++◌, length}
+use Rattle.std.specs.Prelude.{ℕ, ◌<◌, ◌^◌, List, [], ◌∷◌, ◌++◌, length}
 use Rattle.std.specs.Int.{to_be_bytes, w16, w64}
 use Rattle.std.specs.List.{AllByRecursion}
 use Rattle.bosh_types.specs.Limits.{most_streams}

@@ -1,5 +1,5 @@
 -- The journals of a file: the entries of its row, in order.
-use Rattle.std.specs.Prelude.{◌≡◌, ◌⊎◌, ℕ, ◌==◌, List, [], ◌∷◌, ◌++◌, map, filter}
+use Rattle.std.specs.Prelude.{◌≡◌, ◌⊎◌, ℕ, ◌==◌, List, ◌++◌, map, filter}
 use Rattle.std.specs.List.{AllByRecursion}
 use Rattle.session_journal.specs.declared.entry.Entry.{Entry}
 use Rattle.journal_store.specs.Contents.{content_of, HasContent}

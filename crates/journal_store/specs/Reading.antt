@@ -1,12 +1,11 @@
 -- The entry that a content is. Each field is read off the front of the bytes, which leaves the rest.
-use Rattle.std.specs.Prelude.{◌≡◌, ℕ, zero, suc, ◌==◌, List, [], ◌∷◌, Bool, Option, Some, None, Result, Ok, Err, length, take, drop, nat_lt, if◌then◌else◌}
+use Rattle.std.specs.Prelude.{◌≡◌, ℕ, zero, suc, ◌==◌, List, [], ◌∷◌, Option, Some, None, Result, Ok, Err, length, take, drop, nat_lt, if◌then◌else◌}
 use Rattle.std.specs.Int.{from_be_bytes, w16, w32, w64}
 use Rattle.bosh_types.specs.Limits.{most_streams}
 use Rattle.bosh_types.specs.declared.ending.Closing.{Closing}
 use Rattle.bosh_types.specs.declared.ending.Closing.TheVariants as closings
 use Rattle.session_journal.specs.declared.entry.Entered.{Entered}
 use Rattle.session_journal.specs.declared.entry.Entered.TheVariants as stored
-use Rattle.session_journal.specs.declared.entry.Entry.{Entry}
 use Rattle.session_journal.specs.declared.entry.Limited.{Limited}
 use Rattle.session_journal.specs.declared.entry.Limited.TheVariants as limits
 use Rattle.journal_store.specs.Contents.{rules_version}

@@ -1,4 +1,4 @@
-use Rattle.std.proofs.Common.{◌≡◌, ℕ, suc, ◌-◌, List, [], ◌∷◌, ◌++◌, ◌∙◌, ap, arith}
+use Rattle.std.proofs.Common.{◌≡◌, ℕ, suc, ◌-◌, List, ◌∙◌, ap, arith}
 use Rattle.journal_store.specs.Reading.{texts_at}
 use Rattle.journal_store.proofs.ReadLemmas.{with_front, texts_more}
 use Rattle.journal_store.proofs.fields.texts_of.Goals as goal

@@ -1,4 +1,4 @@
-use Rattle.std.proofs.Common.{◌≡◌, ◌∷◌, [], ℕ, List, sym, ◌∙◌, ap, arith}
+use Rattle.std.proofs.Common.{◌≡◌, ◌∷◌, [], ℕ, List, sym, ◌∙◌, arith}
 use Rattle.journal_store.specs.Records.{number4}
 use Rattle.journal_store.proofs.Numbers.{number4_of, same_number4}
 use Rattle.journal_store.proofs.opening.head_of.Goals as goal

@@ -1,4 +1,3 @@
-use Rattle.std.proofs.Common.{◌+◌}
 use Rattle.journal_store.proofs.StoreLemmas.{stored_by, first_crash, both_crash}
 use Rattle.journal_store.proofs.record_file.put_behind.Goals as goal
 

@@ -1,4 +1,4 @@
-use Rattle.std.proofs.Common.{◌≡◌, [], ◌∷◌, ◌++◌, inl, inr, refl, sym, ◌∙◌, ap}
+use Rattle.std.proofs.Common.{[], ◌∷◌, ◌++◌, inl, inr, refl, ◌∙◌, ap}
 use Rattle.journal_store.specs.MemoryDisk.{Changes, Memory}
 use Rattle.journal_store.specs.Disk.{CutOrNot}
 use Rattle.journal_store.specs.declared.memory_disk.Change.TheVariants.{Cut}

@@ -1,4 +1,4 @@
-use Rattle.std.proofs.Common.{◌≡◌, [], ◌∷◌, ◌++◌, refl, sym, ◌∙◌, ap, subst}
+use Rattle.std.proofs.Common.{[], ◌∷◌, ◌++◌, refl, ◌∙◌, ap, subst}
 use Rattle.journal_store.specs.Disk.{Untouched}
 use Rattle.journal_store.specs.MemoryDisk.{Changes, Memory, left_by}
 use Rattle.journal_store.specs.declared.memory_disk.Change.TheVariants.{Synced}

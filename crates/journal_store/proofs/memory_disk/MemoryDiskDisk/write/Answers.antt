@@ -1,4 +1,4 @@
-use Rattle.std.proofs.Common.{◌≡◌, ℕ, ◌≤◌, List, [], ◌∷◌, ◌++◌, length, ◌∙◌, ap, arith}
+use Rattle.std.proofs.Common.{◌≡◌, ◌≤◌, [], ◌∷◌, ◌++◌, length, ◌∙◌, ap, arith}
 use Rattle.journal_store.specs.Disk.{Torn}
 use Rattle.journal_store.specs.MemoryDisk.{Changes, Memory}
 use Rattle.journal_store.specs.declared.memory_disk.Change.TheVariants.{Written}

@@ -1,4 +1,4 @@
-use Rattle.journal_store.proofs.OpeningLemmas.{cut_crash, finish_crash}
+use Rattle.journal_store.proofs.OpeningLemmas.{finish_crash}
 use Rattle.journal_store.proofs.opening.Opening.finish.Goals as goal
 
 pub returns-in-Done-put-clause-any_moment : goal.returns-in-Done-put-clause-any_moment

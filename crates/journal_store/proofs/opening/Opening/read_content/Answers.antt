@@ -1,8 +1,7 @@
-use Rattle.std.proofs.Common.{◌≡◌, ◌+◌, ◌≤◌, ℕ, List, length, drop, sym, ◌∙◌, ap, subst, refl, arith, length-drop}
+use Rattle.std.proofs.Common.{◌≡◌, ◌+◌, ◌≤◌, ℕ, length, drop, ◌∙◌, ap, refl, arith, length-drop}
 use Rattle.std.proofs.lemmas.List.{with_items_is, length-take-le}
 use Rattle.journal_store.specs.Disk.{part}
-use Rattle.journal_store.specs.Opening.{HasRead}
-use Rattle.journal_store.proofs.OpeningLemmas.{has_more, still_only, behind_head}
+use Rattle.journal_store.proofs.OpeningLemmas.{has_more, still_only}
 use Rattle.journal_store.proofs.opening.Opening.read_content.Goals as goal
 
 pub returns-in-Done-clause-reads : goal.returns-in-Done-clause-reads
