@@ -242,7 +242,8 @@ fn read_head<D: Disk>(disk: &mut D, at: u64, length_: u64) -> Head
 fn head_of(gate: u8, a: u8, b: u8, c: u8, d: u8, behind: u64) -> Head
     ensures { SaysHead (gate ∷ a ∷ b ∷ c ∷ d ∷ []) behind result }
 {
-    if gate != 1 {
+    let is_open = gate == 1;
+    if !is_open {
         return Head::NoRecord;
     }
     let count = u64::from(u32::from_be_bytes([a, b, c, d]));

@@ -30,7 +30,8 @@ pub(crate) fn trim<D: Disk>(disk: &mut D, to: u64) -> DiskDone
     ensures faults { CountsDone (D.faults disk.old) (D.faults disk.new) result }
 {
     match disk.cut(to) {
-        DiskDone::Done => disk.sync(),
-        DiskDone::Failed => DiskDone::Failed,
+        DiskDone::Done => {}
+        DiskDone::Failed => return DiskDone::Failed,
     }
+    disk.sync()
 }
