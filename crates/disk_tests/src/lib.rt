@@ -6,4 +6,6 @@ mod contents;
 #[cfg(test)]
 mod crashes;
 #[cfg(test)]
+mod files;
+#[cfg(test)]
 mod images;
