@@ -90,10 +90,10 @@ fn writes_each_kind(rt: HostRuntime) -> Result<(), Fail> {
             b"\x07\0\0\0\0\0\0\0\x05\x05\0\0\0\0\0\0\x01\0",
         ),
     ];
-    let mut right = 0;
+    let mut right = 0u32;
     for (call, fields) in rows {
         if is_written(alloc, call, fields)? {
-            right += 1;
+            right = right.saturating_add(1);
         }
     }
     assert_eq!(rt; right, 8);
@@ -123,10 +123,10 @@ fn refuses_what_is_no_entry(rt: HostRuntime) -> Result<(), Fail> {
         // a text that ends past the content
         b"\0\0\0\x03\0\0\0\x04\x01\0\0\0\0\0\0\0\x01\0\0\0\x05<b/>",
     ];
-    let mut refused = 0;
+    let mut refused = 0u32;
     for bytes in rows {
         if let Err(ReadError::NoEntry) = read_content(alloc, bytes) {
-            refused += 1;
+            refused = refused.saturating_add(1);
         }
     }
     assert_eq!(rt; refused, 12);

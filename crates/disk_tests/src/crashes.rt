@@ -1,39 +1,8 @@
-ghost use Rattle.std.specs.Prelude.{◌≡◌, IfOk};
-ghost use Rattle.journal_store.specs.RecordFile.{IsReady};
-
 use bosh_types::{Moment, Text, Ticket};
-use journal_store::{
-    Begun, Disk, Finished, Group, JournalFile, MemoryDisk, Opening, RowError, Stored,
-};
+use journal_store::{Begun, Finished, Group, JournalFile, MemoryDisk, Opening, Stored};
 use session_journal::{Entered, Entry};
-use std::alloc::{AllocError, Global};
+use std::alloc::Global;
 use std::test::Fail;
-
-// The journals of a disk with what was read of it, or the disk after a fault.
-#[derive(Drop)]
-enum Tried<D: Disk> {
-    Open(Vec<Text>, JournalFile<D>),
-    Failed(D),
-}
-
-fn try_open(alloc: Global, disk: MemoryDisk) -> Result<Tried<MemoryDisk>, AllocError> {
-    let mut opening = match Opening::begin(disk) {
-        Begun::Opened(opening) => opening,
-        Begun::Failed(disk) => return Ok(Tried::Failed(disk)),
-    };
-    let contents = match opening.read_row(alloc) {
-        Ok(contents) => contents,
-        Err(RowError::NoMemory) => return Err(AllocError),
-        Err(RowError::Failed) => return Ok(Tried::Failed(opening.into_disk())),
-    };
-    match opening.finish() {
-        Finished::Opened(file) => Ok(Tried::Open(
-            contents,
-            JournalFile::new(file, Group::new(alloc)?, Vec::new(alloc)),
-        )),
-        Finished::Failed(disk) => Ok(Tried::Failed(disk)),
-    }
-}
 
 fn tick(caller: u32, millis: u64) -> Entry {
     Entry {
@@ -60,17 +29,28 @@ struct Ran {
     image: Vec<u8>,
 }
 
+fn come_to(alloc: Global, stored: usize, disk: &MemoryDisk) -> Result<Ran, Fail> {
+    Ok(Ran {
+        stored,
+        image: disk.as_slice().to_vec(alloc)?,
+    })
+}
+
 // One entry is stored, and then two together.
 fn run(alloc: Global, disk: MemoryDisk) -> Result<Ran, Fail> {
-    let mut journals = match try_open(alloc, disk)? {
-        Tried::Open(_, journals) => journals,
-        Tried::Failed(disk) => {
-            return Ok(Ran {
-                stored: 0,
-                image: disk.as_slice().to_vec(alloc)?,
-            });
-        }
+    let mut opening = match Opening::begin(disk) {
+        Begun::Opened(opening) => opening,
+        Begun::Failed(disk) => return come_to(alloc, 0, &disk),
     };
+    match opening.read_row(alloc) {
+        Ok(_) => {}
+        Err(_) => return come_to(alloc, 0, &opening.into_disk()),
+    }
+    let file = match opening.finish() {
+        Finished::Opened(file) => file,
+        Finished::Failed(disk) => return come_to(alloc, 0, &disk),
+    };
+    let mut journals = JournalFile::new(file, Group::new(alloc)?, Vec::new(alloc));
     journals.add(1, &tick(7, 1000))?;
     let first = journals.store();
     journals.add(1, &collect(8, 1))?;
@@ -81,17 +61,14 @@ fn run(alloc: Global, disk: MemoryDisk) -> Result<Ran, Fail> {
         (Stored::Done, _) => 1,
         _ => 0,
     };
-    Ok(Ran {
-        stored,
-        image: journals.file().disk().as_slice().to_vec(alloc)?,
-    })
+    come_to(alloc, stored, journals.file().disk())
 }
 
 // The contents of the records that an image has.
 fn contents(alloc: Global, image: Vec<u8>) -> Result<Vec<Text>, Fail> {
-    match try_open(alloc, MemoryDisk::new(image, Vec::new(alloc), 0))? {
-        Tried::Open(contents, _) => Ok(contents),
-        Tried::Failed(_) => Ok(Vec::new(alloc)),
+    match Opening::begin(MemoryDisk::new(image, Vec::new(alloc), 0)) {
+        Begun::Opened(mut opening) => Ok(opening.read_row(alloc)?),
+        Begun::Failed(_) => Ok(Vec::new(alloc)),
     }
 }
 

@@ -29,10 +29,10 @@ fn reads_the_row_up_to_its_end(rt: HostRuntime) -> Result<(), Fail> {
         (b"\x01\0\0\0\x01a\x01\0\0\0\x02b", 1),
         (b"\x01\xff\xff\xff\xffa", 0),
     ];
-    let mut right = 0;
+    let mut right = 0u32;
     for (image, count) in rows {
         if records(rt.alloc(), image)? == count {
-            right += 1;
+            right = right.saturating_add(1);
         }
     }
     assert_eq!(rt; right, 10);

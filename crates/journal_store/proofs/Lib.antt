@@ -1,5 +1,6 @@
 pub mod EntryLemmas
 pub mod FormatLemmas
+pub mod FoundLemmas
 pub mod GroupLemmas
 pub mod MemoryLemmas
 pub mod Moments

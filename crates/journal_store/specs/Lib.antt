@@ -2,6 +2,7 @@ pub mod Contents
 pub mod Crash
 pub mod Disk
 pub mod Entries
+pub mod Found
 pub mod Group
 pub mod MemoryDisk
 pub mod Opening

@@ -22,6 +22,7 @@ pub use group::{AddError, Group};
 pub use journal_file::JournalFile;
 pub use laws::{
     a_content_is_read_as_its_entry, an_image_has_one_row, an_image_has_the_entries_of_one_list,
+    what_is_read_is_its_content,
 };
 pub use memory_disk::{Change, MemoryDisk};
 pub use opening::{Begun, Finished, Next, Opening, RowError};
