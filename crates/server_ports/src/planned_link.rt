@@ -5,7 +5,7 @@ ghost use Rattle.bosh_ports.specs.Link.{GivesAtMost, next_piece};
 ghost use Rattle.bosh_ports.specs.Memory.{IsNextToFail};
 
 use crate::counting::one_more_fault;
-use bosh_ports::{Gave, Got, Link, MemoryLink, MemorySink, MemorySource};
+use bosh_ports::{Gave, Got, Link, MemoryLink, MemorySink, MemorySource, Polled};
 use std::alloc::Global;
 
 /// What a link will be: the bytes that it gives and the sizes of the pieces in which they come, and the numbers of the takes and
@@ -112,6 +112,31 @@ impl Link for PlannedLink {
             self.faults = one_more_fault(self.faults);
         }
         gave
+    }
+
+    fn close(&mut self) {
+        self.link.close();
+    }
+}
+
+/// It has all its bytes from the beginning, and so it always answers where it is asked.
+impl Polled for PlannedLink {
+    ghost left = { λ l. Some l.link.taking.bytes };
+
+    ghost given = { λ l. Some l.link.giving.bytes };
+
+    ghost closed = { λ l. Some l.link.is_closed };
+
+    ghost faults = { λ l. l.faults };
+
+    ghost waits = { λ _. 0 };
+
+    fn poll_take(&mut self, into: &mut [u8]) -> Option<Got> {
+        Some(self.take(into))
+    }
+
+    fn poll_give(&mut self, bytes: &[u8]) -> Option<Gave> {
+        Some(self.give(bytes))
     }
 
     fn close(&mut self) {
