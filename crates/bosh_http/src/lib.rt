@@ -2,6 +2,7 @@
 // text, and a response with one.
 #![tactic(auto)]
 
+mod awaited;
 mod feeding;
 mod fields;
 mod gathering;
@@ -20,6 +21,7 @@ mod target;
 mod words;
 mod writing;
 
+pub use awaited::Awaited;
 pub use bosh_ports::WriteFault;
 pub use feeding::HttpFed;
 pub use laws::{responses_are_cut_in_one_way, streams_are_cut_in_one_way};

@@ -8,6 +8,7 @@ ghost use Rattle.bosh_http.specs.Taking.{TakesMore};
 ghost use Rattle.bosh_http.specs.Reader.{CameBy, CameOver, FrontBy, OpenedBy, OpenedOver, OpensBy, PassesOn, StandsAt};
 ghost use Rattle.bosh_http.specs.declared.reader.Came.TheVariants as came;
 
+use crate::awaited::Awaited;
 use crate::heads::{Head, Heads, Judged, judge};
 use crate::scan::Scan;
 use crate::taken::{Filled, Taken};
@@ -140,6 +141,22 @@ impl<H: Heads> Reader<H> {
         ensures { result ≡ length self.now }
     {
         self.taken.len()
+    }
+
+    // What it waits for. It waits for a message where it has no bytes.
+    pub(crate) fn awaits(&self) -> Awaited
+        ensures { result ≡ Awaited.Message → self.now ≡ [] }
+    {
+        match self.stage {
+            Stage::Found(head) => Awaited::Content(head.content),
+            Stage::Inside => Awaited::Content(0),
+            Stage::Scanning(_) => {
+                if self.taken.len() == 0 {
+                    return Awaited::Message;
+                }
+                Awaited::Head
+            }
+        }
     }
 
     // Takes these bytes.

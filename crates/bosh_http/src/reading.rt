@@ -2,6 +2,7 @@
 ghost use Rattle.std.specs.Prelude.{◌≡◌, ◌≢◌, ◌≤◌, [], ◌++◌, ⊤, IfOk, OnErr, OnOk, Ok};
 ghost use Rattle.bosh_http.specs.Reading.{answer_of, ended_answer};
 
+use crate::awaited::Awaited;
 use crate::judging::Requests;
 use crate::reader::{Came, Front, Reader};
 use crate::refusal::HttpRefusal;
@@ -52,6 +53,13 @@ impl RequestReader {
         RequestReader {
             reader: Reader::new(alloc),
         }
+    }
+
+    /// What it waits for: where it waits for a message to begin, it has no bytes.
+    pub fn awaits(&self) -> Awaited
+        ensures { result ≡ Awaited.Message → self.now ≡ [] }
+    {
+        self.reader.awaits()
     }
 
     /// Takes these bytes, behind those that it has. An error is want of memory: none of them was taken.

@@ -8,7 +8,7 @@ ghost use Rattle.bosh_ports.specs.Polled.{CountsWait, PollCountsTake, PollTakes}
 ghost use Rattle.polled_http.specs.Polling.{PollAnswers, PollReads};
 
 use crate::taking::TakeRoom;
-use bosh_http::{HttpIn, RequestReader};
+use bosh_http::{Awaited, HttpIn, RequestReader};
 use bosh_ports::{Got, Polled};
 use std::alloc::{AllocError, Global};
 use std::marker::Model;
@@ -51,6 +51,11 @@ impl PolledReader {
             reader: RequestReader::new(alloc),
             unread: Vec::new(alloc),
         }
+    }
+
+    /// What it waits for. A piece that there was no memory for counts as taken once it is kept behind the others.
+    pub fn awaits(&self) -> Awaited {
+        self.reader.awaits()
     }
 
     /// What the bytes that have come give; where they give nothing, one more piece is taken. An error is want of memory: the reader then

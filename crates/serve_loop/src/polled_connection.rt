@@ -16,7 +16,7 @@ use crate::connection::{
 use crate::owed::Owed;
 use crate::trail::Trail;
 use crate::worker::{Site, Worker};
-use bosh_http::HttpIn;
+use bosh_http::{Awaited, HttpIn};
 use bosh_ports::{Bell, Polled};
 use polled_http::{GiveRoom, Given, HttpPolled, PolledReader, Rooms, TakeRoom};
 use server_ports::{Clock, Names};
@@ -89,6 +89,18 @@ impl PolledConnection {
         ensures { result ≡ wanted_by self.now.standing.stage }
     {
         self.standing.stage.wants()
+    }
+
+    /// What of its next request it waits for, where it wants bytes.
+    pub fn awaits(&self) -> Awaited {
+        self.reader.awaits()
+    }
+
+    /// How many bytes of what is owed were given, where it wants room.
+    pub fn place(&self) -> u128
+        ensures { result ≡ self.now.standing.place }
+    {
+        self.standing.place
     }
 
     /// Makes one step: takes a piece of a request, makes its call, looks for its answer, or gives a piece of that. It never waits for the
