@@ -1,153 +1,26 @@
 // The real network, which stops where its stopper wants it.
-ghost use Rattle.std.specs.Prelude.{◌≡◌, ◌≤◌, None, Some};
+ghost use Rattle.std.specs.Prelude.{◌≡◌, ◌≤◌, None};
 ghost use Rattle.bosh_ports.specs.Faults.{HasRisen};
 
-use crate::stopper::{Reached, Stopper};
-use bosh_ports::{Gave, Got, Link};
-use server_ports::{Accepted, Dialled, NetLink, Network, Opened, Shared, TcpNetwork};
+use crate::stoppable_link::StoppableLink;
+use crate::stopper::Stopper;
+use bosh_ports::Link;
+use front_net::{Attempt, FrontLink, FrontListener};
+use server_ports::{Accepted, Dialled, Network, Opened, Shared};
+use std::alloc::Global;
+use std::io::Eprint;
 use std::net::{Net, TcpListener, TcpStream};
+use std::rt::Clock;
 use std::sync::{Arc, Wait};
-
-/// Whether the whole head of a request came: an empty line behind another one. One too early does no harm.
-#[derive(Clone, Copy, Debug, PartialEq, Eq)]
-struct Heard {
-    is_asked: bool,
-    /// The line so far has no byte but CR, and isn't the first.
-    is_empty: bool,
-}
-
-impl Heard {
-    const NOTHING: Heard = Heard {
-        is_asked: false,
-        is_empty: false,
-    };
-
-    fn hear(&mut self, bytes: &[u8]) {
-        for byte in bytes {
-            if *byte == b'\n' {
-                self.is_asked = self.is_asked || self.is_empty;
-                self.is_empty = true;
-            } else if *byte != b'\r' {
-                self.is_empty = false;
-            }
-        }
-    }
-}
-
-/// A connection that fails once an end is wanted, but where the whole head of a request came on it that isn't answered yet.
-#[derive(Drop)]
-pub struct StoppableLink<R: Wait + Copy + Drop> {
-    rt: R,
-    link: NetLink,
-    stopper: Arc<Stopper>,
-    number: Option<u64>,
-    heard: Heard,
-    faults: u64,
-}
-
-impl<R: Wait + Copy + Drop> StoppableLink<R> {
-    // A link of this connection, which the stopper knows.
-    fn new(rt: R, link: NetLink, stopper: Arc<Stopper>) -> StoppableLink<R>
-        ensures { result.faults ≡ 0 }
-    {
-        let number = match link.reader.try_clone() {
-            Ok(stream) => stopper.enter(&rt, stream),
-            Err(_) => None,
-        };
-        StoppableLink {
-            rt,
-            link,
-            stopper,
-            number,
-            heard: Heard::NOTHING,
-            faults: 0,
-        }
-    }
-
-    fn is_cut(&self) -> bool {
-        !self.heard.is_asked && self.stopper.reached(&self.rt) != Reached::Part
-    }
-
-    // What was heard by now.
-    fn note(&mut self, heard: Heard)
-        ensures faults { self.new.faults ≡ self.old.faults }
-        ensures link { self.new.link ≡ self.old.link }
-    {
-        let was_asked = self.heard.is_asked;
-        self.heard = heard;
-        if was_asked != heard.is_asked {
-            if let Some(number) = self.number {
-                self.stopper.note(&self.rt, number, heard.is_asked);
-            }
-        }
-    }
-
-    fn failed(&mut self) -> Got
-        ensures result { result ≡ Got.Failed }
-        ensures risen { HasRisen self.old.faults self.new.faults }
-        ensures never_falls { self.old.faults ≤ self.new.faults }
-        ensures link { self.new.link ≡ self.old.link }
-    {
-        self.faults = self.faults.saturating_add(1);
-        Got::Failed
-    }
-}
-
-impl<R: Wait + Copy + Drop> Link for StoppableLink<R> {
-    ghost left = { λ _. None };
-
-    ghost given = { λ _. None };
-
-    ghost closed = { λ l. Some l.link.is_closed };
-
-    ghost faults = { λ l. l.faults };
-
-    fn take(&mut self, into: &mut [u8]) -> Got {
-        if self.is_cut() {
-            return self.failed();
-        }
-        match self.link.take(into) {
-            Got::Bytes(count) => {
-                let mut heard = self.heard;
-                heard.hear(&into[..count.min(into.len())]);
-                self.note(heard);
-                Got::Bytes(count)
-            }
-            Got::End => {
-                if self.is_cut() {
-                    return self.failed();
-                }
-                Got::End
-            }
-            Got::Failed => self.failed(),
-        }
-    }
-
-    fn give(&mut self, bytes: &[u8]) -> Gave {
-        let gave = self.link.give(bytes);
-        self.note(Heard::NOTHING);
-        if gave == Gave::Failed {
-            self.faults = self.faults.saturating_add(1);
-        }
-        gave
-    }
-
-    fn close(&mut self) {
-        if let Some(number) = self.number {
-            self.stopper.leave(&self.rt, number);
-        }
-        self.link.close();
-    }
-}
 
 /// TCP over 127.0.0.1. Its accepting ends where the input has come to its end, or failed.
 #[derive(Drop)]
 pub struct StoppableNetwork<R>
 where
-    R: Wait + Net<Listener = TcpListener, Stream = TcpStream> + Copy + Drop,
+    R: Wait + Clock + Eprint + Net<Listener = TcpListener, Stream = TcpStream> + Copy + Drop,
 {
     rt: R,
-    net: TcpNetwork<R>,
+    listener: FrontListener<R>,
     stopper: Arc<Stopper>,
     faults: u64,
     accepted: u64,
@@ -156,34 +29,16 @@ where
 
 impl<R> StoppableNetwork<R>
 where
-    R: Wait + Net<Listener = TcpListener, Stream = TcpStream> + Copy + Drop,
+    R: Wait + Clock + Eprint + Net<Listener = TcpListener, Stream = TcpStream> + Copy + Drop,
 {
-    pub fn new(rt: R, stopper: Arc<Stopper>) -> StoppableNetwork<R> {
+    pub fn new(rt: R, alloc: Global, stopper: Arc<Stopper>) -> StoppableNetwork<R> {
         StoppableNetwork {
             rt,
-            net: TcpNetwork::new(rt),
+            listener: FrontListener::new(rt, alloc),
             stopper,
             faults: 0,
             accepted: 0,
             stops: 0,
-        }
-    }
-
-    // The next link that is wanted, if the network gives one.
-    fn next(&mut self) -> Next
-        ensures { (self.new.faults ≡ self.old.faults) × (self.new.accepted ≡ self.old.accepted) × (self.new.stops ≡ self.old.stops) }
-    {
-        if self.is_wanted() {
-            return Next::Stop;
-        }
-        let accepted = self.net.accept();
-        if self.is_wanted() {
-            return Next::Stop;
-        }
-        match accepted {
-            Accepted::Link(link) => Next::Link(link),
-            Accepted::Stopped => Next::Stop,
-            Accepted::Failed => Next::Failed,
         }
     }
 
@@ -196,24 +51,42 @@ where
         self.faults = self.faults.saturating_add(1);
         Accepted::Failed
     }
-
-    // Whether an end is wanted.
-    fn is_wanted(&self) -> bool {
-        self.stopper.reached(&self.rt) != Reached::Part
-    }
 }
 
 /// What comes next.
 #[derive(Drop)]
 enum Next {
-    Link(NetLink),
+    Link(FrontLink),
     Stop,
     Failed,
 }
 
+// The next link that is wanted, if the listener gives one.
+fn next_wanted<R>(rt: R, stopper: &Arc<Stopper>, listener: &mut FrontListener<R>) -> Next
+where
+    R: Wait + Clock + Eprint + Net<Listener = TcpListener, Stream = TcpStream> + Copy + Drop,
+{
+    for _ in rt.forever() {
+        if stopper.is_wanted() {
+            return Next::Stop;
+        }
+        let attempt = listener.attempt();
+        if stopper.is_wanted() {
+            return Next::Stop;
+        }
+        match attempt {
+            Attempt::Link(link) => return Next::Link(link),
+            Attempt::Gone => {}
+            Attempt::Short => listener.rest(),
+            Attempt::Failed => return Next::Failed,
+        }
+    }
+    unreachable!()
+}
+
 impl<R> Network for StoppableNetwork<R>
 where
-    R: Wait + Net<Listener = TcpListener, Stream = TcpStream> + Copy + Drop,
+    R: Wait + Clock + Eprint + Net<Listener = TcpListener, Stream = TcpStream> + Copy + Drop,
 {
     ghost use Rattle.server_ports.specs.Counts.{Counts, HasFailed, RisesWith, added, no_counts};
     ghost use Rattle.server_ports.specs.Events.{Event, Begins, Retires, Joins, IsWithout, IsUngiven};
@@ -226,16 +99,12 @@ where
     ghost events = { λ _. None };
 
     fn listen(&mut self, port: u16) -> Opened {
-        match self.net.listen(port) {
-            Opened::Ready => {
-                self.stopper.listens(&self.rt, port);
-                Opened::Ready
-            }
-            Opened::Failed => {
-                self.faults = self.faults.saturating_add(1);
-                Opened::Failed
-            }
+        if self.listener.listen(port) {
+            self.stopper.listens(&self.rt, port);
+            return Opened::Ready;
         }
+        self.faults = self.faults.saturating_add(1);
+        Opened::Failed
     }
 
     // A server shares no end of it.
@@ -248,7 +117,7 @@ where
         let Ok(stopper) = Arc::try_clone(&self.stopper) else {
             return self.failed();
         };
-        match self.next() {
+        match next_wanted(self.rt, &self.stopper, &mut self.listener) {
             Next::Link(link) => {
                 self.accepted = self.accepted.saturating_add(1);
                 Accepted::Link(StoppableLink::new(self.rt, link, stopper))

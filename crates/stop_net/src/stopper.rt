@@ -8,6 +8,7 @@ use std::collections::BTreeMap;
 use std::io::{ErrorKind, Read};
 use std::net::{Ipv4Addr, Net, Shutdown, SocketAddr, TcpListener, TcpStream};
 use std::rt::Clock;
+use std::sync::atomic::{AtomicBool, Ordering};
 use std::sync::{Arc, Condvar, Mutex, Wait};
 use std::thread;
 use std::thread::{Threads, sleep};
@@ -16,9 +17,14 @@ use std::time::Duration;
 /// How long a connection whose request is being read or answered may go on after the stop, in milliseconds.
 const GRACE: u64 = 1000;
 
+/// How often, and after how many milliseconds each, it is tried to wake who waits for a link where that fails, as for want of a descriptor.
+const TRIES: u32 = 100;
+
+const REST: u64 = 100;
+
 /// How far an input was read.
 #[derive(Clone, Copy, Debug, PartialEq, Eq)]
-pub(crate) enum Reached {
+enum Reached {
     Part,
     End,
     Fault,
@@ -27,7 +33,7 @@ pub(crate) enum Reached {
 /// A connection that was accepted, and whether the whole head of a request came on it that isn't answered yet.
 #[derive(Drop)]
 struct Out {
-    stream: TcpStream,
+    stream: Arc<TcpStream>,
     is_asked: bool,
 }
 
@@ -47,6 +53,8 @@ struct State {
 pub struct Stopper {
     state: Mutex<State>,
     changed: Condvar,
+    /// The input is at its end. It is seen without the lock.
+    is_wanted: AtomicBool,
 }
 
 impl Stopper {
@@ -61,6 +69,7 @@ impl Stopper {
         let stopper = Stopper {
             state: Mutex::new(state),
             changed: Condvar::new(),
+            is_wanted: AtomicBool::new(false),
         };
         match Arc::new(alloc, stopper) {
             Ok(stopper) => Ok(stopper),
@@ -73,13 +82,18 @@ impl Stopper {
         self.state.lock(rt).port = Some(port);
     }
 
+    /// Whether an end is wanted: the input has come to its end, or failed.
+    pub(crate) fn is_wanted(&self) -> bool {
+        self.is_wanted.load(Ordering::SeqCst)
+    }
+
     /// How far the input was read.
-    pub(crate) fn reached<R: Wait>(&self, rt: &R) -> Reached {
+    fn reached<R: Wait>(&self, rt: &R) -> Reached {
         self.state.lock(rt).input
     }
 
     /// A connection was accepted: its number, by which it is left. Where memory is wanted there is none, and it goes on after the stop.
-    pub(crate) fn enter<R: Wait>(&self, rt: &R, stream: TcpStream) -> Option<u64> {
+    pub(crate) fn enter<R: Wait>(&self, rt: &R, stream: Arc<TcpStream>) -> Option<u64> {
         let mut state = self.state.lock(rt);
         let number = state.last.saturating_add(1);
         state.last = number;
@@ -121,6 +135,7 @@ impl Stopper {
     fn end<R: Wait>(&self, rt: &R, reached: Reached) -> Option<u16> {
         let mut state = self.state.lock(rt);
         state.input = reached;
+        self.is_wanted.store(true, Ordering::SeqCst);
         for out in state.out.values() {
             if !out.is_asked {
                 let _ = out.stream.shutdown(Shutdown::Read);
@@ -128,6 +143,10 @@ impl Stopper {
         }
         self.changed.notify_all();
         state.port
+    }
+
+    fn is_over<R: Wait>(&self, rt: &R) -> bool {
+        self.state.lock(rt).is_over
     }
 
     fn wait_for_stop<R: Wait>(&self, rt: &R) {
@@ -178,12 +197,25 @@ where
 {
     let reached = read_to_end(rt, input);
     if let Some(port) = stopper.end(rt, reached) {
-        // Whoever waits for a link has one, and sees that no more are wanted.
-        let _ = TcpStream::connect(rt, SocketAddr::from((Ipv4Addr::LOCALHOST, port)));
+        wake(rt, stopper, port);
     }
     stopper.wait_for_stop(rt);
     sleep(rt, Duration::from_millis(GRACE));
     stopper.cut_all(rt);
+}
+
+// Whoever waits for a link at this port has one, and sees that no more are wanted.
+fn wake<R>(rt: &R, stopper: &Stopper, port: u16)
+where
+    R: Wait + Clock + Net<Listener = TcpListener, Stream = TcpStream>,
+{
+    let address = SocketAddr::from((Ipv4Addr::LOCALHOST, port));
+    for _ in 0..TRIES {
+        if stopper.is_over(rt) || TcpStream::connect(rt, address).is_ok() {
+            return;
+        }
+        sleep(rt, Duration::from_millis(REST));
+    }
 }
 
 // Reads to the end, and keeps nothing.
