@@ -16,7 +16,7 @@ use std::time::{Duration, Instant};
 /// How long a rest is, in milliseconds.
 const REST: u64 = 100;
 
-/// How long nothing more is said of the want of descriptors, in milliseconds.
+/// How long it isn't said again that connections wait, in milliseconds.
 const SILENCE: u64 = 60_000;
 
 /// What one wait for a connection gave.
@@ -25,7 +25,7 @@ pub enum Attempt {
     Link(FrontLink),
     /// One came and is gone again: its maker ended it at once, or it couldn't be set up.
     Gone,
-    /// The process or the system has no descriptor left for it, so that it has to wait for others to end.
+    /// No descriptor or no memory is left for it, so that it has to wait for others to end.
     Short,
     /// There is no port, or the system failed.
     Failed,
@@ -38,6 +38,13 @@ fn is_out_of_descriptors(code: i32) -> bool
     code == 24 || code == 23
 }
 
+// Whether a code of the system says that it has no memory left (ENOMEM, ENOBUFS).
+fn is_out_of_memory(code: i32) -> bool
+    ensures { (result ≡ true) ↔ ((code ≡ pos 12) ⊎ (code ≡ pos 105)) }
+{
+    code == 12 || code == 105
+}
+
 // Whether an error tells of a connection that was lost before it was taken.
 fn is_lost(kind: ErrorKind) -> bool
     ensures { (result ≡ true) ↔ ((kind ≡ ErrorKind.ConnectionAborted) ⊎ (kind ≡ ErrorKind.Interrupted)) }
@@ -45,7 +52,7 @@ fn is_lost(kind: ErrorKind) -> bool
     kind == ErrorKind::ConnectionAborted || kind == ErrorKind::Interrupted
 }
 
-// Whether the want of descriptors may be told of so many milliseconds after it was told of last.
+// Whether that connections wait may be said so many milliseconds after it was said last.
 fn may_tell(since: Option<u64>) -> bool
     ensures first { since ≡ None → result ≡ true }
     ensures again { IfSome since (λ millis. (result ≡ true) ↔ (60000 ≤ millis)) }
@@ -103,13 +110,11 @@ where
         }
     }
 
-    /// Lets a tenth of a second pass, in which descriptors may come free. Once a minute at most it says on standard error what is wanted.
+    /// Lets a tenth of a second pass, in which descriptors may come free. Once a minute at most it says on standard error that connections
+    /// wait for that.
     pub fn rest(&mut self) {
-        if may_tell(self.millis_since_told()) {
-            self.told = Instant::now(&self.rt).ok();
-            let _ = eprintln!(self.rt;
-                "serve: connections wait since no file descriptor is left (ulimit -n)"
-            );
+        if let Ok(now) = Instant::now(&self.rt) {
+            self.tell(now);
         }
         sleep(&self.rt, Duration::from_millis(REST));
     }
@@ -130,11 +135,24 @@ where
         unreachable!()
     }
 
-    // How many milliseconds ago it was told what is wanted. A clock that can't be read tells of none.
-    fn millis_since_told(&self) -> Option<u64> {
-        let passed = self.told?.elapsed(&self.rt).ok()?;
-        Some(u64::try_from(passed.as_millis()).unwrap_or(u64::MAX))
+    // Says that connections wait, where that may be said now. What can't be said is not.
+    fn tell(&mut self, now: Instant) {
+        let since = match self.told {
+            Some(told) => Some(whole_millis(now.duration_since(told))),
+            None => None,
+        };
+        if may_tell(since) {
+            self.told = Some(now);
+            let _ = eprintln!(self.rt;
+                "serve: connections wait, since no file descriptor or no memory is left for them (ulimit -n)"
+            );
+        }
     }
+}
+
+// So many milliseconds, or as many as can be said.
+fn whole_millis(passed: Duration) -> u64 {
+    u64::try_from(passed.as_millis()).unwrap_or(u64::MAX)
 }
 
 // A listener at this port that blocks. The longest backlog is had from `mio`.
@@ -166,7 +184,7 @@ fn refused(error: &io::Error) -> Attempt
         return Attempt::Gone;
     }
     match error.raw_os_error() {
-        Some(code) if is_out_of_descriptors(code) => Attempt::Short,
+        Some(code) if is_out_of_descriptors(code) || is_out_of_memory(code) => Attempt::Short,
         _ => Attempt::Failed,
     }
 }
