@@ -1,6 +1,7 @@
 // A connection of a server that ends with its input.
-ghost use Rattle.std.specs.Prelude.{◌≡◌, ◌≤◌, None, Some, true};
+ghost use Rattle.std.specs.Prelude.{◌≡◌, ◌≤◌, ℕ, List, ◌++◌, None, Some, true, false};
 ghost use Rattle.bosh_ports.specs.Faults.{HasRisen};
+ghost use Rattle.stop_net.specs.Heard.{asked_by};
 
 use crate::heard::Heard;
 use crate::stopper::Stopper;
@@ -44,12 +45,19 @@ impl<R: Wait + Copy + Drop> StoppableLink<R> {
         }
     }
 
-    fn is_cut(&self) -> bool {
-        !self.heard.is_asked && self.stopper.is_wanted()
+    // Whether nothing more is wanted of it: never where the whole head of a request came that isn't answered yet.
+    fn is_cut(&self) -> bool
+        ensures { result ≡ true → self.now.heard.is_asked ≡ false }
+    {
+        if self.heard.is_asked {
+            return false;
+        }
+        self.stopper.is_wanted()
     }
 
     // These bytes were heard too.
     fn hear(&mut self, bytes: &[u8])
+        ensures heard { (more : List ℕ) → asked_by self.new.heard more ≡ asked_by self.old.heard (bytes.now ++ more) }
         ensures faults { self.new.faults ≡ self.old.faults }
         ensures waits { self.new.waits ≡ self.old.waits }
         ensures closed { self.new.is_closed ≡ self.old.is_closed }
@@ -61,6 +69,7 @@ impl<R: Wait + Copy + Drop> StoppableLink<R> {
 
     // What was heard by now.
     fn note(&mut self, heard: Heard)
+        ensures heard { self.new.heard ≡ heard }
         ensures faults { self.new.faults ≡ self.old.faults }
         ensures waits { self.new.waits ≡ self.old.waits }
         ensures closed { self.new.is_closed ≡ self.old.is_closed }
