@@ -29,8 +29,8 @@ fn is_nothing_now(kind: ErrorKind) -> bool
 }
 
 impl FrontLink {
-    /// A connection that was made is set so that it never waits and sends small pieces at once. Where the system can't, or memory is wanted, the
-    /// connection is closed.
+    /// A connection that was made is set so that it never waits and sends small pieces at once. Where the system can't, or memory is
+    /// wanted, the connection is closed.
     pub fn open(alloc: Global, stream: TcpStream) -> io::Result<FrontLink>
         ensures faults { IfOk result (λ link. link.faults ≡ 0) }
         ensures waits { IfOk result (λ link. link.waits ≡ 0) }

@@ -10,8 +10,8 @@ use front_net::FrontLink;
 use std::os::fd::{AsRawFd, RawFd};
 use std::sync::{Arc, Wait};
 
-/// A connection that never waits, and that fails once an end is wanted, but where the whole head of a request came on it that isn't answered
-/// yet.
+/// A connection that never waits, and that fails once an end is wanted, but where the whole head of a request came on it that isn't
+/// answered yet.
 #[derive(Drop)]
 pub struct StoppableLink<R: Wait + Copy + Drop> {
     rt: R,
