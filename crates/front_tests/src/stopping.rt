@@ -3,6 +3,7 @@ use crate::links::free_port;
 use mio::unix::SourceFd;
 use mio::{Events, Interest, Poll, Token};
 use server_ports::{Accepted, Network};
+use std::alloc::Global;
 use std::io;
 use std::io::{Eprint, ErrorKind, Read, Write};
 use std::net::{Ipv4Addr, Net, Shutdown, SocketAddr, TcpListener, TcpStream};
@@ -10,12 +11,46 @@ use std::os::fd::AsRawFd;
 use std::rt::Clock;
 use std::sync::{Arc, Wait};
 use std::test::Fail;
+use std::thread::{Threads, spawn};
 use std::time::{Duration, Instant};
 use stop_net::{StoppableLink, StoppableNetwork, Stopper, stop_apart};
 
 const HALF_A_HEAD: &[u8] = b"POST / HTTP/1.1\r\nA: b";
 
 const HEAD: &[u8] = b"A: b\r\n\r\n";
+
+/// A network that stops where its input ends, which this connection holds open.
+#[derive(Drop)]
+struct Held<R>
+where
+    R: Wait + Clock + Eprint + Net<Listener = TcpListener, Stream = TcpStream> + Copy + Drop,
+{
+    net: StoppableNetwork<R>,
+    holder: TcpStream,
+}
+
+// It listens at this port.
+fn hold<R>(rt: R, alloc: Global, port: u16) -> io::Result<Held<R>>
+where
+    R: Wait
+        + Threads
+        + Clock
+        + Eprint
+        + Net<Listener = TcpListener, Stream = TcpStream>
+        + Copy
+        + Send
+        + Drop
+        + 'static,
+{
+    let any = TcpListener::bind(&rt, SocketAddr::from((Ipv4Addr::LOCALHOST, 0)))?;
+    let holder = TcpStream::connect(&rt, any.local_addr()?)?;
+    let (input, _) = any.accept()?;
+    let stopper = Stopper::new(alloc)?;
+    stop_apart(&rt, input, Arc::try_clone(&stopper)?)?;
+    let mut net = StoppableNetwork::new(rt, alloc, stopper);
+    let _ = net.listen(port);
+    Ok(Held { net, holder })
+}
 
 /// A connection to a server, at its client and here.
 #[derive(Drop)]
@@ -38,38 +73,78 @@ where
     }
 }
 
+/// What the system tells of one link.
+#[derive(Drop)]
+struct News {
+    poll: Poll,
+    events: Events,
+}
+
+impl News {
+    fn of<R, S>(rt: &R, alloc: Global, link: &S) -> io::Result<News>
+    where
+        R: Net,
+        S: AsRawFd,
+    {
+        let poll = Poll::new(rt)?;
+        let events = Events::with_capacity(alloc, 8)?;
+        let fd = link.as_raw_fd();
+        let both = Interest::READABLE | Interest::WRITABLE;
+        poll.registry()
+            .register(&mut SourceFd(&fd), Token(7), both)?;
+        Ok(News { poll, events })
+    }
+
+    // Whether something is told within five seconds.
+    fn came(&mut self) -> io::Result<bool> {
+        self.poll
+            .poll(&mut self.events, Some(Duration::from_secs(5)))?;
+        Ok(self.events.iter().any(|event| event.token() == Token(7)))
+    }
+}
+
+/// What became of a connection that wasn't answered.
+#[derive(Drop)]
+struct Cut {
+    waited: Duration,
+    read: usize,
+    answers: [Seen; 2],
+}
+
+// Waits for the end of a connection at its client.
+fn await_cut<R: Wait + Clock + Copy + Drop>(rt: &R, asked: Asked<R>) -> io::Result<Cut> {
+    let mut asked = asked;
+    let began = Instant::now(rt)?;
+    let read = asked.client.read(&mut [0u8; 8])?;
+    let waited = began.elapsed(rt)?;
+    let answers = [take(&mut asked.link), give(&mut asked.link, b"ab")];
+    Ok(Cut {
+        waited,
+        read,
+        answers,
+    })
+}
+
 #[test]
 fn a_stop_fails_what_is_not_asked(rt: HostRuntime) -> Result<(), Fail> {
-    let any = TcpListener::bind(&rt, SocketAddr::from((Ipv4Addr::LOCALHOST, 0)))?;
-    let holder = TcpStream::connect(&rt, any.local_addr()?)?;
-    let (input, _) = any.accept()?;
     let port = free_port(&rt);
-    let stopper = Stopper::new(rt.alloc())?;
-    stop_apart(&rt, input, Arc::try_clone(&stopper)?)?;
-    let mut net = StoppableNetwork::new(rt, rt.alloc(), stopper);
-    let _ = net.listen(port);
+    let Held { net, holder } = hold(rt, rt.alloc(), port)?;
+    let mut net = net;
     let mut idle = ask(&rt, &mut net, port, b"")?;
     let mut half = ask(&rt, &mut net, port, HALF_A_HEAD)?;
     let mut asked = ask(&rt, &mut net, port, HEAD)?;
     let mut slow = ask(&rt, &mut net, port, HEAD)?;
-    let mut poll = Poll::new(&rt)?;
-    let mut events = Events::with_capacity(rt.alloc(), 8)?;
-    let both = Interest::READABLE | Interest::WRITABLE;
-    let fd = idle.link.as_raw_fd();
-    poll.registry()
-        .register(&mut SourceFd(&fd), Token(7), both)?;
-    poll.poll(&mut events, Some(Duration::from_secs(5)))?;
+    let mut news = News::of(&rt, rt.alloc(), &idle.link)?;
+    let was_told = news.came()?;
     let before = [
         take(&mut idle.link),
         await_take(&rt, &mut half.link),
         await_take(&rt, &mut asked.link),
         await_take(&rt, &mut slow.link),
     ];
-
     let _ = holder.shutdown(Shutdown::Both);
     let stopped = matches!(net.accept(), Accepted::Stopped);
-    poll.poll(&mut events, Some(Duration::from_secs(5)))?;
-    let is_told = events.iter().any(|event| event.token() == Token(7));
+    let is_told = news.came()?;
     let after = [
         take(&mut idle.link),
         take(&mut half.link),
@@ -78,19 +153,18 @@ fn a_stop_fails_what_is_not_asked(rt: HostRuntime) -> Result<(), Fail> {
         take(&mut asked.link),
         take(&mut slow.link),
     ];
-    let began = Instant::now(&rt)?;
-    let last = slow.client.read(&mut [0u8; 8])?;
-    let waited = began.elapsed(&rt)?;
-
-    assert!(rt; stopped && is_told && last == 0 && waited > Duration::from_millis(300));
-    let all = [
+    let cut = spawn(&rt, move || await_cut(&rt, slow))?;
+    let cut = cut.join(&rt)?;
+    assert!(rt; was_told && stopped && is_told && cut.read == 0);
+    assert!(rt; cut.waited > Duration::from_millis(300));
+    let wanted = [
         Seen::Nothing,
         Seen::Moved(8),
         Seen::Moved(8),
         Seen::Moved(8),
     ];
-    assert_eq!(rt; before, all);
-    let all = [
+    assert_eq!(rt; before, wanted);
+    let wanted = [
         Seen::Failed,
         Seen::Failed,
         Seen::Nothing,
@@ -98,6 +172,7 @@ fn a_stop_fails_what_is_not_asked(rt: HostRuntime) -> Result<(), Fail> {
         Seen::Failed,
         Seen::Nothing,
     ];
-    assert_eq!(rt; after, all);
+    assert_eq!(rt; after, wanted);
+    assert_eq!(rt; cut.answers, [Seen::End, Seen::Failed]);
     Ok(())
 }
