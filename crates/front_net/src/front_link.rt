@@ -81,6 +81,10 @@ impl FrontLink {
 }
 
 impl AsRawFd for FrontLink {
+    ghost use Rattle.front_net.specs.Descriptors.{descriptor};
+
+    ghost raw_fd = { λ l. Some (descriptor l) };
+
     fn as_raw_fd(&self) -> RawFd {
         self.stream.as_raw_fd()
     }

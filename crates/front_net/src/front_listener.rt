@@ -1,5 +1,5 @@
 // A port that is listened at, and what becomes of connections to it.
-ghost use Rattle.std.specs.Prelude.{◌≡◌, ◌↔◌, ◌⊎◌, ◌≤◌, true, None, IfOk, IfSome, pos};
+ghost use Rattle.std.specs.Prelude.{◌≡◌, ◌↔◌, ◌⊎◌, ◌≤◌, true, None, IfOk, IfSome, IsSome, pos};
 ghost use Rattle.front_net.specs.Attempt.{MatchAttempt};
 
 use crate::front_link::FrontLink;
@@ -90,7 +90,9 @@ where
     }
 
     /// Listens at this port, with the longest backlog that the system allows. Whether that could be had.
-    pub fn listen(&mut self, port: u16) -> bool {
+    pub fn listen(&mut self, port: u16) -> bool
+        ensures { result ≡ true → IsSome self.new.listener }
+    {
         match bind(&self.rt, port) {
             Ok(listener) => {
                 self.listener = Some(listener);

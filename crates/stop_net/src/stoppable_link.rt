@@ -117,6 +117,10 @@ impl<R: Wait + Copy + Drop> StoppableLink<R> {
 }
 
 impl<R: Wait + Copy + Drop> AsRawFd for StoppableLink<R> {
+    ghost use Rattle.front_net.specs.Descriptors.{descriptor};
+
+    ghost raw_fd = { λ l. Some (descriptor l.link) };
+
     fn as_raw_fd(&self) -> RawFd {
         self.link.as_raw_fd()
     }
