@@ -1,6 +1,6 @@
 -- Steps of a turn, one after the other.
 use Rattle.std.proofs.Common.{◌≡◌, ◌≢◌, ◌+◌, ◌*◌, ◌<◌, ◌≤◌, ℕ, zero, suc, Bool, false, List, [], ◌∷◌, ◌++◌, length, map, take, set, get_or, Option, Some, None, IfSome, IfNone, IsSome, Result, Ok, Err, refl, sym, subst, ap, ◌∙◌, true≢false, arith, ne_eqb}
-use Rattle.std.specs.Prelude.{◌||◌, bytes_eq}
+use Rattle.std.specs.Prelude.{◌||◌, bytes_eq, is_some}
 use Rattle.std.specs.List.{list_any}
 use Rattle.bosh_types.specs.Limits.{most_streams}
 use Rattle.std.proofs.lemmas.List.{get_or-map, length-map, map-set, take_all, take_more}
@@ -208,6 +208,14 @@ met_before number a some =
     let line = line_in (line_of a.lines number) some in
     was_met line.0 line.1
 
+-- it wasn't
+pub met_never : (lines : Lines) (number : ℕ) → is_some (line_of lines number) ≡ false → line_of lines number ≡ None
+met_never lines number none = by (line_of lines number) none
+  where
+    by : (o : Option Line) → is_some o ≡ false → o ≡ None
+    by None is = refl
+    by (Some line) is = absurd (true≢false is)
+
 -- all were tried
 pub each_all : {A : Type 0} {Does : A → Step} {a b : Pumping} {result : Result ⊤ AllocError} (xs : List A) (i : ℕ) → length xs ≤ i → Each Does a (take i xs) b result
     → Each Does a xs b result
@@ -314,13 +322,13 @@ new_line facts number opening text name stands found line same small first none 
     missing (Some place) is told = absurd (none-some place (sym is))
 
 -- the line of a session was made and kept, or there was no memory for that
-pub meets_so : (number : ℕ) (name : List ℕ) (d d' : Known Entry) (s s' : Sessions) (l l' : Lines) (h : List HostFacts) (line : Line) (result : Result ⊤ AllocError) → d' ≡ d
+pub meets_so : (number : ℕ) (name : List ℕ) (d d' : Known Entry) (s s' : Sessions) (l l' : Lines) (h : List HostFacts) (line : Line) (result : Result ⊤ AllocError) → line_of l number ≡ None → d' ≡ d
     → Turned number s s' (Looks (λ log. seen.Answers log questions.Home (Ok (answers.Home name)))) → OthersStay number s s' → IsNewLine number name h line
     → OnOk result (line_of l' number ≡ Some line) → OnOk result ((other : ℕ) → other ≢ number → line_of l' other ≡ line_of l other)
     → OnErr result (IsUnchanged l l') → Meets number (pumping d s l h) (pumping d' s' l' h) result
-meets_so number name d d' s s' l l' h line (Ok done) same asked others new kept beside unchanged =
-    met name l' line (asks_of number d d' s s' l h same asked others) new kept beside
-meets_so number name d d' s s' l l' h line (Err error) same asked others new kept beside unchanged =
+meets_so number name d d' s s' l l' h line (Ok done) unmet same asked others new kept beside unchanged =
+    met name l' line unmet (asks_of number d d' s s' l h same asked others) new kept beside
+meets_so number name d d' s s' l l' h line (Err error) unmet same asked others new kept beside unchanged =
     met_not error l' (asks_of number d d' s s' l h same (looked_as (λ log. seen.Answers log questions.Home (Ok (answers.Home name))) (λ log. Unit {0}) number s s' (λ log says. tt) asked) others) unchanged
 
 -- ---- a wire that was opened

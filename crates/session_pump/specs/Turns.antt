@@ -81,11 +81,11 @@ pub record IsNewLine (number : ℕ) (name : List ℕ) (hosts : List HostFacts) (
   pub place : IfSome line.host (λ place. IsFirstPlace (λ host. bytes_eq host.ends.name name) hosts place)
   pub nowhere : line.host ≡ None → list_any (λ host. bytes_eq host.ends.name name) hosts ≡ false
 
--- The session under this number has a line: it had one, or its history told its host's name and one was made. None is made where
--- its number has more than 32 bits
+-- The session under this number has a line: it had one, which stays, or it had none, its history told its host's name and one was
+-- made. None is made where its number has more than 32 bits
 pub data Meets (number : ℕ) (a : Pumping) : Pumping → Result ⊤ AllocError → Type 0 where
   was_met : (line : Line) → line_of a.lines number ≡ Some line → Meets number a a (Ok tt)
-  met : {b : Pumping} (name : List ℕ) (lines : Lines) (line : Line)
+  met : {b : Pumping} (name : List ℕ) (lines : Lines) (line : Line) → line_of a.lines number ≡ None
       → AsksSession (Looks (λ log. seen.Answers log questions.Home (Ok (answers.Home name)))) number a b
       → IsNewLine number name a.hosts line → line_of lines number ≡ Some line
       → ((other : ℕ) → other ≢ number → line_of lines other ≡ line_of a.lines other)

@@ -1,7 +1,7 @@
 use Rattle.std.proofs.Common.{ap, rules}
 use Rattle.parked_gate.specs.Passes.{known}
 use Rattle.session_pump.specs.Turns.{too_large}
-use Rattle.session_pump.proofs.TurnLemmas.{asks_of, meets_not, meets_so, met_before, new_line}
+use Rattle.session_pump.proofs.TurnLemmas.{asks_of, meets_not, meets_so, met_before, met_never, new_line}
 use Rattle.session_pump.proofs.pump.Pump.meet.Goals as goal
 
 pub returns-then-is_some-clause-meets : goal.returns-then-is_some-clause-meets
@@ -17,6 +17,6 @@ returns-in_default-clause-meets g c =
 
 pub returns-clause-meets : goal.returns-clause-meets
 returns-clause-meets g c =
-    meets_so _ _ _ _ _ _ _ _ _ _ _ (ap known c.in_ok-name.ensures.directory) c.in_ok-name.ensures.named c.in_ok-name.ensures.others
+    meets_so _ _ _ _ _ _ _ _ _ _ _ (met_never c.args.self.now.lines c.args.number (search rules)) (ap known c.in_ok-name.ensures.directory) c.in_ok-name.ensures.named c.in_ok-name.ensures.others
     (new_line _ _ _ c.as_slice.result.now _ _ _ _ c.as_slice.ensures c.in-Some.ensures.small c.place_of.ensures.first c.place_of.ensures.none c.new-line.ensures.host c.new-line.ensures.wire c.new-line.ensures.stage c.new-line.ensures.kept c.new-line.ensures.owed)
     c.keep_line.ensures.kept c.keep_line.ensures.others c.keep_line.ensures.err
