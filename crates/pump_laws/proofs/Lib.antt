@@ -1,0 +1,12 @@
+mod BenchLemmas
+mod CallLemmas
+mod GaveLemmas
+mod SideLemmas
+mod NumberLemmas
+mod KeepsLemmas
+mod StepLemmas
+mod ServingLemmas
+mod PollingLemmas
+mod RowLemmas
+mod Rows
+mod BeginsLemmas
