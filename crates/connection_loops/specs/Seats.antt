@@ -2,7 +2,6 @@
 use Rattle.std.specs.Prelude.{◌≡◌, ◌≢◌, ℕ, Option, None, Some}
 use Rattle.slab.specs.Slab.{Slab, get}
 use Rattle.connection_loops.specs.declared.slots.Slot.{Slot}
-use Rattle.connection_loops.specs.declared.slots.Slots.{Slots}
 
 -- what sits in a slot, if there is one
 abbrev pub seat_of : {S : Type 0} → Option (Slot S) → Option S

@@ -2,13 +2,15 @@
 use crate::door::{Door, Rouse};
 use std::alloc::{AllocError, Global};
 use std::collections::VecDeque;
-use std::sync::{Arc, Mutex, Wait};
+use std::sync::{Arc, Condvar, Mutex, Wait};
 
 /// Where links are left for a loop, at its door.
 #[derive(Drop)]
 pub struct Inbox<L: Drop, W: Rouse + Drop> {
     pub door: Arc<Door<W>>,
     links: Mutex<VecDeque<L>>,
+    // There is room for one more.
+    left: Condvar,
 }
 
 impl<L: Drop, W: Rouse + Drop> Inbox<L, W> {
@@ -22,25 +24,26 @@ impl<L: Drop, W: Rouse + Drop> Inbox<L, W> {
         Ok(Inbox {
             door,
             links: Mutex::new(links),
+            left: Condvar::new(),
         })
     }
 
-    /// Leaves a link. It is given back where there is no room for it. It takes no memory.
-    pub fn put<R: Wait>(&self, rt: &R, link: L) -> Option<L> {
-        let refused = self.push(rt, link);
-        if refused.is_none() {
-            self.door.leave_one();
-        }
-        refused
+    /// Leaves a link, once there is room for it. It takes no memory.
+    pub fn put<R: Wait>(&self, rt: &R, link: L) {
+        self.push(rt, link);
+        self.door.leave_one();
     }
 
-    fn push<R: Wait>(&self, rt: &R, link: L) -> Option<L> {
+    fn push<R: Wait>(&self, rt: &R, link: L) {
         let mut links = self.links.lock(rt);
-        if links.len() >= links.capacity() {
-            return Some(link);
+        for _ in rt.forever() {
+            if links.len() < links.capacity() {
+                links.push_back_reserved(link);
+                return;
+            }
+            links = self.left.wait(rt, links);
         }
-        links.push_back_reserved(link);
-        None
+        unreachable!()
     }
 
     /// Takes the link that was left first.
@@ -49,6 +52,7 @@ impl<L: Drop, W: Rouse + Drop> Inbox<L, W> {
             return None;
         }
         let link = self.links.lock(rt).pop_front()?;
+        self.left.notify_one();
         self.door.take_one();
         Some(link)
     }

@@ -11,14 +11,16 @@ mod poller;
 mod ready_poller;
 mod seat;
 mod slots;
+mod still_poller;
 mod turning;
 
 pub use bits::{Bits, bit_of};
 pub use door::{Door, Rouse};
 pub use inbox::Inbox;
 pub use listed_poller::{CountedRouse, ListedPoller};
-pub use poller::Poller;
-pub use ready_poller::{ReadyPoller, ReadyRouse};
+pub use poller::{Poller, Pollers};
+pub use ready_poller::{ReadyPoller, ReadyPollers, ReadyRouse};
 pub use seat::{Seat, Wanted};
 pub use slots::Slots;
+pub use still_poller::{StillPoller, StillPollers, StillRouse};
 pub use turning::{Loop, Turned};

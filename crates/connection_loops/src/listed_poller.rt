@@ -35,8 +35,8 @@ impl ListedPoller {
     }
 }
 
-impl<S> Poller<S> for ListedPoller {
-    fn enter(&mut self, _seat: &S, _at: usize) -> bool {
+impl<L> Poller<L> for ListedPoller {
+    fn enter(&mut self, _link: &L, _at: usize) -> bool {
         self.entered = self.entered.saturating_add(1);
         true
     }

@@ -1,6 +1,6 @@
 // A poller over what the system tells of descriptors.
 use crate::door::Rouse;
-use crate::poller::Poller;
+use crate::poller::{Poller, Pollers};
 use mio::unix::SourceFd;
 use mio::{Events, Interest, Poll, Token, Waker};
 use std::alloc::{AllocError, Global};
@@ -44,18 +44,20 @@ impl ReadyPoller {
     }
 }
 
-impl<S: AsRawFd> Poller<S> for ReadyPoller {
+impl<L: AsRawFd> Poller<L> for ReadyPoller {
     // The system reports each change once, so that a link is registered once. It reports it no longer when it is closed.
-    fn enter(&mut self, seat: &S, at: usize) -> bool {
+    fn enter(&mut self, link: &L, at: usize) -> bool {
         let both = Interest::READABLE | Interest::WRITABLE;
-        let fd = seat.as_raw_fd();
+        let fd = link.as_raw_fd();
         self.poll
             .registry()
             .register(&mut SourceFd(&fd), Token(at), both)
             .is_ok()
     }
 
+    // Room for all news comes before any is taken from the system, which tells it once.
     fn wait(&mut self, most: Option<u64>, ready: &mut Vec<usize>) -> Result<(), AllocError> {
+        ready.reserve(EVENTS)?;
         let limit = match most {
             Some(millis) => Some(Duration::from_millis(millis)),
             None => None,
@@ -69,5 +71,25 @@ impl<S: AsRawFd> Poller<S> for ReadyPoller {
             }
         }
         Ok(())
+    }
+}
+
+/// Makes pollers over what the system tells.
+#[derive(Drop)]
+pub struct ReadyPollers<R: Net + Copy + Drop> {
+    pub rt: R,
+    pub alloc: Global,
+}
+
+impl<R: Net + Copy + Drop, L: AsRawFd> Pollers<L> for ReadyPollers<R> {
+    type Poller = ReadyPoller;
+
+    type Rouse = ReadyRouse;
+
+    fn poller(&mut self) -> Result<(ReadyPoller, ReadyRouse), AllocError> {
+        match ReadyPoller::new(&self.rt, self.alloc) {
+            Ok(made) => Ok(made),
+            Err(_) => Err(AllocError),
+        }
     }
 }

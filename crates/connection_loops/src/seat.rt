@@ -1,5 +1,6 @@
 // What a loop steps.
 use bosh_ports::BellKey;
+use bosh_types::Moment;
 use std::sync::Wait;
 
 /// What a seat wants when it has made its steps.
@@ -25,6 +26,14 @@ pub trait Seat: Sized {
 
     /// A seat for a link on which nothing came yet. None where there is no memory for it: the link is closed then.
     fn seated<R: Wait>(rt: &R, tools: &mut Self::Tools, link: Self::Link) -> Option<Self>;
+
+    fn link(&self) -> &Self::Link;
+
+    /// The moment by the clock of the tools.
+    fn now(tools: &Self::Tools) -> Moment;
+
+    /// The moment from which on its link is waited for no longer. It is asked for where it waits for that.
+    fn due(&self) -> Moment;
 
     /// Makes steps, at most so many, until it wants something.
     fn go_on<R: Wait>(&mut self, rt: &R, tools: &mut Self::Tools, most: u32) -> Wanted;

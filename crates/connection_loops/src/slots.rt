@@ -33,6 +33,8 @@ pub struct Slots<S: Drop> {
     // Those who wait for a ring, by its bit, and those that go on at once.
     parked: Vec<Chain>,
     ready: Chain,
+    // How many seats are in a chain.
+    chained: usize,
 }
 
 impl<S: Drop> Slots<S> {
@@ -42,6 +44,7 @@ impl<S: Drop> Slots<S> {
             slots: Slab::new(alloc),
             parked: vec![in alloc; Chain::None; RINGS]?,
             ready: Chain::None,
+            chained: 0,
         })
     }
 
@@ -56,6 +59,16 @@ impl<S: Drop> Slots<S> {
     /// Whether a seat goes on at once.
     pub fn has_ready(&self) -> bool {
         self.ready != Chain::None
+    }
+
+    /// Whether a seat waits for its link.
+    pub fn has_waiting(&self) -> bool {
+        self.chained < self.slots.len()
+    }
+
+    /// No seat has this number or a greater one.
+    pub fn bound(&self) -> usize {
+        self.slots.capacity()
     }
 
     /// Takes a seat, which waits for its link, and says its number. It is given back where there is no memory for it.
@@ -144,6 +157,7 @@ impl<S: Drop> Slots<S> {
             return chain;
         }
         self.set_slot(at, Place::Chained, None);
+        self.chained = self.chained.saturating_add(1);
         match chain {
             Chain::None => Chain::Some {
                 first: at,
@@ -187,6 +201,7 @@ impl<S: Drop> Slots<S> {
         };
         let next = self.next_of(first);
         self.set_slot(first, Place::Link, None);
+        self.chained = self.chained.saturating_sub(1);
         match next {
             Some(next) if first != last => Some((first, Chain::Some { first: next, last })),
             _ => Some((first, Chain::None)),

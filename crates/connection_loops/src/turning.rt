@@ -6,6 +6,7 @@ use crate::inbox::Inbox;
 use crate::poller::Poller;
 use crate::seat::{Seat, Wanted};
 use crate::slots::Slots;
+use bosh_types::Moment;
 use std::alloc::{AllocError, Global};
 use std::sync::Wait;
 
@@ -14,6 +15,9 @@ const STEPS: u32 = 64;
 
 /// How long a loop waits where a number wasn't told for want of memory, in milliseconds.
 const PAUSE: u64 = 100;
+
+/// How often a loop looks for links that were waited for too long, where one is waited for, in milliseconds.
+const SWEEP: u64 = 1000;
 
 /// What a turn did.
 #[derive(Clone, Copy, Debug, PartialEq, Eq)]
@@ -26,7 +30,7 @@ pub enum Turned {
 
 /// The seats of one thread, and who tells it of their links.
 #[derive(Drop)]
-pub struct Loop<S: Seat + Drop, P: Poller<S> + Drop>
+pub struct Loop<S: Seat + Drop, P: Poller<S::Link> + Drop>
 where
     S::Link: Drop,
     S::Tools: Drop,
@@ -38,9 +42,11 @@ where
     news: Vec<usize>,
     // There was no memory for one.
     is_short: bool,
+    // When it looks next for links that were waited for too long.
+    sweep_at: Moment,
 }
 
-impl<S: Seat + Drop, P: Poller<S> + Drop> Loop<S, P>
+impl<S: Seat + Drop, P: Poller<S::Link> + Drop> Loop<S, P>
 where
     S::Link: Drop,
     S::Tools: Drop,
@@ -53,6 +59,7 @@ where
             tools,
             news: Vec::new(alloc),
             is_short: false,
+            sweep_at: Moment::from_millis(0),
         })
     }
 
@@ -69,6 +76,7 @@ where
         let ready = self.slots.take_ready();
         self.step_chain(rt, ready);
         self.step_news(rt);
+        self.sweep(rt);
         if self.slots.is_empty() && inbox.door.is_done() {
             return Turned::Done;
         }
@@ -78,13 +86,45 @@ where
     fn wait<W: Rouse + Drop>(&mut self, inbox: &Inbox<S::Link, W>) {
         let most = if self.slots.has_ready() || !inbox.door.lie_down() {
             Some(0)
-        } else if self.is_short {
-            Some(PAUSE)
         } else {
-            None
+            self.until_sweep()
         };
         self.is_short = self.poller.wait(most, &mut self.news).is_err();
         inbox.door.get_up();
+    }
+
+    // How long it may wait at most, in milliseconds.
+    fn until_sweep(&self) -> Option<u64> {
+        if self.is_short {
+            return Some(PAUSE);
+        }
+        if !self.slots.has_waiting() {
+            return None;
+        }
+        let now = S::now(&self.tools);
+        Some(self.sweep_at.millis().saturating_sub(now.millis()).max(1))
+    }
+
+    // Ends those who waited too long for their links, where it is time to look for them.
+    fn sweep<R: Wait>(&mut self, rt: &R) {
+        let now = S::now(&self.tools);
+        if now < self.sweep_at {
+            return;
+        }
+        self.sweep_at = Moment::from_millis(now.millis().saturating_add(SWEEP));
+        for at in 0..self.slots.bound() {
+            if self.is_late(at, now) {
+                self.let_go(rt, at);
+            }
+        }
+    }
+
+    // Whether the seat with this number waits for its link, and waited too long.
+    fn is_late(&self, at: usize, now: Moment) -> bool {
+        match self.slots.seat(at) {
+            Some(seat) => self.slots.is_at_link(at) && seat.due() <= now,
+            None => false,
+        }
     }
 
     // Takes the links that were left.
@@ -119,7 +159,7 @@ where
 
     fn watch(&mut self, at: usize) -> bool {
         match self.slots.seat(at) {
-            Some(seat) => self.poller.enter(seat, at),
+            Some(seat) => self.poller.enter(seat.link(), at),
             None => false,
         }
     }

@@ -9,6 +9,9 @@ use std::test::Fail;
 
 const SESSIONS: u64 = 256;
 
+// It is never due.
+const NEVER: u64 = u64::MAX;
+
 // A loop with its inbox, and what its seats count in.
 #[derive(Drop)]
 struct Scene {
@@ -46,23 +49,26 @@ impl Scene {
         })
     }
 
-    // One more seat, which waits for this many rises of a number under this key.
+    // One more seat, which waits for this many rises of a number under this key, and for its link up to this moment.
     fn put<R: Wait>(
         &self,
         rt: &R,
         key: u64,
         number: &Arc<AtomicU64>,
         rises: u64,
-    ) -> Result<bool, AllocError> {
+        due: u64,
+    ) -> Result<(), AllocError> {
         let ticket = Ticket {
             key,
             rises,
+            due,
             number: Arc::try_clone(number)?,
             steps: Arc::try_clone(&self.steps)?,
             ended: Arc::try_clone(&self.ended)?,
             door: Arc::try_clone(&self.inbox.door)?,
         };
-        Ok(self.inbox.put(rt, ticket).is_none())
+        self.inbox.put(rt, ticket);
+        Ok(())
     }
 
     fn turn<R: Wait>(&mut self, rt: &R) -> Turned {
@@ -86,15 +92,15 @@ fn a_ring_steps_those_who_wait_for_it(rt: HostRuntime) -> Result<(), Fail> {
     let mut numbers = Vec::new(alloc);
     for key in 0..SESSIONS {
         let number = count(alloc)?;
-        scene.put(&rt, key, &number, 1)?;
-        scene.put(&rt, key, &number, 1)?;
+        scene.put(&rt, key, &number, 1, NEVER)?;
+        scene.put(&rt, key, &number, 1, NEVER)?;
         numbers.push(number)?;
     }
     scene.turn(&rt);
     assert!(rt; (scene.looped.len(), scene.steps()) == (512, 512));
     scene.turn(&rt);
     assert!(rt; scene.steps() == 512);
-    rise(&numbers[77]);
+    rise(numbers.get(77).ok_or("a number")?);
     scene.inbox.door.ring(BellKey(77));
     let ended = scene.turn(&rt);
     let seen = (
@@ -121,7 +127,7 @@ fn news_steps_those_at_their_links(rt: HostRuntime) -> Result<(), Fail> {
     news.push(vec![in alloc; 0_usize; 2]?)?;
     let mut scene = Scene::new(alloc, news)?;
     let number = count(alloc)?;
-    scene.put(&rt, 3, &number, 2)?;
+    scene.put(&rt, 3, &number, 2, NEVER)?;
     scene.turn(&rt);
     scene.turn(&rt);
     assert!(rt; scene.steps() == 1);
@@ -136,13 +142,35 @@ fn news_steps_those_at_their_links(rt: HostRuntime) -> Result<(), Fail> {
     Ok(())
 }
 
+// A seat that waited for its link up to its moment is ended, and nobody else is.
+#[test]
+fn who_waited_too_long_for_its_link_is_ended(rt: HostRuntime) -> Result<(), Fail> {
+    let alloc = rt.alloc();
+    let mut scene = Scene::new(alloc, Vec::new(alloc))?;
+    let number = count(alloc)?;
+    scene.put(&rt, 1, &number, 2, 1000)?;
+    scene.put(&rt, 2, &number, 2, NEVER)?;
+    scene.put(&rt, 3, &number, 2, 1000)?;
+    scene.turn(&rt);
+    rise(&number);
+    let mut lens = Vec::new(alloc);
+    for key in [1, 2] {
+        scene.inbox.door.ring(BellKey(key));
+        scene.turn(&rt);
+        lens.push(scene.looped.len())?;
+    }
+    assert_eq!(rt; lens.as_slice(), [3_usize, 2].as_slice());
+    assert!(rt; scene.ended.load(Ordering::SeqCst) == 1);
+    Ok(())
+}
+
 // A loop is roused once while it sleeps, and not while it is awake. (It sleeps here between its turns, as it never does.)
 #[test]
 fn a_ring_rouses_who_sleeps(rt: HostRuntime) -> Result<(), Fail> {
     let alloc = rt.alloc();
     let mut scene = Scene::new(alloc, Vec::new(alloc))?;
     let number = count(alloc)?;
-    scene.put(&rt, 7, &number, 1)?;
+    scene.put(&rt, 7, &number, 1, NEVER)?;
     scene.turn(&rt);
     scene.inbox.door.ring(BellKey(7));
     assert!(rt; scene.roused.load(Ordering::SeqCst) == 0);

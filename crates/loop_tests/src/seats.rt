@@ -1,14 +1,19 @@
 // Seats that wait for a number to rise, and count their steps.
 use bosh_ports::BellKey;
+use bosh_types::Moment;
 use connection_loops::{CountedRouse, Door, Seat, Wanted};
 use std::sync::atomic::{AtomicU64, Ordering};
 use std::sync::{Arc, Wait};
 
-/// What a seat is made of: whom it waits for, and for how many rises it does.
+/// How many milliseconds pass at a step.
+const PASSES: u64 = 600;
+
+/// What a seat is made of: whom it waits for, for how many rises, and how long for its link.
 #[derive(Drop)]
 pub struct Ticket {
     pub key: u64,
     pub rises: u64,
+    pub due: u64,
     pub number: Arc<AtomicU64>,
     pub steps: Arc<AtomicU64>,
     pub ended: Arc<AtomicU64>,
@@ -27,13 +32,26 @@ impl Seat for Waiter {
 
     type Tools = u64;
 
-    fn seated<R: Wait>(_rt: &R, tools: &mut u64, link: Ticket) -> Option<Waiter> {
-        *tools = tools.saturating_add(1);
+    fn seated<R: Wait>(_rt: &R, _tools: &mut u64, link: Ticket) -> Option<Waiter> {
         let seen = link.number.load(Ordering::SeqCst);
         Some(Waiter { ticket: link, seen })
     }
 
-    fn go_on<R: Wait>(&mut self, _rt: &R, _tools: &mut u64, _most: u32) -> Wanted {
+    fn link(&self) -> &Ticket {
+        &self.ticket
+    }
+
+    // The tools are the moment.
+    fn now(tools: &u64) -> Moment {
+        Moment::from_millis(*tools)
+    }
+
+    fn due(&self) -> Moment {
+        Moment::from_millis(self.ticket.due)
+    }
+
+    fn go_on<R: Wait>(&mut self, _rt: &R, tools: &mut u64, _most: u32) -> Wanted {
+        *tools = tools.saturating_add(PASSES);
         self.ticket.steps.fetch_add(1, Ordering::SeqCst);
         let key = BellKey(self.ticket.key);
         self.ticket.door.tune(key);
