@@ -6,7 +6,6 @@ mod arriving;
 mod asked;
 mod connection;
 mod creating;
-mod going;
 mod hosts;
 mod owed;
 mod polled_connection;
@@ -17,6 +16,7 @@ mod telling;
 mod trail;
 mod worker;
 
+pub use bosh_http::Awaited;
 pub use connection::{Connection, ConnectionEnd, Wants};
 pub use hosts::can_serve_all;
 pub use polled_connection::{Moved, PolledConnection};
