@@ -9,9 +9,10 @@ use crate::input_end::tell_end;
 use crate::options::{ServeOptions, Wanted, read_options};
 use crate::run::{DONE, NO_MEMORY, WRITE_FAULT, WRONG_WORDS};
 use crate::site::Site;
-use bosh_ports::{Bell, Sink, give_all};
+use bosh_ports::{Bell, Polled, Sink, give_all};
 use bosh_server::{Outside, Ran, run_workers};
 use client_run::Ready;
+use connection_loops::Pollers;
 use server_ports::{Clock, Names, Network, Opened, Spawner};
 use session_pump::Host;
 use std::alloc::{AllocError, Global};
@@ -28,14 +29,14 @@ pub const SPAWN_FAULT: u8 = 8;
 /// `serving` to the sink once that takes connections, and how many it served at the end. Where the port can't be had a line of
 /// `errors` says so. Where the words say that it ends with its input, the network is to stop at the end of that, or where it
 /// fails; a fault of it is then answered once all else is done.
-pub fn run_serve_command<R, I, K, E, N, C, B, S, M, H>(
+pub fn run_serve_command<R, I, K, E, N, C, B, S, M, Q, H>(
     rt: &R,
     alloc: Global,
     words: &[String],
     input: &mut I,
     sink: &mut K,
     errors: &mut E,
-    outside: &mut Outside<N, C, B, S, M>,
+    outside: &mut Outside<N, C, B, S, M, Q>,
     hosts: Vec<Host<H>>,
 ) -> u8
 where
@@ -44,11 +45,14 @@ where
     K: Sink,
     E: Sink,
     N: Network,
-    N::Link: Send + Drop + 'static,
+    N::Link: Polled + Send + Drop + 'static,
     C: Clock + Send + Drop + 'static,
     B: Bell + Send + Drop + 'static,
     S: Spawner,
     M: Names + Send + Drop + 'static,
+    Q: Pollers<N::Link>,
+    Q::Poller: Send + Drop + 'static,
+    Q::Rouse: Send + Sync + Drop + 'static,
     H: Backend + Send + 'static,
     ensures statuses { Contains (0 ∷ 2 ∷ 4 ∷ 5 ∷ 6 ∷ 7 ∷ 8 ∷ []) result }
 
@@ -146,14 +150,14 @@ pub(crate) fn status_given<K: Sink>(sink: &mut K, text: &[u8]) -> u8
 }
 
 // Serves these hosts as the options have it.
-fn serve<R, I, K, E, N, C, B, S, M, H>(
+fn serve<R, I, K, E, N, C, B, S, M, Q, H>(
     rt: &R,
     alloc: Global,
     options: &ServeOptions,
     input: &mut I,
     sink: &mut K,
     errors: &mut E,
-    outside: &mut Outside<N, C, B, S, M>,
+    outside: &mut Outside<N, C, B, S, M, Q>,
     hosts: Vec<Host<H>>,
 ) -> u8
 where
@@ -162,11 +166,14 @@ where
     K: Sink,
     E: Sink,
     N: Network,
-    N::Link: Send + Drop + 'static,
+    N::Link: Polled + Send + Drop + 'static,
     C: Clock + Send + Drop + 'static,
     B: Bell + Send + Drop + 'static,
     S: Spawner,
     M: Names + Send + Drop + 'static,
+    Q: Pollers<N::Link>,
+    Q::Poller: Send + Drop + 'static,
+    Q::Rouse: Send + Sync + Drop + 'static,
     H: Backend + Send + 'static,
     ensures statuses { Contains (0 ∷ 4 ∷ 5 ∷ 6 ∷ 7 ∷ 8 ∷ []) result }
     ensures net_fault { result ≡ 7 → HasRisen (N.counts outside.old.net).faults (N.counts outside.new.net).faults }

@@ -2,17 +2,18 @@
 
 use crate::streams::{start_teller, stream_end};
 use bosh_commands::{NET_FAULT, NO_MEMORY, run_serve_command, serves_until_eof, site_wanted};
-use bosh_ports::{Bell, QuietSource, RealBell, Sink};
+use bosh_ports::{Bell, Polled, QuietSource, RealBell, Sink};
 use bosh_server::Outside;
 use bosh_types::{Stanzas, Text};
 use client_run::Ready;
-use server_ports::{
-    Names, Network, RealClock, RealNames, Spawner, TcpNetwork, ThreadSpawner, system_seed,
-};
+use connection_loops::{Pollers, ReadyPollers};
+use front_net::FrontNetwork;
+use server_ports::{Names, Network, RealClock, RealNames, Spawner, ThreadSpawner, system_seed};
 use session_pump::Host;
 use std::alloc::{AllocError, Global};
-use std::io::Read;
+use std::io::{Eprint, Read};
 use std::net::{Net, TcpListener, TcpStream};
+use std::os::fd::AsRawFd;
 use std::rt::{Clock, Files};
 use std::sync::{Arc, Wait};
 use std::thread::Threads;
@@ -40,6 +41,7 @@ where
         + Threads
         + Files
         + Clock
+        + Eprint
         + Net<Listener = TcpListener, Stream = TcpStream>
         + Copy
         + Send
@@ -51,13 +53,13 @@ where
 {
     if !serves_until_eof(alloc, words)? {
         let mut nothing = QuietSource::new(Vec::new(alloc));
-        let net = TcpNetwork::new(*rt);
+        let net = FrontNetwork::new(*rt, alloc);
         return serve_over(rt, alloc, words, &mut nothing, sink, errors, net);
     }
     let stopper = Stopper::new(alloc)?;
     stop_apart(rt, input, Arc::try_clone(&stopper)?)?;
     let mut end = EndOfInput::new(*rt, Arc::try_clone(&stopper)?);
-    let net = StoppableNetwork::new(*rt, stopper);
+    let net = StoppableNetwork::new(*rt, alloc, stopper);
     serve_over(rt, alloc, words, &mut end, sink, errors, net)
 }
 
@@ -76,6 +78,7 @@ where
         + Threads
         + Files
         + Clock
+        + Eprint
         + Net<Listener = TcpListener, Stream = TcpStream>
         + Copy
         + Send
@@ -85,7 +88,7 @@ where
     K: Sink,
     E: Sink,
     N: Network + Drop,
-    N::Link: Send + Drop + 'static,
+    N::Link: Polled + AsRawFd + Send + Drop + 'static,
 {
     let Ok(seed) = system_seed(rt) else {
         return Ok(NO_MEMORY);
@@ -118,6 +121,7 @@ where
         bell,
         spawner: ThreadSpawner::new(alloc),
         names: RealNames::new(alloc, seed),
+        pollers: ReadyPollers { rt: *rt, alloc },
     };
     let status = serve_hosts(rt, alloc, words, input, sink, errors, &mut outside, hosts);
     let Outside {
@@ -126,6 +130,7 @@ where
         bell: _bell,
         spawner,
         names: _names,
+        pollers: _pollers,
     } = outside;
     spawner.join_all(rt);
     if let Some(teller) = teller {
@@ -136,14 +141,14 @@ where
 
 /// Serves these hosts, of which each has a back end of one kind or one over TCP. Over any outside of these, so that whether they may cross
 /// to a thread is asked apart from what they are.
-fn serve_hosts<R, I, K, E, N, C, B, S, M, A, D, W, T>(
+fn serve_hosts<R, I, K, E, N, C, B, S, M, Q, A, D, W, T>(
     rt: &R,
     alloc: Global,
     words: &[String],
     input: &mut I,
     sink: &mut K,
     errors: &mut E,
-    outside: &mut Outside<N, C, B, S, M>,
+    outside: &mut Outside<N, C, B, S, M, Q>,
     hosts: Vec<Host<Either<A, StreamBackend<D, W, T>>>>,
 ) -> u8
 where
@@ -152,11 +157,14 @@ where
     K: Sink,
     E: Sink,
     N: Network,
-    N::Link: Send + Drop + 'static,
+    N::Link: Polled + Send + Drop + 'static,
     C: server_ports::Clock + Send + Drop + 'static,
     B: Bell + Send + Drop + 'static,
     S: Spawner,
     M: Names + Send + Drop + 'static,
+    Q: Pollers<N::Link>,
+    Q::Poller: Send + Drop + 'static,
+    Q::Rouse: Send + Sync + Drop + 'static,
     A: Backend + Send + 'static,
     D: Network + Send + Drop + 'static,
     D::Link: PollLink + Send + Drop + 'static,

@@ -1,5 +1,5 @@
 -- How a server ends, by the counts of its network.
-use Rattle.std.specs.Prelude.{◌≡◌, ℕ, ◌-◌, ◌^◌, ◌<◌, ◌≤◌, ◌⊎◌, ◌==◌, ◌&&◌, nat_lt, min, if◌then◌else◌}
+use Rattle.std.specs.Prelude.{◌≡◌, ℕ, ◌-◌, ◌^◌, ◌<◌, ◌⊎◌, ◌==◌, ◌&&◌, nat_lt, min, if◌then◌else◌}
 use Rattle.bosh_ports.specs.Faults.{HasRisen}
 use Rattle.server_ports.specs.Counts.{Counts}
 use Rattle.bosh_server.specs.declared.plan.Ran.{Ran}

@@ -1,17 +1,18 @@
-// Links are accepted and handed to the workers.
+// Links are accepted and handed to the loops.
 ghost use Rattle.std.specs.Prelude.{◌≡◌, ◌≢◌, ◌≤◌};
 ghost use Rattle.bosh_server.specs.Runs.{RunsBy};
 
+use crate::crew::Inboxes;
 use crate::plan::Ran;
-use crate::queue::Queue;
+use connection_loops::Rouse;
 use server_ports::{Accepted, Network};
 use std::sync::Wait;
 
 /// Accepts links until so many have come, or without end where that is 0.
-pub(crate) fn accept_all<R: Wait, N: Network>(
+pub(crate) fn accept_all<R: Wait, N: Network, W: Rouse + Drop>(
     rt: &R,
     net: &mut N,
-    queue: &Queue<N::Link>,
+    inboxes: &Inboxes<N::Link, W>,
     connections: u32,
 ) -> Ran
 where
@@ -29,7 +30,7 @@ where
         }
         match net.accept() {
             Accepted::Link(link) => {
-                queue.put(rt, link);
+                inboxes.put(rt, accepted, link);
                 accepted = accepted.saturating_add(1);
             }
             Accepted::Stopped => {

@@ -5,13 +5,16 @@ ghost use Rattle.std.specs.List.{list_all};
 ghost use Rattle.parked_gate.specs.Passes.{IsPassOf};
 ghost use Rattle.session_attrs.specs.Serving.{can_serve};
 
+use crate::bells::{Doors, PumpBell};
+use crate::looping::LoopJob;
 use crate::pumping::PumpJob;
-use crate::queue::Queue;
-use crate::serving::WorkerJob;
+use crate::seat::LoopTools;
 use crate::yard::{Post, Yard};
-use bosh_ports::{Bell, Link};
+use bosh_ports::{Bell, Polled};
 use bosh_types::{HostName, HostNames};
+use connection_loops::{Door, Inbox, Loop, Poller, Pollers, Rouse};
 use parked_gate::{Gate, Pass};
+use polled_http::Rooms;
 use server_ports::{Clock, Names};
 use session_attrs::can_serve;
 use session_pump::Hosts;
@@ -63,65 +66,189 @@ pub(crate) fn new_yard<E: Backend>(
     Ok((yard, pass))
 }
 
+/// How many links may wait for a loop. More wait in the network.
+const ROOM: usize = 64;
+
+/// Where links are left for the loops.
+#[derive(Drop)]
+pub(crate) struct Inboxes<L: Drop, W: Rouse + Drop> {
+    inboxes: Vec<Arc<Inbox<L, W>>>,
+}
+
+impl<L: Drop, W: Rouse + Drop> Inboxes<L, W> {
+    /// Leaves the link with this number for the loop whose turn it is, once there is room for it there.
+    pub(crate) fn put<R: Wait>(&self, rt: &R, number: u32, link: L) {
+        let count = self.inboxes.len();
+        if count == 0 {
+            return;
+        }
+        if let Some(inbox) = self.inboxes.get(number as usize % count) {
+            inbox.put(rt, link);
+        }
+    }
+
+    /// No more links come.
+    pub(crate) fn close(&self) {
+        for inbox in &self.inboxes {
+            inbox.door.close();
+        }
+    }
+}
+
+/// A loop that isn't made yet: what tells it of its links, and where these are left for it.
+#[derive(Drop)]
+pub(crate) struct Lane<L: Drop, P: Drop, W: Rouse + Drop> {
+    poller: P,
+    inbox: Arc<Inbox<L, W>>,
+}
+
+// One more lane. The only error is want of memory, or of what tells of links.
+fn new_lane<L: Drop, Q: Pollers<L>>(
+    alloc: Global,
+    pollers: &mut Q,
+) -> Result<Lane<L, Q::Poller, Q::Rouse>, AllocError>
+where
+    Q::Poller: Drop,
+    Q::Rouse: Drop,
+{
+    let (poller, rouse) = pollers.poller()?;
+    let door = shared(alloc, Door::new(rouse))?;
+    let inbox = shared(alloc, Inbox::with_room(alloc, ROOM, door)?)?;
+    Ok(Lane { poller, inbox })
+}
+
+// The value in memory of its own. The only error is want of that.
+fn shared<T: Drop>(alloc: Global, value: T) -> Result<Arc<T>, AllocError> {
+    match Arc::new(alloc, value) {
+        Ok(shared) => Ok(shared),
+        Err(_) => Err(AllocError),
+    }
+}
+
+/// So many lanes. The only error is want of memory, or of what tells of links.
+pub(crate) fn new_lanes<L: Drop, Q: Pollers<L>>(
+    alloc: Global,
+    pollers: &mut Q,
+    count: u32,
+) -> Result<Vec<Lane<L, Q::Poller, Q::Rouse>>, AllocError>
+where
+    Q::Poller: Drop,
+    Q::Rouse: Drop,
+{
+    let mut lanes = Vec::with_capacity(alloc, count as usize)?;
+    for _ in 0..count {
+        lanes.push(new_lane(alloc, pollers)?)?;
+    }
+    Ok(lanes)
+}
+
+/// The doors of these lanes. The only error is want of memory.
+pub(crate) fn doors_of<L: Drop, P: Drop, W: Rouse + Drop>(
+    alloc: Global,
+    lanes: &[Lane<L, P, W>],
+) -> Result<Arc<Doors<W>>, AllocError> {
+    let mut doors = Vec::new(alloc);
+    for lane in lanes {
+        doors.push(Arc::try_clone(&lane.inbox.door)?)?;
+    }
+    shared(alloc, Doors { doors })
+}
+
+/// Where links are left for these lanes. The only error is want of memory.
+pub(crate) fn inboxes_of<L: Drop, P: Drop, W: Rouse + Drop>(
+    alloc: Global,
+    lanes: &[Lane<L, P, W>],
+) -> Result<Inboxes<L, W>, AllocError> {
+    let mut inboxes = Vec::new(alloc);
+    for lane in lanes {
+        inboxes.push(Arc::try_clone(&lane.inbox)?)?;
+    }
+    Ok(Inboxes { inboxes })
+}
+
 /// What a job of a server is made with.
 #[derive(Drop)]
-pub(crate) struct Tools<'t, R, C, B>
+pub(crate) struct Tools<'t, R, C, B, W>
 where
     R: Wait + Copy + Drop,
     C: Clock,
     B: Bell,
+    W: Rouse + Drop,
 {
     pub(crate) rt: &'t R,
     pub(crate) alloc: Global,
     pub(crate) yard: &'t Arc<Yard>,
     pub(crate) clock: &'t C,
     pub(crate) bell: &'t B,
+    pub(crate) doors: &'t Arc<Doors<W>>,
 }
 
-impl<R, C, B> Tools<'_, R, C, B>
+impl<R, C, B, W> Tools<'_, R, C, B, W>
 where
     R: Wait + Copy + Drop,
     C: Clock + Drop,
     B: Bell + Drop,
+    W: Rouse + Drop,
 {
-    /// So many workers, for the links of this queue. The only error is want of memory.
-    pub(crate) fn workers<L: Link + Drop, M: Names + Drop>(
+    /// A loop for each lane. The only error is want of memory.
+    pub(crate) fn loops<L: Polled + Drop, M: Names + Drop, P: Poller<L> + Drop>(
         &self,
-        queue: &Arc<Queue<L>>,
+        lanes: Vec<Lane<L, P, W>>,
         pass: &mut Pass<Directory>,
         names: &mut M,
-        count: u32,
-    ) -> Result<Vec<WorkerJob<R, L, C, B, M>>, AllocError>
+    ) -> Result<Vec<LoopJob<R, L, C, B, M, P, W>>, AllocError>
         requires { IsPassOf (arc_value self.now.yard.now).directory pass.old }
         ensures { IsPassOf (arc_value self.now.yard.now).directory pass.new }
     {
-        let mut workers = Vec::with_capacity(self.alloc, count as usize)?;
-        for _ in 0..count {
-            workers.push(self.worker(queue, pass, names)?)?;
+        let mut loops = Vec::with_capacity(self.alloc, lanes.len())?;
+        for lane in lanes {
+            loops.push(self.looped(lane, pass, names)?)?;
         }
-        Ok(workers)
+        Ok(loops)
     }
 
-    // A worker with a pass of its own.
-    fn worker<L: Link + Drop, M: Names + Drop>(
+    // A loop with a pass of its own.
+    fn looped<L: Polled + Drop, M: Names + Drop, P: Poller<L> + Drop>(
         &self,
-        queue: &Arc<Queue<L>>,
+        lane: Lane<L, P, W>,
         pass: &mut Pass<Directory>,
         names: &mut M,
-    ) -> Result<WorkerJob<R, L, C, B, M>, AllocError>
+    ) -> Result<LoopJob<R, L, C, B, M, P, W>, AllocError>
         requires { IsPassOf (arc_value self.now.yard.now).directory pass.old }
         ensures { IsPassOf (arc_value self.now.yard.now).directory pass.new }
     {
+        let Lane { poller, inbox } = lane;
         let own = self.yard.directory.split(self.rt, pass);
-        let post = self.post(own)?;
-        Ok(WorkerJob {
+        let tools = self.loop_tools(own, Arc::try_clone(&inbox.door)?, names)?;
+        Ok(LoopJob {
+            rt: *self.rt,
+            yard: Arc::try_clone(self.yard)?,
+            inbox,
+            looped: Loop::new(self.alloc, poller, tools)?,
+        })
+    }
+
+    // What a loop with this pass and this door has for its connections. The only error is want of memory.
+    fn loop_tools<M: Names + Drop>(
+        &self,
+        pass: Pass<Directory>,
+        own: Arc<Door<W>>,
+        names: &mut M,
+    ) -> Result<LoopTools<R, C, B, M, W>, AllocError>
+        requires { IsPassOf (arc_value self.now.yard.now).directory pass }
+    {
+        Ok(LoopTools {
             rt: *self.rt,
             alloc: self.alloc,
-            post,
-            queue: Arc::try_clone(queue)?,
+            yard: Arc::try_clone(self.yard)?,
+            pass,
+            posts: Vec::new(self.alloc),
+            doors: Arc::try_clone(self.doors)?,
+            own,
             clock: self.clock.share(),
             bell: self.bell.share()?,
             names: names.share(),
+            rooms: Rooms::new(self.alloc),
         })
     }
 
@@ -130,16 +257,20 @@ where
         &self,
         pass: Pass<Directory>,
         hosts: Hosts<E>,
-    ) -> Result<PumpJob<R, C, B, Hosts<E>>, AllocError>
+    ) -> Result<PumpJob<R, C, PumpBell<B, W>, Hosts<E>>, AllocError>
         requires { IsPassOf (arc_value self.now.yard.now).directory pass }
     {
         let post = self.post(pass)?;
+        let bell = PumpBell {
+            bell: self.bell.share()?,
+            doors: Arc::try_clone(self.doors)?,
+        };
         Ok(PumpJob {
             rt: *self.rt,
             alloc: self.alloc,
             post,
             clock: self.clock.share(),
-            bell: self.bell.share()?,
+            bell,
             hosts,
         })
     }

@@ -1,17 +1,20 @@
-// A server over a network that listens: one thread accepts, workers serve connections, and a pump hands on what sessions and
+// A server over a network that listens: one thread accepts, loops serve connections, and a pump hands on what sessions and
 // back ends have for each other.
 #![tactic(auto)]
 
 mod accepting;
 mod agenda;
+mod bells;
 mod crew;
+mod looping;
 mod outside;
+mod patience;
 mod plan;
 mod pumping;
-mod queue;
 mod rings;
 mod run;
-mod serving;
+mod seat;
+mod served;
 mod starting;
 mod yard;
 

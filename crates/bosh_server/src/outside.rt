@@ -1,8 +1,9 @@
-/// What a server runs over: a network that listens, and what its jobs have shares of.
-pub struct Outside<N, C, B, S, M> {
+/// What a server runs over: a network that listens, what its jobs have shares of, and what tells its loops of their links.
+pub struct Outside<N, C, B, S, M, Q> {
     pub net: N,
     pub clock: C,
     pub bell: B,
     pub spawner: S,
     pub names: M,
+    pub pollers: Q,
 }

@@ -1,7 +1,7 @@
 /// How a server is to run.
 #[derive(Clone, Copy, Debug, PartialEq, Eq)]
 pub struct ServePlan {
-    /// How many connections are served at once, at most. 0 counts as 1.
+    /// How many loops serve the connections, each a thread. 0 counts as 1.
     pub workers: u32,
     /// After how many links the server ends. 0 is without end.
     pub connections: u32,

@@ -4,15 +4,16 @@ ghost use Rattle.bosh_ports.specs.Faults.{HasRisen};
 ghost use Rattle.bosh_server.specs.Runs.{RunsBy, while_last_are_served};
 
 use crate::accepting::accept_all;
-use crate::crew::{Tools, new_yard};
+use crate::bells::PumpBell;
+use crate::crew::{Inboxes, Tools, doors_of, inboxes_of, new_lanes, new_yard};
+use crate::looping::{LoopJob, start_loops};
 use crate::outside::Outside;
 use crate::plan::{Ran, ServePlan};
 use crate::pumping::{PumpJob, start_pump_of};
-use crate::queue::Queue;
-use crate::serving::{WorkerJob, start_workers};
 use crate::starting::Startup;
 use crate::yard::{Phase, Yard};
-use bosh_ports::{Bell, BellKey, Link};
+use bosh_ports::{Bell, BellKey, Polled};
+use connection_loops::{Poller, Pollers, Rouse};
 use server_ports::{Clock, Names, Network, Spawner, Started};
 use session_pump::{Host, Hosts};
 use std::alloc::{AllocError, Global};
@@ -20,27 +21,28 @@ use std::sync::{Arc, Wait};
 use std::thread::Threads;
 use xmpp_backend::Backend;
 
-/// How many links may wait for a worker. More wait in the network.
-const ROOM: usize = 64;
-
-/// Serves the links of a network that listens, until it stops or as many came as are planned. Before the answer every link that
-/// was accepted was served to its end, every session was ended, and every job has ended. No link is retired. Want of memory comes
-/// before anything is accepted or started. The jobs wait for each other, so the spawner has to give threads.
-pub fn run_workers<R, N, C, B, S, M, E>(
+/// Serves the links of a network that listens, until it stops or as many came as are planned, by loops, each of which is a thread that steps all
+/// the connections that it was handed where these can go on. Before the answer every link that was accepted was served to its end, every session was
+/// ended, and every job has ended. No link is retired. Want of memory comes before anything is accepted or started. The jobs wait for each other, so
+/// the spawner has to give threads.
+pub fn run_workers<R, N, C, B, S, M, Q, E>(
     rt: &R,
     alloc: Global,
-    outside: &mut Outside<N, C, B, S, M>,
+    outside: &mut Outside<N, C, B, S, M, Q>,
     plan: &ServePlan,
     hosts: Vec<Host<E>>,
 ) -> Result<Ran, AllocError>
 where
     R: Wait + Threads + Copy + Send + Drop + 'static,
     N: Network,
-    N::Link: Send + Drop + 'static,
+    N::Link: Polled + Send + Drop + 'static,
     C: Clock + Send + Drop + 'static,
     B: Bell + Send + Drop + 'static,
     S: Spawner,
     M: Names + Send + Drop + 'static,
+    Q: Pollers<N::Link>,
+    Q::Poller: Send + Drop + 'static,
+    Q::Rouse: Send + Sync + Drop + 'static,
     E: Backend + Send + 'static,
     ensures runs { IfOk result (RunsBy plan.now.connections (N.counts outside.old.net) (N.counts outside.new.net)) }
     ensures refused { IfOk result (λ ran. ran ≡ Ran.SpawnFault → HasRisen (S.refusals outside.old.spawner) (S.refusals outside.new.spawner)) }
@@ -53,47 +55,43 @@ where
     let hosts = Hosts::new(alloc, hosts)?;
     let (yard, pass) = new_yard(alloc, &hosts, plan.journal_limit)?;
     let mut pass = pass;
-    let queue = new_queue(alloc)?;
+    let lanes = new_lanes(alloc, &mut outside.pollers, plan.workers.max(1))?;
+    let doors = doors_of(alloc, lanes.as_slice())?;
+    let inboxes = inboxes_of(alloc, lanes.as_slice())?;
     let tools = Tools {
         rt,
         alloc,
         yard: &yard,
         clock: &outside.clock,
         bell: &outside.bell,
+        doors: &doors,
     };
-    let workers = tools.workers(&queue, &mut pass, &mut outside.names, plan.workers.max(1))?;
+    let loops = tools.loops(lanes, &mut pass, &mut outside.names)?;
     let pump = tools.pump(pass, hosts)?;
     let site = Works {
         yard: &yard,
-        queue: &queue,
+        inboxes: &inboxes,
         connections: plan.connections,
     };
-    Ok(site.run(rt, outside, pump, workers))
-}
-
-fn new_queue<L: Drop>(alloc: Global) -> Result<Arc<Queue<L>>, AllocError> {
-    match Arc::new(alloc, Queue::with_room(alloc, ROOM)?) {
-        Ok(queue) => Ok(queue),
-        Err(_) => Err(AllocError),
-    }
+    Ok(site.run(rt, outside, pump, loops))
 }
 
 // What the accepting thread has of its server.
 #[derive(Drop)]
-struct Works<'w, L: Link + Drop> {
+struct Works<'w, L: Polled + Drop, W: Rouse + Drop> {
     yard: &'w Yard,
-    queue: &'w Queue<L>,
+    inboxes: &'w Inboxes<L, W>,
     connections: u32,
 }
 
-impl<L: Link + Drop> Works<'_, L> {
+impl<L: Polled + Drop, W: Rouse + Drop> Works<'_, L, W> {
     // Starts the jobs, accepts, and waits for the ends of what was started.
-    fn run<R, N, C, B, S, M, E>(
+    fn run<R, N, C, B, S, M, Q, P, E>(
         &self,
         rt: &R,
-        outside: &mut Outside<N, C, B, S, M>,
-        pump: PumpJob<R, C, B, Hosts<E>>,
-        workers: Vec<WorkerJob<R, L, C, B, M>>,
+        outside: &mut Outside<N, C, B, S, M, Q>,
+        pump: PumpJob<R, C, PumpBell<B, W>, Hosts<E>>,
+        loops: Vec<LoopJob<R, L, C, B, M, P, W>>,
     ) -> Ran
     where
         R: Wait + Threads + Copy + Send + Drop + 'static,
@@ -103,6 +101,8 @@ impl<L: Link + Drop> Works<'_, L> {
         L: Send + 'static,
         S: Spawner,
         M: Names + Send + Drop + 'static,
+        P: Poller<L> + Send + Drop + 'static,
+        W: Send + Sync + 'static,
         E: Backend + Send + 'static,
         ensures runs { RunsBy self.now.connections (N.counts outside.old.net) (N.counts outside.new.net) result }
         ensures refused { result ≡ Ran.SpawnFault → HasRisen (S.refusals outside.old.spawner) (S.refusals outside.new.spawner) }
@@ -116,12 +116,12 @@ impl<L: Link + Drop> Works<'_, L> {
         let Startup {
             started,
             is_refused,
-        } = start_workers(rt, &mut outside.spawner, workers);
+        } = start_loops(rt, &mut outside.spawner, loops);
         if is_refused {
             self.dismiss(rt, &mut outside.bell, started);
             return Ran::SpawnFault;
         }
-        let ran = accept_all(rt, &mut outside.net, self.queue, self.connections);
+        let ran = accept_all(rt, &mut outside.net, self.inboxes, self.connections);
         self.tell_pump(rt, &mut outside.bell, phase_after(self.connections, ran));
         self.dismiss(rt, &mut outside.bell, started);
         ran
@@ -133,10 +133,10 @@ impl<L: Link + Drop> Works<'_, L> {
         bell.ring(BellKey::PUMP);
     }
 
-    // No more links come: waits until so many workers have served theirs, and then until the pump has ended.
-    fn dismiss<R: Wait, B: Bell>(&self, rt: &R, bell: &mut B, workers: u64) {
-        self.queue.close(rt);
-        self.yard.wait_for_workers(rt, workers);
+    // No more links come: waits until so many loops have served theirs, and then until the pump has ended.
+    fn dismiss<R: Wait, B: Bell>(&self, rt: &R, bell: &mut B, loops: u64) {
+        self.inboxes.close();
+        self.yard.wait_for_workers(rt, loops);
         self.tell_pump(rt, bell, Phase::Over);
         self.yard.wait_for_pump(rt);
     }

@@ -9,12 +9,15 @@ use bosh_ports::{Gave, MemorySink, MemorySource, QuietSource, RealBell, Sink, St
 use bosh_server::Outside as ServerOutside;
 use bosh_types::{Moment, Rid, Stanzas, Text};
 use client_run::Outside;
+use connection_loops::ReadyPollers;
+use front_net::FrontNetwork;
 use server_ports::{
     GivenNames, MemoryNetwork, SteadySpawner, StillClock, TcpNetwork, ThreadSpawner,
 };
 use session_pump::Host;
 use std::alloc::{AllocError, Global};
 use std::collections::VecDeque;
+use std::io::Eprint;
 use std::net::{Ipv4Addr, Net, SocketAddr, TcpListener, TcpStream};
 use std::rt::Clock;
 use std::sync::{Arc, Mutex, Wait};
@@ -182,6 +185,7 @@ where
     R: Wait
         + Threads
         + Clock
+        + Eprint
         + Net<Listener = TcpListener, Stream = TcpStream>
         + Copy
         + Send
@@ -203,13 +207,14 @@ where
     let mut input = QuietSource::new(Vec::new(alloc));
     let mut errors = MemorySink::new(alloc, Vec::new(alloc));
     let mut outside = ServerOutside {
-        net: TcpNetwork::new(*rt),
+        net: FrontNetwork::new(*rt, alloc),
         clock: StillClock {
             moment: Moment::from_millis(0),
         },
         bell,
         spawner: ThreadSpawner::new(alloc),
         names: GivenNames::new(alloc, b"s", first),
+        pollers: ReadyPollers { rt: *rt, alloc },
     };
     let status = run_serve_command(
         rt,
@@ -227,6 +232,7 @@ where
         bell: _bell,
         spawner,
         names: _names,
+        pollers: _pollers,
     } = outside;
     spawner.join_all(rt);
     let Announcing {
@@ -268,6 +274,7 @@ where
     R: Wait
         + Threads
         + Clock
+        + Eprint
         + Net<Listener = TcpListener, Stream = TcpStream>
         + Copy
         + Send
@@ -358,6 +365,7 @@ where
     R: Wait
         + Threads
         + Clock
+        + Eprint
         + Net<Listener = TcpListener, Stream = TcpStream>
         + Copy
         + Send
@@ -395,6 +403,7 @@ where
     R: Wait
         + Threads
         + Clock
+        + Eprint
         + Net<Listener = TcpListener, Stream = TcpStream>
         + Copy
         + Send

@@ -7,8 +7,10 @@ use bosh_commands::{DONE, run_serve_command};
 use bosh_ports::{MemorySink, RealBell};
 use bosh_server::Outside;
 use bosh_types::Rid;
+use connection_loops::ReadyPollers;
 use server_ports::{GivenNames, RealClock, TcpNetwork, ThreadSpawner};
 use std::alloc::{AllocError, Global};
+use std::io::Eprint;
 use std::net::{Ipv4Addr, Net, Shutdown, SocketAddr, TcpListener, TcpStream};
 use std::rt::Clock;
 use std::sync::{Arc, Wait};
@@ -53,6 +55,7 @@ where
     R: Wait
         + Threads
         + Clock
+        + Eprint
         + Net<Listener = TcpListener, Stream = TcpStream>
         + Copy
         + Send
@@ -74,11 +77,12 @@ where
     let mut written = MemorySink::new(alloc, Vec::new(alloc));
     let mut errors = MemorySink::new(alloc, Vec::new(alloc));
     let mut outside = Outside {
-        net: StoppableNetwork::new(*rt, stopper),
+        net: StoppableNetwork::new(*rt, alloc, stopper),
         clock: RealClock::new(*rt),
         bell: RealBell::new(alloc, *rt)?,
         spawner: ThreadSpawner::new(alloc),
         names: GivenNames::new(alloc, b"s", first),
+        pollers: ReadyPollers { rt: *rt, alloc },
     };
     let status = run_serve_command(
         rt,
@@ -96,6 +100,7 @@ where
         bell: _bell,
         spawner,
         names: _names,
+        pollers: _pollers,
     } = outside;
     spawner.join_all(rt);
     Ok((status, written))
@@ -107,6 +112,7 @@ where
     R: Wait
         + Threads
         + Clock
+        + Eprint
         + Net<Listener = TcpListener, Stream = TcpStream>
         + Copy
         + Send

@@ -5,9 +5,12 @@ use bosh_commands::{DONE, run_serve_command};
 use bosh_ports::{Got, Link, MemorySink, QuietSource, RealBell, send_all};
 use bosh_server::Outside;
 use bosh_types::{Moment, Rid, Stanzas, Text};
+use connection_loops::ReadyPollers;
+use front_net::FrontNetwork;
 use server_ports::{Dialled, GivenNames, Network, StillClock, TcpNetwork, ThreadSpawner};
 use session_pump::Host;
 use std::alloc::{AllocError, Global};
+use std::io::Eprint;
 use std::net::{Ipv4Addr, Net, SocketAddr, TcpListener, TcpStream};
 use std::rt::Clock;
 use std::sync::Wait;
@@ -38,6 +41,7 @@ where
     R: Wait
         + Threads
         + Clock
+        + Eprint
         + Net<Listener = TcpListener, Stream = TcpStream>
         + Copy
         + Send
@@ -64,6 +68,7 @@ where
     R: Wait
         + Threads
         + Clock
+        + Eprint
         + Net<Listener = TcpListener, Stream = TcpStream>
         + Copy
         + Send
@@ -83,11 +88,12 @@ where
     let mut written = MemorySink::new(alloc, Vec::new(alloc));
     let mut errors = MemorySink::new(alloc, Vec::new(alloc));
     let mut outside = Outside {
-        net: TcpNetwork::new(*rt),
+        net: FrontNetwork::new(*rt, alloc),
         clock,
         bell,
         spawner: ThreadSpawner::new(alloc),
         names: GivenNames::new(alloc, b"s", first),
+        pollers: ReadyPollers { rt: *rt, alloc },
     };
     let status = run_serve_command(
         rt,
@@ -105,6 +111,7 @@ where
         bell: _bell,
         spawner,
         names: _names,
+        pollers: _pollers,
     } = outside;
     spawner.join_all(rt);
     Ok(status)
@@ -146,6 +153,7 @@ where
     R: Wait
         + Threads
         + Clock
+        + Eprint
         + Net<Listener = TcpListener, Stream = TcpStream>
         + Copy
         + Send

@@ -9,6 +9,7 @@ use bosh_types::{Stanzas, Text};
 use server_ports::{Dialled, NetLink, Network, RealClock, TcpNetwork};
 use session_pump::Host;
 use std::alloc::{AllocError, Global};
+use std::io::Eprint;
 use std::net::{Ipv4Addr, Net, SocketAddr, TcpListener, TcpStream};
 use std::rt::Clock;
 use std::sync::Wait;
@@ -241,6 +242,7 @@ where
     R: Wait
         + Threads
         + Clock
+        + Eprint
         + Net<Listener = TcpListener, Stream = TcpStream>
         + Copy
         + Send
@@ -271,6 +273,7 @@ where
     R: Wait
         + Threads
         + Clock
+        + Eprint
         + Net<Listener = TcpListener, Stream = TcpStream>
         + Copy
         + Send

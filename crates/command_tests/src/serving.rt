@@ -5,6 +5,7 @@ use bosh_commands::{
 use bosh_ports::{MemorySink, MemorySource, SteadyBell};
 use bosh_server::Outside;
 use bosh_types::{Moment, Rid};
+use connection_loops::StillPollers;
 use server_ports::{GivenNames, LinkPlan, MemoryNetwork, StillClock, ThreadSpawner};
 use session_pump::Host;
 use std::alloc::{AllocError, Global};
@@ -34,7 +35,7 @@ fn words_of(alloc: Global, line: &str) -> Result<Vec<String>, AllocError> {
 }
 
 // Runs the words over a network of one link, which fails at the listed calls, and an empty input.
-fn shown<R: Wait + Threads + Copy + Send + Drop + 'static>(
+fn shown<R: Wait + Threads + Copy + Send + Sync + Drop + 'static>(
     rt: &R,
     alloc: Global,
     line: &str,
@@ -45,7 +46,7 @@ fn shown<R: Wait + Threads + Copy + Send + Drop + 'static>(
 }
 
 // The same over this input.
-fn shown_over<R: Wait + Threads + Copy + Send + Drop + 'static>(
+fn shown_over<R: Wait + Threads + Copy + Send + Sync + Drop + 'static>(
     rt: &R,
     alloc: Global,
     line: &str,
@@ -66,6 +67,7 @@ fn shown_over<R: Wait + Threads + Copy + Send + Drop + 'static>(
         bell: SteadyBell,
         spawner: ThreadSpawner::new(alloc),
         names,
+        pollers: StillPollers { rt: *rt, alloc },
     };
     let nobody: Vec<Host<InMemory>> = Vec::new(alloc);
     let status = run_serve_command(
@@ -84,6 +86,7 @@ fn shown_over<R: Wait + Threads + Copy + Send + Drop + 'static>(
         bell: _bell,
         spawner,
         names: _names,
+        pollers: _pollers,
     } = outside;
     spawner.join_all(rt);
     Ok(Outcome {

@@ -1,7 +1,7 @@
 // A network in memory that shows what its links are given while they are served, and a bell that doesn't wait long.
 ghost use Rattle.std.specs.Prelude.{◌≡◌, None, ⊤};
 
-use bosh_ports::{Bell, BellKey, Gave, Got, Link, QuietSource, Source, Woken};
+use bosh_ports::{Bell, BellKey, Gave, Got, Link, Polled, QuietSource, Source, Woken};
 use server_ports::{Accepted, Dialled, Network, Opened, Shared};
 use std::alloc::AllocError;
 use std::collections::VecDeque;
@@ -13,11 +13,11 @@ use std::time::Duration;
 /// What a link was given so far, for all to see.
 pub(crate) type Given = Arc<Mutex<Vec<u8>>>;
 
-/// How often someone pauses, at most.
+/// How often the bell pauses, at most.
 const PAUSES: u32 = 1000;
 
-/// A link that gives its bytes and shows what it is given. Where it comes after another one, its first take pauses until that
-/// one was given something.
+/// A link that gives its bytes and shows what it is given. Where it comes after another one, it has nothing until that one was given
+/// something.
 #[derive(Drop)]
 pub(crate) struct ShownLink<R: Wait + Clock + Copy + Drop> {
     pub(crate) rt: R,
@@ -25,21 +25,20 @@ pub(crate) struct ShownLink<R: Wait + Clock + Copy + Drop> {
     pub(crate) given: Given,
     pub(crate) after: Option<Given>,
     pub(crate) faults: u64,
+    pub(crate) waits: u64,
 }
 
 impl<R: Wait + Clock + Copy + Drop> ShownLink<R> {
-    fn pause(&mut self)
-        ensures { self.new.faults ≡ self.old.faults }
-    {
-        let Some(first) = self.after.take() else {
-            return;
-        };
-        for _ in 0..PAUSES {
-            if !first.lock(&self.rt).is_empty() {
-                return;
-            }
-            thread::sleep(&self.rt, Duration::from_millis(1));
+    fn has_nothing(&self) -> bool {
+        match &self.after {
+            Some(first) => first.lock(&self.rt).is_empty(),
+            None => false,
         }
+    }
+
+    // Shows these bytes, where there is memory for them.
+    fn show(&self, bytes: &[u8]) -> bool {
+        self.given.lock(&self.rt).extend_from_slice(bytes).is_ok()
     }
 }
 
@@ -53,16 +52,45 @@ impl<R: Wait + Clock + Copy + Drop> Link for ShownLink<R> {
     ghost faults = { λ l. l.faults };
 
     fn take(&mut self, into: &mut [u8]) -> Got {
-        self.pause();
         self.source.take(into)
     }
 
     fn give(&mut self, bytes: &[u8]) -> Gave {
-        if self.given.lock(&self.rt).extend_from_slice(bytes).is_err() {
+        if !self.show(bytes) {
             self.faults = self.faults.saturating_add(1);
             return Gave::Failed;
         }
         Gave::Wrote(bytes.len())
+    }
+
+    fn close(&mut self) {}
+}
+
+impl<R: Wait + Clock + Copy + Drop> Polled for ShownLink<R> {
+    ghost left = { λ _. None };
+
+    ghost given = { λ _. None };
+
+    ghost closed = { λ _. None };
+
+    ghost faults = { λ l. l.faults };
+
+    ghost waits = { λ l. l.waits };
+
+    fn poll_take(&mut self, into: &mut [u8]) -> Option<Got> {
+        if self.has_nothing() {
+            self.waits = self.waits.saturating_add(1);
+            return None;
+        }
+        Some(self.source.take(into))
+    }
+
+    fn poll_give(&mut self, bytes: &[u8]) -> Option<Gave> {
+        if !self.show(bytes) {
+            self.faults = self.faults.saturating_add(1);
+            return Some(Gave::Failed);
+        }
+        Some(Gave::Wrote(bytes.len()))
     }
 
     fn close(&mut self) {}

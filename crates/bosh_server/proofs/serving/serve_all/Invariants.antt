@@ -1,5 +1,0 @@
-use Rattle.parked_gate.specs.Passes.{IsPassOf}
-use Rattle.bosh_server.proofs.serving.serve_all.Given as goal
-
-abbrev pub invariant-loop : goal.invariant-loop
-invariant-loop g l = IsPassOf l.yard.directory l.worker.purse.directory

@@ -1,0 +1,86 @@
+// How long a connection waits for its peer.
+ghost use Rattle.std.specs.Prelude.{◌≡◌, ◌+◌, ◌-◌, ◌^◌, min};
+ghost use Rattle.bosh_server.specs.Patience.{limit_of};
+
+use bosh_types::Moment;
+use serve_loop::{Awaited, Wants};
+
+/// What a connection waits for of its peer.
+#[derive(Clone, Copy, Debug, PartialEq, Eq)]
+pub(crate) enum Awaiting {
+    /// The first byte of one more request.
+    Request,
+    /// The rest of a head, or the head of the first request.
+    Head,
+    /// The rest of a content of so many bytes.
+    Content(usize),
+    /// Room for the answer, of which so many bytes were given.
+    Room(u128),
+    /// Nothing: it goes on by itself, or waits for its session.
+    Nothing,
+}
+
+/// How long this is waited for, in milliseconds: 15 seconds for a request, 30 for a head, 30 and one more for each 16,384 bytes for a content, and
+/// 30 for a peer to take some of its answer.
+fn limit_of(awaiting: Awaiting) -> u64
+    ensures { result ≡ limit_of awaiting }
+{
+    match awaiting {
+        Awaiting::Request => 15_000,
+        Awaiting::Content(length) => 30_000 + (length / 16_384) as u64 * 1000,
+        Awaiting::Head | Awaiting::Room(_) | Awaiting::Nothing => 30_000,
+    }
+}
+
+/// What a connection waits for of its peer, and since when.
+#[derive(Clone, Copy, Debug)]
+pub(crate) struct Patience {
+    awaiting: Awaiting,
+    since: Moment,
+    // No request was read yet.
+    is_first: bool,
+}
+
+impl Patience {
+    /// A connection was opened: the head of its first request is waited for.
+    pub(crate) fn new(now: Moment) -> Patience {
+        Patience {
+            awaiting: Awaiting::Head,
+            since: now,
+            is_first: true,
+        }
+    }
+
+    /// From when on it is waited for no longer.
+    pub(crate) fn due(&self) -> Moment
+        ensures { result ≡ min (self.now.since + limit_of self.now.awaiting) (2 ^ 64 - 1) }
+    {
+        let limit = limit_of(self.awaiting);
+        Moment::from_millis(self.since.millis().saturating_add(limit))
+    }
+
+    /// After a step the connection wants this; where it wants bytes it awaits that, and where it wants room it has given so many bytes.
+    pub(crate) fn note(&mut self, wants: Wants, awaited: Awaited, place: u128, now: Moment) {
+        let awaiting = self.awaiting_by(wants, awaited, place);
+        if awaiting == Awaiting::Nothing {
+            self.is_first = false;
+        }
+        if awaiting != self.awaiting {
+            self.awaiting = awaiting;
+            self.since = now;
+        }
+    }
+
+    fn awaiting_by(&self, wants: Wants, awaited: Awaited, place: u128) -> Awaiting {
+        match wants {
+            Wants::Bytes => match awaited {
+                Awaited::Message if self.is_first => Awaiting::Head,
+                Awaited::Message => Awaiting::Request,
+                Awaited::Head => Awaiting::Head,
+                Awaited::Content(length) => Awaiting::Content(length),
+            },
+            Wants::Room => Awaiting::Room(place),
+            Wants::Answer(_) | Wants::End(_) | Wants::Nothing => Awaiting::Nothing,
+        }
+    }
+}
