@@ -90,7 +90,7 @@ def measure(pid, name, sessions, messages):
 
 
 def main(program, messages):
-    server = subprocess.Popen([program, "serve", "--port", str(PORT), "--workers", "64"], stdout=subprocess.PIPE)
+    server = subprocess.Popen([program, "serve", "--port", str(PORT), "--workers", "8"], stdout=subprocess.PIPE)
     try:
         server.stdout.readline()
         for count in (1, 10, 30):

@@ -147,7 +147,7 @@ def measure(pid, name, sessions, messages):
 def main(program, messages):
     behind = Behind()
     behind.start()
-    server = subprocess.Popen([program, "serve", "--port", str(PORT), "--workers", "64", "--xmpp", "xmpp.localhost", "--xmpp-port", str(BEHIND)], stdout=subprocess.PIPE)
+    server = subprocess.Popen([program, "serve", "--port", str(PORT), "--workers", "8", "--xmpp", "xmpp.localhost", "--xmpp-port", str(BEHIND)], stdout=subprocess.PIPE)
     try:
         server.stdout.readline()
         one = Session(behind, "one")
