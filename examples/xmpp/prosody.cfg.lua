@@ -1,5 +1,5 @@
 -- A server of XMPP to try `robelava serve` with: on loopback, without TLS, and with two domains: one whose users have passwords, and
--- one that lets anybody in. Run it in this folder: prosody --config prosody.cfg.lua -F
+-- one that lets anybody in. Run it in this folder: mkdir -p data; prosody --config prosody.cfg.lua -F
 -- Keep its port from strangers: whoever reaches it speaks to it in the clear.
 run_as_root = true
 pidfile = "prosody.pid"
