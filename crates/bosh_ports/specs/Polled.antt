@@ -1,5 +1,5 @@
 -- What a link does that is asked and may have nothing now.
-use Rattle.std.specs.Prelude.{◌≡◌, ℕ, List, Option, Some, None}
+use Rattle.std.specs.Prelude.{◌≡◌, ℕ, Bool, true, false, List, Option, Some, None}
 use Rattle.std.specs.Io.KnownBytes.{Keeps}
 use Rattle.bosh_ports.specs.Faults.{HasRisen}
 use Rattle.bosh_ports.specs.Sink.{Gives, CountsGive}
@@ -31,3 +31,8 @@ PollCountsGive old new (Some gave) = CountsGive old new gave
 abbrev pub CountsWait : {A : Type 0} → ℕ → ℕ → Option A → Type 0
 CountsWait old new None = HasRisen old new
 CountsWait old new (Some answer) = new ≡ old
+
+-- the count of peers that left rises by yes, and by nothing else
+abbrev pub CountsLeft : ℕ → ℕ → Bool → Type 0
+CountsLeft old new true = HasRisen old new
+CountsLeft old new false = new ≡ old

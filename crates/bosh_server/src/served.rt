@@ -54,7 +54,7 @@ impl<L: Polled + Drop, B: Bell + Drop, M: Names + Drop> Served<L, B, M> {
         requires held { IsServedBy self.old.worker.purse.sessions self.old.connection.standing.stage }
         ensures pass { IsPassOf site.now.directory.now self.new.worker.purse.directory }
         ensures held { IsServedBy self.new.worker.purse.sessions self.new.connection.standing.stage }
-        ensures moves { Steps (setting site.now.hosts.now site.now.limit (C.moment site.now.clock.now))
+        ensures moves { Steps (setting site.now.hosts.now site.now.limits (C.moment site.now.clock.now))
             (outside self.old.connection.reader (L.left self.old.link) (L.given self.old.link) self.old.worker.trail self.old.worker.purse (L.faults self.old.link))
             (outside self.new.connection.reader (L.left self.new.link) (L.given self.new.link) self.new.worker.trail self.new.worker.purse (L.faults self.new.link))
             self.old.connection.standing self.new.connection.standing }
@@ -90,7 +90,7 @@ impl<L: Polled + Drop, B: Bell + Drop, M: Names + Drop> Served<L, B, M> {
         ensures held { IsServedBy self.new.worker.purse.sessions self.new.connection.standing.stage }
 
         // What was read, asked, answered and given is what steps of this connection do, one after the other.
-        ensures moves { Steps (setting site.now.hosts.now site.now.limit (C.moment site.now.clock.now))
+        ensures moves { Steps (setting site.now.hosts.now site.now.limits (C.moment site.now.clock.now))
             (outside self.old.connection.reader (L.left self.old.link) (L.given self.old.link) self.old.worker.trail self.old.worker.purse (L.faults self.old.link))
             (outside self.new.connection.reader (L.left self.new.link) (L.given self.new.link) self.new.worker.trail self.new.worker.purse (L.faults self.new.link))
             self.old.connection.standing self.new.connection.standing }

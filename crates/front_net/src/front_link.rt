@@ -19,6 +19,7 @@ pub struct FrontLink {
     is_closed: bool,
     pub(crate) faults: u64,
     waits: u64,
+    leaves: u64,
 }
 
 // Whether an error means that there is nothing now.
@@ -34,6 +35,7 @@ impl FrontLink {
     pub fn open(alloc: Global, stream: TcpStream) -> io::Result<FrontLink>
         ensures faults { IfOk result (λ link. link.faults ≡ 0) }
         ensures waits { IfOk result (λ link. link.waits ≡ 0) }
+        ensures leaves { IfOk result (λ link. link.leaves ≡ 0) }
     {
         stream.set_nodelay(true)?;
         stream.set_nonblocking(true)?;
@@ -42,6 +44,7 @@ impl FrontLink {
             is_closed: false,
             faults: 0,
             waits: 0,
+            leaves: 0,
         })
     }
 
@@ -55,6 +58,7 @@ impl FrontLink {
         ensures closed { self.new.is_closed ≡ true }
         ensures faults { self.new.faults ≡ self.old.faults }
         ensures waits { self.new.waits ≡ self.old.waits }
+        ensures leaves { self.new.leaves ≡ self.old.leaves }
     {
         self.is_closed = true;
         let _ = self.stream.shutdown(Shutdown::Both);
@@ -66,6 +70,7 @@ impl FrontLink {
         ensures never_falls { self.old.faults ≤ self.new.faults }
         ensures closed { self.new.is_closed ≡ self.old.is_closed }
         ensures waits { self.new.waits ≡ self.old.waits }
+        ensures leaves { self.new.leaves ≡ self.old.leaves }
     {
         self.faults = self.faults.saturating_add(1);
     }
@@ -75,6 +80,7 @@ impl FrontLink {
         ensures risen { HasRisen self.old.waits self.new.waits }
         ensures closed { self.new.is_closed ≡ self.old.is_closed }
         ensures faults { self.new.faults ≡ self.old.faults }
+        ensures leaves { self.new.leaves ≡ self.old.leaves }
     {
         self.waits = self.waits.saturating_add(1);
     }
@@ -136,6 +142,8 @@ impl Polled for FrontLink {
 
     ghost waits = { λ l. l.waits };
 
+    ghost leaves = { λ l. l.leaves };
+
     fn poll_take(&mut self, into: &mut [u8]) -> Option<Got> {
         match read_some(&self.stream, into) {
             Ok(0) => Some(Got::End),
@@ -165,6 +173,14 @@ impl Polled for FrontLink {
         }
     }
 
+    fn has_left(&mut self) -> bool {
+        if !is_left(&self.stream) {
+            return false;
+        }
+        self.leaves = self.leaves.saturating_add(1);
+        true
+    }
+
     fn close(&mut self) {
         self.hang_up();
     }
@@ -184,4 +200,13 @@ fn write_some(stream: &TcpStream, bytes: &[u8]) -> io::Result<usize>
 {
     let mut stream = stream;
     stream.write(bytes)
+}
+
+// Whether nothing more comes: the peer has closed or reset the connection, and all that it sent before was taken. It takes no bytes.
+fn is_left(stream: &TcpStream) -> bool {
+    let mut next = [0];
+    match stream.peek(&mut next) {
+        Ok(count) => count == 0,
+        Err(error) => !is_nothing_now(error.kind()),
+    }
 }

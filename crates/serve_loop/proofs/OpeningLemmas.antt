@@ -39,7 +39,7 @@ module _ (site : Setting) (body : List ℕ) (request : Request) (place : ℕ) (h
 
   -- there is no room, and no memory to say so
   pub full_lost : IsUnchanged before.sessions after.sessions
-      → Calls (λ e. e.caller) (λ log made. (made ≡ None) × (IsFull log ⊎ IsSpent log)) (known before.directory) (known after.directory) → IsLost site body before after
+      → Calls (λ e. e.caller) (λ log made. (made ≡ None) × (IsFull site.limits log ⊎ IsSpent site.limits log)) (known before.directory) (known after.directory) → IsLost site body before after
   full_lost same call = inr (
     opening,
     opening_for,

@@ -13,6 +13,7 @@ use Rattle.session_table.specs.declared.calls.NewSession.TheVariants as news
 use Rattle.session_table.specs.declared.calls.Opened.{Opened}
 use Rattle.session_table.specs.declared.entry.Entry as table
 use Rattle.session_table.specs.declared.handle.SessionHandle.{SessionHandle}
+use Rattle.session_table.specs.declared.opening.Limits.{Limits}
 use Rattle.session_table.specs.declared.opening.Opening.{Opening}
 use Rattle.session_table.specs.declared.purse.Purse.{Purse}
 use Rattle.session_table.specs.History.{live_at, opening_in}
@@ -87,31 +88,33 @@ asks_directory P before after told now call held =
 
 -- the directory, asked now, has no room for one more session
 full_by : (site : Setting) (body : List ℕ) (request : Request) (place : ℕ) (before after : Purse) → asked_of site.hosts body ≡ Creation request place
-    → Calls (λ e. e.caller) (λ log made. (made ≡ None) × (IsFull log ⊎ IsSpent log)) (known before.directory) (known after.directory)
+    → Calls (λ e. e.caller) (λ log made. (made ≡ None) × (IsFull site.limits log ⊎ IsSpent site.limits log)) (known before.directory) (known after.directory)
     → IsUnchanged before.sessions after.sessions
     → (by : Evidence) → ShowsDirectory (known after.directory) by → IsTrueOf site body (refusal_text UndefinedCondition) before after (lines.NoSession UndefinedCondition) by
 full_by site body request place before after asks call held evidence.Request shows = absurd shows
 full_by site body request place before after asks call held (evidence.Session session) shows = absurd shows
 full_by site body request place before after asks call held (evidence.Directory pass) shows =
-    (refl, inr (refl, record { request = request; place = place; asks = asks; room = asks_directory (λ log. IsFull log ⊎ IsSpent log) before after (known pass.value) shows call held }))
+    (refl, inr (refl, record { request = request; place = place; asks = asks; room = asks_directory (λ log. IsFull site.limits log ⊎ IsSpent site.limits log) before after (known pass.value) shows call held }))
 
 pub tells_full : (site : Setting) (body : List ℕ) (request : Request) (place : ℕ) (before after : Purse) (old new : List Traced) → asked_of site.hosts body ≡ Creation request place
-    → Calls (λ e. e.caller) (λ log made. (made ≡ None) × (IsFull log ⊎ IsSpent log)) (known before.directory) (known after.directory)
+    → Calls (λ e. e.caller) (λ log made. (made ≡ None) × (IsFull site.limits log ⊎ IsSpent site.limits log)) (known before.directory) (known after.directory)
     → IsUnchanged before.sessions after.sessions → Adds old new (lines.NoSession UndefinedCondition) (ShowsDirectory (known after.directory))
     → Tells site body (refusal_text UndefinedCondition) old new before after
 tells_full site body request place before after old new asks call held adds =
     tells_line site body (refusal_text UndefinedCondition) before after old new (lines.NoSession UndefinedCondition) (ShowsDirectory (known after.directory)) adds
     (full_by site body request place before after asks call held)
 
-pub table_full : (opening : Opening) (sessions : Sessions) (before after : Known table.Entry)
+pub table_full : (opening : Opening) (limits : Limits) (sessions : Sessions) (before after : Known table.Entry) → opening.limits ≡ limits
     → Calls (λ e. e.caller) (λ log made. OpensInto log opening news.TableFull sessions made) before after
-    → Calls (λ e. e.caller) (λ log made. (made ≡ None) × (IsFull log ⊎ IsSpent log)) before after
-table_full opening sessions before after call = calls_as (λ e. e.caller) _ _ before after (λ log made says. (says.0, inl says.1)) call
+    → Calls (λ e. e.caller) (λ log made. (made ≡ None) × (IsFull limits log ⊎ IsSpent limits log)) before after
+table_full opening limits sessions before after are call =
+    calls_as (λ e. e.caller) _ _ before after (λ log made says. (says.0, inl (subst (λ l. IsFull l log) are says.1))) call
 
-pub openings_spent : (opening : Opening) (sessions : Sessions) (before after : Known table.Entry)
+pub openings_spent : (opening : Opening) (limits : Limits) (sessions : Sessions) (before after : Known table.Entry) → opening.limits ≡ limits
     → Calls (λ e. e.caller) (λ log made. OpensInto log opening news.OpeningsSpent sessions made) before after
-    → Calls (λ e. e.caller) (λ log made. (made ≡ None) × (IsFull log ⊎ IsSpent log)) before after
-openings_spent opening sessions before after call = calls_as (λ e. e.caller) _ _ before after (λ log made says. (says.0, inr says.1)) call
+    → Calls (λ e. e.caller) (λ log made. (made ≡ None) × (IsFull limits log ⊎ IsSpent limits log)) before after
+openings_spent opening limits sessions before after are call =
+    calls_as (λ e. e.caller) _ _ before after (λ log made says. (says.0, inr (subst (λ l. IsSpent l log) are says.1))) call
 
 -- Sessions that there are none of.
 

@@ -21,6 +21,7 @@ use Rattle.session_journal.specs.declared.entry.Entry as journal
 use Rattle.session_journal.specs.declared.entry.Limited.TheVariants.{Arrival}
 use Rattle.session_journal.specs.Stored.{After, Replies}
 use Rattle.session_table.specs.declared.handle.SessionHandle.{SessionHandle}
+use Rattle.session_table.specs.declared.opening.Limits.{Limits}
 use Rattle.session_table.specs.declared.opening.Opening.{Opening}
 use Rattle.session_table.specs.declared.purse.Purse.{Purse}
 use Rattle.session_table.specs.History.{live_at}
@@ -33,15 +34,14 @@ use Rattle.serve_loop.specs.declared.trail.TrailLine.TheVariants as lines
 use Rattle.serve_loop.specs.Asked.{asked_of, request_in}
 use Rattle.serve_loop.specs.Effects.{AsksDirectory, CallsOne, OpensOne}
 
--- what a site tells: its hosts, how many counted bytes the journal of a session may have, and the moment of its clock where the
--- clock tells that
+-- what a site tells: its hosts, the limits that sessions are opened within, and the moment of its clock where the clock tells that
 pub record Setting : Type 0 where
   pub hosts : List HostName
-  pub limit : ℕ
+  pub limits : Limits
   pub moment : Option ℕ
 
-abbrev pub setting : List HostName → ℕ → Option ℕ → Setting
-setting hosts limit moment = record { hosts = hosts; limit = limit; moment = moment }
+abbrev pub setting : List HostName → Limits → Option ℕ → Setting
+setting hosts limits moment = record { hosts = hosts; limits = limits; moment = moment }
 
 -- it is the clock's moment
 abbrev pub IsNow : Setting → ℕ → Type 0
@@ -109,7 +109,7 @@ pub record IsOpeningAt (site : Setting) (host : HostName) (request : Request) (b
   pub host_is : opening.host ≡ host.name
   pub greeting_is : opening.greeting ≡ host.greeting
   pub at_now : IsNow site opening.at
-  pub limit_is : opening.limit ≡ site.limit
+  pub limits_are : opening.limits ≡ site.limits
 
 -- the body asks for a session at a host of the site, which is opened with this
 pub record IsOpeningFor (site : Setting) (body : List ℕ) (opening : Opening) : Type 0 where
@@ -141,17 +141,18 @@ pub record IsUnknown (sid body text : List ℕ) (old new : Purse) (by : Evidence
   pub gone : IsGone sid old new by
   pub text_is : text ≡ refusal_text ItemNotFound
 
--- the directory, asked now, says that no more sessions may be live, or be opened. Nothing was added
-abbrev pub HasNoRoom : Purse → Purse → Evidence → Type 0
-HasNoRoom old new evidence.Request = ⊥
-HasNoRoom old new (evidence.Session session) = ⊥
-HasNoRoom old new (evidence.Directory pass) = (IsFull (known pass.value).seen ⊎ IsSpent (known pass.value).seen) × AsksDirectory old new (known pass.value)
+-- the directory, asked now, says that no more sessions may be live within these limits, or be opened. Nothing was added
+abbrev pub HasNoRoom : Limits → Purse → Purse → Evidence → Type 0
+HasNoRoom limits old new evidence.Request = ⊥
+HasNoRoom limits old new (evidence.Session session) = ⊥
+HasNoRoom limits old new (evidence.Directory pass) =
+    (IsFull limits (known pass.value).seen ⊎ IsSpent limits (known pass.value).seen) × AsksDirectory old new (known pass.value)
 
 pub record FindsNoRoom (site : Setting) (body : List ℕ) (old new : Purse) (by : Evidence) : Type 0 where
   pub request : Request
   pub place : ℕ
   pub asks : asked_of site.hosts body ≡ Creation request place
-  pub room : HasNoRoom old new by
+  pub room : HasNoRoom site.limits old new by
 
 -- the body asks nothing that could be answered otherwise, and nobody was asked; or there is no room
 abbrev pub ConcernsNone : Setting → List ℕ → Condition → Purse → Purse → Evidence → Type 0

@@ -58,10 +58,10 @@ impl<B: Bell, M: Names> Worker<B, M> {
     ) -> Result<Answering, AllocError>
         requires { IsPassOf site.now.directory.now self.old.purse.directory }
         ensures pass { IsPassOf site.now.directory.now self.new.purse.directory }
-        ensures answers { IfOk result (Answers (setting site.now.hosts.now site.now.limit (C.moment site.now.clock.now)) body self.old.trail self.new.trail
+        ensures answers { IfOk result (Answers (setting site.now.hosts.now site.now.limits (C.moment site.now.clock.now)) body self.old.trail self.new.trail
             self.old.purse self.new.purse) }
         ensures err { OnErr result (self.new.trail ≡ self.old.trail) }
-        ensures lost { OnErr result (IsLost (setting site.now.hosts.now site.now.limit (C.moment site.now.clock.now)) body self.old.purse self.new.purse) }
+        ensures lost { OnErr result (IsLost (setting site.now.hosts.now site.now.limits (C.moment site.now.clock.now)) body self.old.purse self.new.purse) }
         ensures silences { B.silences self.new.bell ≡ B.silences self.old.bell }
     {
         let asked = what_is_asked(site.alloc, site.hosts, body.as_slice())?;

@@ -38,7 +38,7 @@ impl<B: Bell, M: Names> Worker<B, M> {
         requires pass { IsPassOf site.now.directory.now self.old.purse.directory }
         requires asks { asked_of site.now.hosts.now body ≡ Asked.Later request }
         ensures pass { IsPassOf site.now.directory.now self.new.purse.directory }
-        ensures answers { IfOk result (Answers (setting site.now.hosts.now site.now.limit (C.moment site.now.clock.now)) body self.old.trail self.new.trail
+        ensures answers { IfOk result (Answers (setting site.now.hosts.now site.now.limits (C.moment site.now.clock.now)) body self.old.trail self.new.trail
             self.old.purse self.new.purse) }
         ensures err { OnErr result (self.new.trail ≡ self.old.trail) }
         ensures lost { OnErr result (AddsNothing self.old.purse self.new.purse) }
@@ -69,7 +69,7 @@ impl<B: Bell, M: Names> Worker<B, M> {
         requires held { Holds self.old.purse.sessions session.number session.sid }
         requires names { NamesSession body session.sid request }
         ensures answers { (before : Purse) → FindsAtMost before self.old.purse session.number session.sid
-            → IfOk result (Answers (setting site.now.hosts.now site.now.limit (C.moment site.now.clock.now)) body self.old.trail self.new.trail before self.new.purse) }
+            → IfOk result (Answers (setting site.now.hosts.now site.now.limits (C.moment site.now.clock.now)) body self.old.trail self.new.trail before self.new.purse) }
         ensures directory { self.new.purse.directory ≡ self.old.purse.directory }
         ensures silences { B.silences self.new.bell ≡ B.silences self.old.bell }
         ensures err { OnErr result (self.new.trail ≡ self.old.trail) }

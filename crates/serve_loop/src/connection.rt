@@ -131,7 +131,7 @@ impl Connection {
         requires held { IsServedBy worker.old.purse.sessions self.old.stage }
         ensures pass { IsPassOf site.now.directory.now worker.new.purse.directory }
         ensures held { IsServedBy worker.new.purse.sessions self.new.stage }
-        ensures moves { Moves (setting site.now.hosts.now site.now.limit (C.moment site.now.clock.now))
+        ensures moves { Moves (setting site.now.hosts.now site.now.limits (C.moment site.now.clock.now))
             (outside self.old.reader (L.left link.old) (L.given link.old) worker.old.trail worker.old.purse (L.faults link.old))
             (outside self.new.reader (L.left link.new) (L.given link.new) worker.new.trail worker.new.purse (L.faults link.new))
             self.old.stage self.new.stage }
@@ -156,7 +156,7 @@ impl Connection {
         requires held { IsServedBy worker.old.purse.sessions stage }
         ensures pass { IsPassOf site.now.directory.now worker.new.purse.directory }
         ensures held { IsServedBy worker.new.purse.sessions result }
-        ensures moves { Moves (setting site.now.hosts.now site.now.limit (C.moment site.now.clock.now))
+        ensures moves { Moves (setting site.now.hosts.now site.now.limits (C.moment site.now.clock.now))
             (outside self.old.reader (L.left link.old) (L.given link.old) worker.old.trail worker.old.purse (L.faults link.old))
             (outside self.new.reader (L.left link.new) (L.given link.new) worker.new.trail worker.new.purse (L.faults link.new))
             stage result }
@@ -257,7 +257,7 @@ pub(crate) fn ask<R: Wait, C: Clock, B: Bell, M: Names>(
     requires pass { IsPassOf site.now.directory.now worker.old.purse.directory }
     ensures pass { IsPassOf site.now.directory.now worker.new.purse.directory }
     ensures held { IsServedBy worker.new.purse.sessions result }
-    ensures moves { (stream given : Option (List ℕ)) → (faults : ℕ) → Moves (setting site.now.hosts.now site.now.limit (C.moment site.now.clock.now))
+    ensures moves { (stream given : Option (List ℕ)) → (faults : ℕ) → Moves (setting site.now.hosts.now site.now.limits (C.moment site.now.clock.now))
         (record { stream = stream; given = given; trail = worker.old.trail; purse = worker.old.purse; faults = faults })
         (record { stream = stream; given = given; trail = worker.new.trail; purse = worker.new.purse; faults = faults })
         (Stage.Asked body closing) result }

@@ -23,7 +23,7 @@ use bosh_types::{
 };
 use server_ports::{Clock, Names};
 use session_attrs::Request;
-use session_table::{NewSession, Opening};
+use session_table::{Limits, NewSession, Opening};
 use std::alloc::{AllocError, Global};
 use std::sync::Wait;
 
@@ -40,16 +40,16 @@ impl<B: Bell, M: Names> Worker<B, M> {
         requires pass { IsPassOf site.now.directory.now self.old.purse.directory }
         requires asks { asked_of site.now.hosts.now body ≡ Asked.Creation request place }
         ensures pass { IsPassOf site.now.directory.now self.new.purse.directory }
-        ensures answers { IfOk result (Answers (setting site.now.hosts.now site.now.limit (C.moment site.now.clock.now)) body self.old.trail self.new.trail
+        ensures answers { IfOk result (Answers (setting site.now.hosts.now site.now.limits (C.moment site.now.clock.now)) body self.old.trail self.new.trail
             self.old.purse self.new.purse) }
         ensures err { OnErr result (self.new.trail ≡ self.old.trail) }
-        ensures lost { OnErr result (IsLost (setting site.now.hosts.now site.now.limit (C.moment site.now.clock.now)) body self.old.purse self.new.purse) }
+        ensures lost { OnErr result (IsLost (setting site.now.hosts.now site.now.limits (C.moment site.now.clock.now)) body self.old.purse self.new.purse) }
         ensures silences { B.silences self.new.bell ≡ B.silences self.old.bell }
     {
         let name = self.names.name()?;
         let host = host_at(site.hosts, place);
         let at = site.clock.now();
-        let opening = opening_at(site.alloc, name, host, request, body, at, site.limit)?;
+        let opening = opening_at(site.alloc, name, host, request, body, at, site.limits)?;
         let new = self.purse.open(rt, site.directory, opening)?;
         match new {
             NewSession::Opened { number, answer } => {
@@ -95,14 +95,14 @@ fn opening_at(
     request: Request,
     body: SharedText,
     at: Moment,
-    limit: u64,
+    limits: Limits,
 ) -> Result<Opening, AllocError>
     requires name { IsNamePart name }
     requires host { IsTrue (can_serve host.now) }
     requires read { IsReadFrom body request }
     requires creation { (creation : Creation) × (request.kind ≡ kinds.Creation creation) }
     ensures may { IfOk result MayOpen }
-    ensures is { (site : Setting) → IsNow site at → limit ≡ site.limit → IfOk result (IsOpeningAt site host.now request body) }
+    ensures is { (site : Setting) → IsNow site at → limits ≡ site.limits → IfOk result (IsOpeningAt site host.now request body) }
 {
     let host_name = SharedText::new(alloc, host.name.copy_in(alloc)?)?;
     let greeting = Stanzas::from_vec(copy_items(alloc, host.greeting.as_slice())?);
@@ -113,6 +113,6 @@ fn opening_at(
         request,
         body,
         at,
-        limit,
+        limits,
     })
 }

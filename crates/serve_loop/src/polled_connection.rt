@@ -117,7 +117,7 @@ impl PolledConnection {
         requires held { IsServedBy worker.old.purse.sessions self.old.standing.stage }
         ensures pass { IsPassOf site.now.directory.now worker.new.purse.directory }
         ensures held { IsServedBy worker.new.purse.sessions self.new.standing.stage }
-        ensures moves { Steps (setting site.now.hosts.now site.now.limit (C.moment site.now.clock.now))
+        ensures moves { Steps (setting site.now.hosts.now site.now.limits (C.moment site.now.clock.now))
             (outside self.old.reader (K.left link.old) (K.given link.old) worker.old.trail worker.old.purse (K.faults link.old))
             (outside self.new.reader (K.left link.new) (K.given link.new) worker.new.trail worker.new.purse (K.faults link.new))
             self.old.standing self.new.standing }
@@ -161,7 +161,7 @@ impl PolledConnection {
         requires held { IsServedBy worker.old.purse.sessions standing.stage }
         ensures pass { IsPassOf site.now.directory.now worker.new.purse.directory }
         ensures held { IsServedBy worker.new.purse.sessions result.standing.stage }
-        ensures moves { Steps (setting site.now.hosts.now site.now.limit (C.moment site.now.clock.now))
+        ensures moves { Steps (setting site.now.hosts.now site.now.limits (C.moment site.now.clock.now))
             (outside self.old.reader (K.left link.old) (K.given link.old) worker.old.trail worker.old.purse (K.faults link.old))
             (outside self.new.reader (K.left link.new) (K.given link.new) worker.new.trail worker.new.purse (K.faults link.new))
             standing result.standing }

@@ -27,7 +27,7 @@ pub fn serve_polled<R: Wait, K: Polled, C: Clock, B: Bell, M: Names>(
     ensures pass { IsPassOf site.now.directory.now worker.new.purse.directory }
 
     // What was read, answered and told, in order, what was added for it to which history, and how the connection ended.
-    ensures served { Serves (setting site.now.hosts.now site.now.limit (C.moment site.now.clock.now))
+    ensures served { Serves (setting site.now.hosts.now site.now.limits (C.moment site.now.clock.now))
         (outside [] (K.left link.old) (K.given link.old) worker.old.trail worker.old.purse (K.faults link.old))
         (K.left link.new) (K.given link.new) worker.new.trail worker.new.purse (K.faults link.new) result }
     ensures silent { result ≡ ConnectionEnd.Silent → HasRisen (B.silences worker.old.bell) (B.silences worker.new.bell) }

@@ -23,7 +23,7 @@ pub fn serve_connection<R: Wait, L: Link, C: Clock, B: Bell, M: Names>(
     ensures pass { IsPassOf site.now.directory.now worker.new.purse.directory }
 
     // What was read, answered and told, in order, what was added for it to which history, and how the connection ended.
-    ensures served { Serves (setting site.now.hosts.now site.now.limit (C.moment site.now.clock.now))
+    ensures served { Serves (setting site.now.hosts.now site.now.limits (C.moment site.now.clock.now))
         (outside [] (L.left link.old) (L.given link.old) worker.old.trail worker.old.purse (L.faults link.old))
         (L.left link.new) (L.given link.new) worker.new.trail worker.new.purse (L.faults link.new) result }
     ensures silent { result ≡ ConnectionEnd.Silent → HasRisen (B.silences worker.old.bell) (B.silences worker.new.bell) }

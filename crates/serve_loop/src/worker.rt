@@ -9,18 +9,17 @@ use bosh_ports::Bell;
 use bosh_types::HostNames;
 use parked_gate::Gate;
 use server_ports::{Clock, Names};
-use session_table::{Directory, Purse};
+use session_table::{Directory, Limits, Purse};
 use std::alloc::{AllocError, Global};
 
-/// What all workers share: the directory at its gate, the hosts, the time, and how many counted bytes the journal of a session may
-/// have.
+/// What all workers share: the directory at its gate, the hosts, the time, and the limits that sessions are opened within.
 #[derive(Drop)]
 pub struct Site<'s, C: Clock> {
     pub alloc: Global,
     pub directory: &'s Gate<Directory>,
     pub hosts: &'s HostNames,
     pub clock: &'s C,
-    pub limit: u64,
+    pub limits: Limits,
     // A session can be opened at each of the hosts.
     pub ghost serves: { IsTrue (list_all can_serve hosts.now) },
 }
@@ -32,9 +31,9 @@ impl<'s, C: Clock> Site<'s, C> {
         directory: &'s Gate<Directory>,
         hosts: &'s HostNames,
         clock: &'s C,
-        limit: u64,
+        limits: Limits,
     ) -> Result<Option<Site<'s, C>>, AllocError>
-        ensures some { IfOk result (λ site. IfSome site (λ site. (site.directory.now ≡ directory.now) × (site.hosts.now ≡ hosts.now) × (site.clock.now ≡ clock.now) × (site.limit ≡ limit))) }
+        ensures some { IfOk result (λ site. IfSome site (λ site. (site.directory.now ≡ directory.now) × (site.hosts.now ≡ hosts.now) × (site.clock.now ≡ clock.now) × (site.limits ≡ limits))) }
         ensures none { IfOk result (λ site. IfNone site (list_all can_serve hosts.now ≡ false)) }
     {
         if !can_serve_all(alloc, hosts)? {
@@ -45,7 +44,7 @@ impl<'s, C: Clock> Site<'s, C> {
             directory,
             hosts,
             clock,
-            limit,
+            limits,
         }))
     }
 }

@@ -119,7 +119,7 @@ impl Link for PlannedLink {
     }
 }
 
-/// It has all its bytes from the beginning, and so it always answers where it is asked.
+/// It has all its bytes from the beginning, and so it always answers where it is asked. Its peer stays.
 impl Polled for PlannedLink {
     ghost left = { λ l. Some l.link.taking.bytes };
 
@@ -131,12 +131,18 @@ impl Polled for PlannedLink {
 
     ghost waits = { λ _. 0 };
 
+    ghost leaves = { λ _. 0 };
+
     fn poll_take(&mut self, into: &mut [u8]) -> Option<Got> {
         Some(self.take(into))
     }
 
     fn poll_give(&mut self, bytes: &[u8]) -> Option<Gave> {
         Some(self.give(bytes))
+    }
+
+    fn has_left(&mut self) -> bool {
+        false
     }
 
     fn close(&mut self) {

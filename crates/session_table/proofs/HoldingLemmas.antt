@@ -3,7 +3,6 @@ use Rattle.std.proofs.Common.{◌≡◌, ◌≤◌, ◌<◌, ◌+◌, ℕ, Bool,
 use Rattle.std.specs.Prelude.{All, Contains, OnErr, Result, Ok, Err, bytes_eq}
 use Rattle.std.specs.declared.alloc.AllocError.{AllocError}
 use Rattle.std.proofs.lemmas.List.Elements.{All-cons, All-contains, All-filter, All-head, All-map, All-nil, All-tail}
-use Rattle.bosh_types.specs.Limits.{most_openings}
 use Rattle.parked_gate.specs.Histories.{Appends}
 use Rattle.parked_gate.specs.Passes.{Calls, Known, known}
 use Rattle.session_table.specs.declared.calls.DirectoryCall.TheVariants as calls
@@ -18,7 +17,7 @@ use Rattle.session_table.specs.Keeping.{session_of}
 use Rattle.session_table.specs.Purses.{IsFound, IsNotHeld, IsNumberOf, OpensOrNot, OthersStay, Sessions, found_of, held, own_entries}
 use Rattle.session_table.specs.Replies.{Finds, Opens, RepliesTo, live_sessions}
 use Rattle.session_table.specs.Sessions.{OpenedSession}
-use Rattle.session_table.specs.Sids.{IsSidOf}
+use Rattle.session_table.specs.Sids.{IsSidOf, highest_number}
 use Rattle.session_table.proofs.KeepingLemmas.{Numbers, all_below, opened_below}
 use Rattle.session_table.proofs.LiveLists.{filter_below, named_all}
 use Rattle.session_table.proofs.PassLemmas.{enters_nothing, finds, found_by_name, holds_found}
@@ -40,7 +39,7 @@ pub unnumbered : (sessions : Sessions) (sid : List ℕ) (found : Option ℕ) →
 unnumbered sessions sid found is numbers number few named = absurd (none_some number (sym is ∙ numbers number few named))
 
 module _ (sessions : Sessions) (sid : List ℕ) (found : Option ℕ) (n : ℕ) (is : found ≡ Some n) (numbers : Numbers sid found) where
-  same_number : (number : ℕ) → number ≤ most_openings → IsSidOf sid number → held sessions number ≡ held sessions n
+  same_number : (number : ℕ) → number ≤ highest_number → IsSidOf sid number → held sessions number ≡ held sessions n
   same_number number few named = ap (held sessions) (some_same number n (sym (numbers number few named) ∙ is))
 
   pub numbered_so : IsNumberOf sid n
@@ -63,7 +62,7 @@ own_none sid x none = by (bytes_eq x.sid sid)
     by false = refl
 
 -- who is found has its name's number
-found_number : (log : List Entry) (sid : List ℕ) (x : SessionHandle) → IsLegal log → Finds log sid x → (x.number ≤ most_openings) × IsSidOf sid x.number
+found_number : (log : List Entry) (sid : List ℕ) (x : SessionHandle) → IsLegal log → Finds log sid x → (x.number ≤ highest_number) × IsSidOf sid x.number
 found_number log sid x legal found =
     let below = named_all (λ s. s.number < length (openings_of log) + 1) sid (live_of log) (session_of x)
     (all_below _ (live_of log) (filter_below _ _ (openings_of log) (opened_below log))) found.live in (

@@ -1,5 +1,5 @@
 -- What a directory keeps, as its history goes on.
-use Rattle.std.proofs.Common.{◌≡◌, ◌⊎◌, ◌≤◌, ◌<◌, ◌+◌, ℕ, zero, suc, Bool, true, false, cond, List, [], ◌∷◌, ◌++◌, length, map, filter, All, Option, Some, None, refl, sym, ◌∙◌, ap, subst, inl, inr, length-append, le_trans, arith}
+use Rattle.std.proofs.Common.{◌≡◌, ◌⊎◌, ◌≤◌, ◌<◌, ◌+◌, ℕ, zero, suc, Bool, true, false, cond, List, [], ◌∷◌, ◌++◌, length, map, filter, All, Option, Some, None, refl, sym, ◌∙◌, ap, subst, inl, inr, length-append, arith}
 use Rattle.std.specs.Prelude.{Contains, bytes_eq}
 use Rattle.std.specs.BTreeMap.{insert_entry, is_at}
 use Rattle.std.specs.List.{cons_option, filter_map, slice_index_or}
@@ -10,7 +10,6 @@ use Rattle.std.proofs.lemmas.List.{append-nil, map-append}
 use Rattle.std.proofs.lemmas.List.Elements.{All-append, All-contains, All-filter, All-head, All-tail, Contains-append_left, filter_map-append}
 use Rattle.std.proofs.lemmas.List.Folds.{list_any_none}
 use Rattle.std.proofs.lemmas.Slice.Eq.{bytes_eq-Decides}
-use Rattle.bosh_types.specs.Limits.{most_openings, most_sessions}
 use Rattle.std.specs.Arc.{arc_value}
 use Rattle.parked_gate.specs.Passes.{GateId, gate_of}
 use Rattle.session_table.specs.Handles.{IsOfSame}
@@ -19,7 +18,7 @@ use Rattle.session_table.specs.declared.handle.SessionHandle.{SessionHandle}
 use Rattle.session_table.specs.History.{IsLegal, live_at, live_of, opening_in, openings_of, removal_in, removals_of}
 use Rattle.session_table.specs.Keeping.{Keeps, session_of}
 use Rattle.session_table.specs.Sessions.{OpenedSession, by_number, is_removed, live_among, numbered_from, sids}
-use Rattle.session_table.specs.Sids.{IsSidOf}
+use Rattle.session_table.specs.Sids.{IsSidOf, highest_number}
 use Rattle.session_table.proofs.LiveLists.{AllBelow, AllNumberedBy, Ascends, at_same, filter_ascends, filter_below, inserted_last, length-numbered_from, live_after_opening, live_after_removal, named_all, named_by_number, named_has, none_above, numbered_from-append, numbers_ascend, numbers_below, removed_by_number, tested, with_name, without}
 use Rattle.session_table.proofs.MapLists.{insert-seen, lookup-seen, remove-seen, set-seen}
 use Rattle.session_table.proofs.SidLemmas.{one_number}
@@ -58,7 +57,7 @@ same_bytes xs ys is = (bytes_eq-Decides xs ys).0 is
 
 -- what the number at the end of a name tells: the name is of no other number
 abbrev pub Numbers : List ℕ → Option ℕ → Type 0
-Numbers sid found = (number : ℕ) → number ≤ most_openings → IsSidOf sid number → found ≡ Some number
+Numbers sid found = (number : ℕ) → number ≤ highest_number → IsSidOf sid number → found ≡ Some number
 
 some_same : {A : Type 0} (a b : A) → Some a ≡ Some b → a ≡ b
 some_same a b e = cc
@@ -67,7 +66,7 @@ abbrev IsNamed : OpenedSession → Type 0
 IsNamed s = IsSidOf s.sid s.number
 
 -- so the live session of that name has that number
-numbered_by : (sid : List ℕ) (n top : ℕ) (found : Option ℕ) (ss : List OpenedSession) → top ≤ most_openings → found ≡ Some n → Numbers sid found
+numbered_by : (sid : List ℕ) (n top : ℕ) (found : Option ℕ) (ss : List OpenedSession) → top ≤ highest_number → found ≡ Some n → Numbers sid found
     → AllBelow (top + 1) ss → All IsNamed ss → AllNumberedBy sid n ss
 numbered_by sid n top found [] few is numbers low names = tt
 numbered_by sid n top found (s ∷ ss) few is numbers low names = (
@@ -84,14 +83,6 @@ live_numbered log sid n found legal is numbers =
 
 contains_later : {X : Type 0} (x y : X) (xs : List X) → Contains xs y → Contains (x ∷ xs) y
 contains_later x y xs c = (suc c.0, omega (arith, c.1), c.2)
-
-fewer : {X : Type 0} (p : X → Bool) (xs : List X) → length (filter p xs) ≤ length xs
-fewer p [] = omega arith
-fewer p (x ∷ xs) = by (p x) (fewer p xs)
-  where
-    by : (b : Bool) → length (filter p xs) ≤ length xs → length (cond b (x ∷ filter p xs) (filter p xs)) ≤ suc (length xs)
-    by true le = omega arith
-    by false le = omega arith
 
 all_none : {X : Type 0} (P : X → Type 0) → All P []
 all_none P k d in_it = absurd (omega (arith, in_it))
@@ -161,7 +152,7 @@ keeps_nothing handles log none nothing =
     subst (λ hs. Keeps hs log 0) (sym none) (subst (λ l. Keeps [] l 0) (sym nothing) (record {
       live = refl;
       openings_are = refl;
-      legal = record { named = all_none _; opened = all_none _; few_live = omega arith; few_opened = omega arith };
+      legal = record { named = all_none _; opened = all_none _; few_opened = omega arith };
     }))
 
 -- ---- a search by name
@@ -226,7 +217,7 @@ module _ (handles : List (ℕ × SessionHandle)) (log : List Entry) (openings : 
   -- a session is opened under the next number
   module _ (e : Entry) (h : SessionHandle) (opens : opening_in e ≡ Some (h.sid, (session_of h).gate)) (stays : removal_in e ≡ None)
       (number : h.number ≡ openings + 1) (is_sid : IsSidOf h.sid h.number)
-      (not_full : length (live_of log) < most_sessions) (not_spent : openings < most_openings) where
+      (not_spent : openings < highest_number) where
     next_number : h.number ≡ length (openings_of log) + 1
     next_number = number ∙ ap (λ n. n + 1) keeps.openings_are
 
@@ -272,8 +263,7 @@ module _ (handles : List (ℕ × SessionHandle)) (log : List Entry) (openings : 
       opened = subst (All (Contains (sids (openings_of (log ++ e ∷ []))))) (sym removed_then)
           (λ k d in_it. subst (λ l. Contains l (slice_index_or (removals_of log) k d)) (sym sids_then)
           (Contains-append_left (sids (openings_of log)) (h.sid ∷ []) _ (keeps.legal.opened k d in_it)));
-      few_live = subst (λ l. length l ≤ most_sessions) (sym live_then) (omega (arith, length-append (live_of log) (session_of h ∷ []), not_full));
-      few_opened = subst (λ l. length l ≤ most_openings) (sym opened_then)
+      few_opened = subst (λ l. length l ≤ highest_number) (sym opened_then)
           (omega (arith, length-append (openings_of log) (session_of h ∷ []), not_spent, keeps.openings_are));
     }
 
@@ -290,14 +280,13 @@ module _ (handles : List (ℕ × SessionHandle)) (log : List Entry) (openings : 
 
   -- the same, as the directory's value says it
   pub entered : (value : List Entry) → log ≡ value → (e : Entry) (h : SessionHandle) → opening_in e ≡ Some (h.sid, (session_of h).gate) → removal_in e ≡ None
-      → h.number ≡ length (openings_of value) + 1 → IsSidOf h.sid h.number → length (live_of value) < most_sessions → length (openings_of value) < most_openings
+      → h.number ≡ length (openings_of value) + 1 → IsSidOf h.sid h.number → length (openings_of value) < highest_number
       → (later : List (ℕ × SessionHandle)) → later ≡ insert_entry nat_cmp handles h.number h → (items : List Entry) → items ≡ log ++ e ∷ [] → Keeps later items h.number
-  entered value is e h opens stays number is_sid not_full not_spent later later_is items items_are =
+  entered value is e h opens stays number is_sid not_spent later later_is items items_are =
       subst (λ l. Keeps later l h.number) (sym items_are)
       (keeps_opened e h opens stays
       (number ∙ (ap (λ l. length (openings_of l) + 1) (sym is) ∙ ap (λ n. n + 1) (sym keeps.openings_are)))
       is_sid
-      (subst (λ l. length (live_of l) < most_sessions) (sym is) not_full)
       (omega (arith, keeps.openings_are, ap (λ l. length (openings_of l)) is, not_spent))
       later later_is)
 
@@ -347,8 +336,7 @@ module _ (handles : List (ℕ × SessionHandle)) (log : List Entry) (openings : 
         opened = subst (λ rs. All (Contains (sids (openings_of (log ++ e ∷ [])))) rs) (sym removed_now)
             (subst (λ os. All (Contains (sids os)) (removals_of log ++ sid ∷ [])) (sym opened_still)
             (All-append (Contains (sids (openings_of log))) (removals_of log) (sid ∷ []) keeps.legal.opened (all_cons (Contains (sids (openings_of log))) sid [] was_opened (all_none (Contains (sids (openings_of log)))))));
-        few_live = subst (λ l. length l ≤ most_sessions) (sym live_now) (le_trans (fewer _ (live_of log)) keeps.legal.few_live);
-        few_opened = subst (λ os. length os ≤ most_openings) (sym opened_still) keeps.legal.few_opened;
+        few_opened = subst (λ os. length os ≤ highest_number) (sym opened_still) keeps.legal.few_opened;
       };
     }
 

@@ -6,7 +6,6 @@ use Rattle.std.specs.List.{list_all}
 use Rattle.std.proofs.lemmas.Bool.Decides.{nat_tests}
 use Rattle.std.proofs.lemmas.Fmt.{length-decimal-le}
 use Rattle.bosh_types.specs.declared.terms.Terms.{Terms}
-use Rattle.bosh_types.specs.Limits.{most_openings}
 use Rattle.body_cutter.specs.BodyText.{IsText}
 use Rattle.body_cutter.proofs.Leads.{both}
 use Rattle.body_writer.proofs.Plain.{all_plain, decimal_plain, is_plain_byte, plain-append, plain_text}
@@ -15,7 +14,7 @@ use Rattle.session_attrs.specs.Terms.{terms_of}
 use Rattle.session_core.specs.Journal.{IsOpening}
 use Rattle.session_table.specs.declared.opening.Opening.{Opening}
 use Rattle.session_table.specs.Replies.{MayOpen, session_opening}
-use Rattle.session_table.specs.Sids.{sid_of}
+use Rattle.session_table.specs.Sids.{highest_number, sid_of}
 
 plain_name_byte : (b : ℕ) → is_name_byte b ≡ true → is_plain_byte b ≡ true
 plain_name_byte b is = grind (arith, nat_tests, is)
@@ -30,7 +29,7 @@ name_plain (b ∷ bytes) all =
     and_true true q yes_ yes'_ = yes'_
     and_true false q yes_ yes'_ = yes_
 
-sid_text : (name : List ℕ) (number : ℕ) → IsNamePart name → number ≤ most_openings → IsText (sid_of name number) × (1 ≤ length (sid_of name number)) × (length (sid_of name number) ≤ 64)
+sid_text : (name : List ℕ) (number : ℕ) → IsNamePart name → number ≤ highest_number → IsText (sid_of name number) × (1 ≤ length (sid_of name number)) × (length (sid_of name number) ≤ 64)
 sid_text name number is few = (
   plain_text (sid_of name number) (plain-append name (decimal number) (name_plain name is.allowed) (decimal_plain number (omega arith))),
   omega (arith, length-append name (decimal number), is.some),
@@ -38,7 +37,7 @@ sid_text name number is few = (
 )
 
 -- the session is opened under its name
-pub may_open : (o : Opening) (number : ℕ) (sid : List ℕ) (terms : Terms) (may : MayOpen o) → number ≤ most_openings
+pub may_open : (o : Opening) (number : ℕ) (sid : List ℕ) (terms : Terms) (may : MayOpen o) → number ≤ highest_number
     → terms ≡ terms_of may.creation.0 → sid ≡ sid_of o.name number → IsOpening (session_opening sid terms o)
 may_open o number sid terms may few terms_is sid_is =
     subst (λ s. IsOpening (session_opening s terms o)) (sym sid_is) (record {

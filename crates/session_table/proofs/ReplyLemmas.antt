@@ -7,7 +7,6 @@ use Rattle.session_table.specs.declared.calls.DirectoryCall.{DirectoryCall}
 use Rattle.session_table.specs.declared.calls.DirectoryCall.TheVariants as calls
 use Rattle.session_table.specs.declared.calls.DirectoryReply.{DirectoryReply}
 use Rattle.session_table.specs.declared.calls.DirectoryReply.TheVariants as replies
-use Rattle.bosh_types.specs.Limits.{most_openings, most_sessions}
 use Rattle.parked_gate.specs.Histories.{Appends}
 use Rattle.parked_gate.specs.Passes.{GateId, gate_of, known}
 use Rattle.session_journal.specs.declared.entry.Entry as journal
@@ -33,14 +32,14 @@ starts_split number o x y answer starts split = record {
 
 pub step_opened : (value later : List Entry) (caller openings : ℕ) (o : Opening) (started kept handed : SessionHandle) (answer : List ℕ)
     → openings ≡ length (openings_of value) → Starts (openings + 1) o started answer → IsSameHandle started kept → IsSplitOf started handed
-    → EntersOpening value caller kept later → length (live_of value) < most_sessions → openings < most_openings
+    → EntersOpening value caller kept later → length (live_of value) < o.limits.live → openings < o.limits.openings
     → (made : Option Entry) × Appends (λ e. e.caller) caller value made later × Opens value o (record { session = handed; answer = answer }) made
 step_opened value later caller openings o started kept handed answer count starts same split enters not_full not_spent = (
   Some enters.entry,
   (enters.appended, enters.caller_is),
   record {
     not_full = not_full;
-    not_spent = subst (λ n. n < most_openings) count not_spent;
+    not_spent = subst (λ n. n < o.limits.openings) count not_spent;
     starts = subst (λ n. Starts (n + 1) o handed answer) count (starts_split (openings + 1) o started handed answer starts split);
     mine = split.mine;
     entry = enters.entry;

@@ -11,9 +11,8 @@ use Rattle.std.specs.Fmt.{decimal}
 use Rattle.std.specs.Int.{IsInRange}
 use Rattle.std.specs.Str.{IsUtf8}
 use Rattle.std.specs.Str.Parse.{ParsesUnsigned, digits_value}
-use Rattle.bosh_types.specs.Limits.{most_openings}
 use Rattle.server_ports.specs.Names.{IsNamePart, last_is_digit}
-use Rattle.session_table.specs.Sids.{EndsInDigits, IsSidOf, sid_of}
+use Rattle.session_table.specs.Sids.{EndsInDigits, IsSidOf, highest_number, sid_of}
 
 own : IsNumeralModel (λ ds. (i : ℕ) → i < length ds → IsInRange 48 57 (get_or ds i 0)) (digits_value 10)
 own = numerals_by_value _ tells_by_index
@@ -59,18 +58,18 @@ module _ (part : List ℕ) (number : ℕ) (is : IsNamePart part) (small : number
       let e' : EndsInDigits (sid_of part number) digits = subst (λ t. EndsInDigits t digits) text_is e in
       e'.digits_are ∙ ap (λ k. drop k (sid_of part number)) (starts_after digits e') ∙ drop-append_seam part (decimal number)
 
-small_opening : (number : ℕ) → number ≤ most_openings → number < 2 ^ 64
+small_opening : (number : ℕ) → number ≤ highest_number → number < 2 ^ 64
 small_opening number few = omega arith
 
 -- what the digits at the end of a name are
-pub digits_of_sid : (sid digits : List ℕ) (number : ℕ) → number ≤ most_openings → IsSidOf sid number → EndsInDigits sid digits → digits ≡ decimal number
+pub digits_of_sid : (sid digits : List ℕ) (number : ℕ) → number ≤ highest_number → IsSidOf sid number → EndsInDigits sid digits → digits ≡ decimal number
 digits_of_sid sid digits number few is e = ends_in_number is.0 number is.1 (small_opening number few) sid digits is.2 e
 
-pub digits_are_utf8 : (sid digits : List ℕ) (number : ℕ) → number ≤ most_openings → IsSidOf sid number → EndsInDigits sid digits → IsUtf8 digits
+pub digits_are_utf8 : (sid digits : List ℕ) (number : ℕ) → number ≤ highest_number → IsSidOf sid number → EndsInDigits sid digits → IsUtf8 digits
 digits_are_utf8 sid digits number few is e =
     subst IsUtf8 (sym (digits_of_sid sid digits number few is e)) (IsUtf8-from_ascii _ (IsAscii-decimal number (small_opening number few)))
 
-pub digits_parse : {E : Type 0} (sid digits text : List ℕ) (number : ℕ) (parsed : Result ℕ E) → number ≤ most_openings → IsSidOf sid number
+pub digits_parse : {E : Type 0} (sid digits text : List ℕ) (number : ℕ) (parsed : Result ℕ E) → number ≤ highest_number → IsSidOf sid number
     → EndsInDigits sid digits → text ≡ digits → ParsesUnsigned 64 10 text parsed → parsed ≡ Ok number
 digits_parse sid digits text number parsed few is e text_is parses =
     parse-decimal 64 number text parsed (small_opening number few) (small_opening number few) (text_is ∙ digits_of_sid sid digits number few is e) parses
@@ -91,7 +90,7 @@ ends_of part number is small = record {
     before_length k last = omega arith
 
 -- a name has one number
-pub one_number : (sid : List ℕ) (m n : ℕ) → m ≤ most_openings → n ≤ most_openings → IsSidOf sid m → IsSidOf sid n → m ≡ n
+pub one_number : (sid : List ℕ) (m n : ℕ) → m ≤ highest_number → n ≤ highest_number → IsSidOf sid m → IsSidOf sid n → m ≡ n
 one_number sid m n few few' is is' =
     let ends : EndsInDigits sid (decimal m) = subst (λ s. EndsInDigits s (decimal m)) (sym is.2) (ends_of is.0 m is.1 (small_opening m few)) in
     decimal_injective m n (small_opening m few) (small_opening n few') (digits_of_sid sid (decimal m) n few' is' ends)

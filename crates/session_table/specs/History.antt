@@ -2,13 +2,12 @@
 use Rattle.std.specs.Prelude.{ℕ, ◌≤◌, List, length, All, Contains, Option, Some, None}
 use Rattle.std.specs.List.{filter_map}
 use Rattle.std.specs.Option.{option_map}
-use Rattle.bosh_types.specs.Limits.{most_sessions, most_openings}
 use Rattle.parked_gate.specs.Passes.{GateId, gate_of}
 use Rattle.session_table.specs.declared.entry.Entry.{Entry}
 use Rattle.session_table.specs.declared.entry.Event.{Event}
 use Rattle.session_table.specs.declared.entry.Event.TheVariants as events
 use Rattle.session_table.specs.Sessions.{OpenedSession, numbered_from, live_among, named, sids}
-use Rattle.session_table.specs.Sids.{IsSidOf}
+use Rattle.session_table.specs.Sids.{IsSidOf, highest_number}
 
 -- the gate of a session that was opened
 abbrev pub gate_in : Event → Option GateId
@@ -44,9 +43,8 @@ abbrev pub live_at : List Entry → List ℕ → Option OpenedSession
 live_at log sid = named sid (live_of log)
 
 -- what is true of each history of a directory: each session has a name of its own number, what was removed had been opened,
--- and no more are live or were opened than may be
+-- and no more were opened than there are numbers
 pub record IsLegal (log : List Entry) : Type 0 where
   pub named : All (λ session. IsSidOf session.sid session.number) (openings_of log)
   pub opened : All (Contains (sids (openings_of log))) (removals_of log)
-  pub few_live : length (live_of log) ≤ most_sessions
-  pub few_opened : length (openings_of log) ≤ most_openings
+  pub few_opened : length (openings_of log) ≤ highest_number

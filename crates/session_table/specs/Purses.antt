@@ -3,7 +3,6 @@ use Rattle.std.specs.Prelude.{◌≡◌, ◌≢◌, ◌==◌, ◌≤◌, ◌⊎�
 use Rattle.std.specs.BTreeMap.{BTreeMap, IsUnchanged, get}
 use Rattle.std.specs.List.{list_any}
 use Rattle.std.specs.Ordering.{nat_cmp}
-use Rattle.bosh_types.specs.Limits.{most_openings}
 use Rattle.parked_gate.specs.Passes.{Known, known}
 use Rattle.session_journal.specs.declared.entry.Entry as journal
 use Rattle.session_table.specs.declared.calls.DirectoryReply.{DirectoryReply}
@@ -17,7 +16,7 @@ use Rattle.session_table.specs.declared.opening.Opening.{Opening}
 use Rattle.session_table.specs.Handles.{IsOfSame}
 use Rattle.session_table.specs.History.{live_of}
 use Rattle.session_table.specs.Replies.{IsFull, IsSpent, Opens}
-use Rattle.session_table.specs.Sids.{IsSidOf}
+use Rattle.session_table.specs.Sids.{IsSidOf, highest_number}
 
 abbrev pub Sessions : Type 0
 Sessions = BTreeMap ℕ SessionHandle
@@ -43,11 +42,11 @@ own_entries sid (Some handle) = if bytes_eq handle.sid sid then (known handle.pa
 
 -- no handle of the session of this name is held that made an entry
 abbrev pub IsNotHeld : Sessions → List ℕ → Type 0
-IsNotHeld sessions sid = (number : ℕ) → number ≤ most_openings → IsSidOf sid number → own_entries sid (held sessions number) ≡ []
+IsNotHeld sessions sid = (number : ℕ) → number ≤ highest_number → IsSidOf sid number → own_entries sid (held sessions number) ≡ []
 
 -- where the name has an opening number at its end, it is this one
 abbrev pub IsNumberOf : List ℕ → ℕ → Type 0
-IsNumberOf sid number = (told : ℕ) → told ≤ most_openings → IsSidOf sid told → number ≡ told
+IsNumberOf sid number = (told : ℕ) → told ≤ highest_number → IsSidOf sid told → number ≡ told
 
 -- the session of this name is held under its number: by the handle that was held, or by one that made no entry yet
 pub record IsFound (old new : Sessions) (number : ℕ) (sid : List ℕ) : Type 0 where
@@ -68,8 +67,8 @@ KeepsLive log old new = (number : ℕ) → held new number ≡ (if is_live log n
 abbrev pub OpensInto : List Entry → Opening → NewSession → Sessions → Option Entry → Type 0
 OpensInto log o (news.Opened number answer) sessions made =
     (handle : SessionHandle) × (held sessions number ≡ Some handle) × Opens log o (record { session = handle; answer = answer }) made
-OpensInto log o news.TableFull sessions made = (made ≡ None) × IsFull log
-OpensInto log o news.OpeningsSpent sessions made = (made ≡ None) × IsSpent log
+OpensInto log o news.TableFull sessions made = (made ≡ None) × IsFull o.limits log
+OpensInto log o news.OpeningsSpent sessions made = (made ≡ None) × IsSpent o.limits log
 
 -- a session was opened, or none
 abbrev pub OpensOrNot : List Entry → Opening → Option Entry → Type 0

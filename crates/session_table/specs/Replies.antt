@@ -7,7 +7,7 @@ use Rattle.body_cutter.specs.BodyText.{IsText}
 use Rattle.body_cutter.specs.Cutting.{is_stanza}
 use Rattle.body_writer.specs.Answer.{answer_text}
 use Rattle.bosh_types.specs.declared.terms.Terms.{Terms}
-use Rattle.bosh_types.specs.Limits.{most_sessions, most_openings, most_waiting, longest_stanza}
+use Rattle.bosh_types.specs.Limits.{most_waiting, longest_stanza}
 use Rattle.parked_gate.specs.Histories.{Appends}
 use Rattle.parked_gate.specs.Passes.{gate_of, known}
 use Rattle.server_ports.specs.Names.{IsNamePart}
@@ -31,6 +31,7 @@ use Rattle.session_table.specs.declared.calls.Question.{Question}
 use Rattle.session_table.specs.declared.calls.Question.TheVariants as questions
 use Rattle.session_table.specs.declared.entry.Entry.{Entry}
 use Rattle.session_table.specs.declared.handle.SessionHandle.{SessionHandle}
+use Rattle.session_table.specs.declared.opening.Limits.{Limits}
 use Rattle.session_table.specs.declared.opening.Opening.{Opening}
 use Rattle.session_table.specs.History.{openings_of, live_of, live_at, opening_in, removal_in}
 use Rattle.session_table.specs.Keeping.{session_of}
@@ -51,21 +52,22 @@ IsCallable (calls.Open o) = MayOpen o
 IsCallable (calls.Find sid) = Unit {0}
 IsCallable (calls.Remove sid) = Unit {0}
 
--- no more sessions may be live, or be opened
-abbrev pub IsFull : List Entry → Type 0
-IsFull log = length (live_of log) ≡ most_sessions
+-- no more sessions may be live within these limits
+abbrev pub IsFull : Limits → List Entry → Type 0
+IsFull limits log = limits.live ≤ length (live_of log)
 
-abbrev pub IsSpent : List Entry → Type 0
-IsSpent log = length (openings_of log) ≡ most_openings
+-- and no more may be opened
+abbrev pub IsSpent : Limits → List Entry → Type 0
+IsSpent limits log = limits.openings ≤ length (openings_of log)
 
 -- what the session itself is opened with, under its whole name and with its terms
 abbrev pub session_opening : List ℕ → Terms → Opening → core.Opening
 session_opening sid terms o =
-    record { request = o.request; body = o.body; terms = terms; sid = sid; host = o.host; greeting = o.greeting; at = o.at; limit = o.limit }
+    record { request = o.request; body = o.body; terms = terms; sid = sid; host = o.host; greeting = o.greeting; at = o.at; limit = o.limits.journal }
 
 -- what a session has seen of itself when it is opened
 abbrev pub first_seen : List ℕ → Opening → List journal_entry.Entry
-first_seen sid o = record { caller = 0; call = stored.Open sid o.host o.greeting o.body o.at o.limit } ∷ []
+first_seen sid o = record { caller = 0; call = stored.Open sid o.host o.greeting o.body o.at o.limits.journal } ∷ []
 
 -- what was seen of a session tells a journal, and this is the answer of its creation
 pub record IsAnswered (log : List journal_entry.Entry) (answer : List ℕ) : Type 0 where
@@ -82,8 +84,8 @@ pub record Starts (number : ℕ) (o : Opening) (x : SessionHandle) (answer : Lis
 
 -- a session was opened, under the name of the next opening number, and the entry tells of its gate
 pub record Opens (log : List Entry) (o : Opening) (x : Opened) (made : Option Entry) : Type 0 where
-  pub not_full : length (live_of log) < most_sessions
-  pub not_spent : length (openings_of log) < most_openings
+  pub not_full : length (live_of log) < o.limits.live
+  pub not_spent : length (openings_of log) < o.limits.openings
   pub starts : Starts (length (openings_of log) + 1) o x.session x.answer
   pub mine : (known x.session.pass).mine ≡ []
   pub entry : Entry
@@ -107,8 +109,8 @@ pub record Removes (log : List Entry) (sid : List ℕ) (made : Option Entry) : T
 abbrev pub RepliesTo : List Entry → DirectoryCall → Result DirectoryReply AllocError → Option Entry → Type 0
 RepliesTo log call (Err error) made = made ≡ None
 RepliesTo log (calls.Open o) (Ok (replies.Opened x)) made = Opens log o x made
-RepliesTo log (calls.Open o) (Ok replies.TableFull) made = (made ≡ None) × IsFull log
-RepliesTo log (calls.Open o) (Ok replies.OpeningsSpent) made = (made ≡ None) × (length (live_of log) < most_sessions) × IsSpent log
+RepliesTo log (calls.Open o) (Ok replies.TableFull) made = (made ≡ None) × IsFull o.limits log
+RepliesTo log (calls.Open o) (Ok replies.OpeningsSpent) made = (made ≡ None) × (length (live_of log) < o.limits.live) × IsSpent o.limits log
 RepliesTo log (calls.Open o) (Ok (replies.Found x)) made = ⊥
 RepliesTo log (calls.Open o) (Ok replies.Removed) made = ⊥
 RepliesTo log (calls.Open o) (Ok replies.Unknown) made = ⊥

@@ -4,6 +4,10 @@ use Rattle.std.specs.Char.{is_ascii_digit}
 use Rattle.std.specs.Fmt.{decimal}
 use Rattle.server_ports.specs.Names.{IsNamePart}
 
+-- opening numbers have at most 32 bits
+abbrev pub highest_number : ℕ
+highest_number = 4294967295
+
 -- a session's name is the part that was drawn for it, and then its opening number in decimal
 abbrev pub sid_of : List ℕ → ℕ → List ℕ
 sid_of part number = part ++ decimal number

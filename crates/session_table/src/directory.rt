@@ -1,7 +1,6 @@
 // The directory of live sessions.
 ghost use Rattle.std.specs.Prelude.{◌≡◌, ◌+◌, ◌<◌, ◌≤◌, [], IfOk, OnErr, OnOk, length};
 ghost use Rattle.std.specs.Option.{option_map};
-ghost use Rattle.bosh_types.specs.Limits.{most_openings, most_sessions};
 ghost use Rattle.session_attrs.specs.declared.request.Creation.{Creation};
 ghost use Rattle.session_attrs.specs.declared.request.Kind.TheVariants as kinds;
 ghost use Rattle.session_attrs.specs.Terms.{terms_of};
@@ -9,7 +8,7 @@ ghost use Rattle.session_table.specs.declared.calls.DirectoryCall.TheVariants as
 ghost use Rattle.session_table.specs.Entering.{EntersOpening, RemovesOrNot};
 ghost use Rattle.session_table.specs.History.{IsLegal, live_at, live_of, openings_of};
 ghost use Rattle.session_table.specs.Replies.{FindsOrNot, IsAnswered, MayOpen, Starts, Steps, first_seen, live_sessions, session_opening};
-ghost use Rattle.session_table.specs.Sids.{IsSidOf, sid_of};
+ghost use Rattle.session_table.specs.Sids.{IsSidOf, highest_number, sid_of};
 
 use crate::calls::{DirectoryReply, LiveSession, LiveSessions, Opened};
 use crate::entry::{Entry, Event};
@@ -17,7 +16,6 @@ use crate::handle::SessionHandle;
 use crate::opening::Opening;
 use crate::sid::{number_in, sid_text};
 use crate::timed::Timed;
-use bosh_types::limits::{MOST_OPENINGS, MOST_SESSIONS};
 use bosh_types::{SharedText, Stanzas, Terms, Text, copy_items};
 use parked_gate::Gate;
 use session_attrs::{Kind, Request, negotiate};
@@ -85,7 +83,8 @@ impl Directory {
         self.sessions.len()
     }
 
-    /// Opens a session for the creation, under the drawn part of its name and the next opening number.
+    /// Opens a session for the creation, under the drawn part of its name and the next opening number, where its limits allow one
+    /// more.
     pub(crate) fn open(
         &mut self,
         caller: u32,
@@ -95,10 +94,11 @@ impl Directory {
         ensures step { IfOk result (λ reply. Steps self.old caller (calls.Open opening.now) reply self.new) }
         ensures err { OnErr result (self.new ≡ self.old) }
     {
-        if self.live_count() >= MOST_SESSIONS as usize {
+        let limits = opening.limits;
+        if self.live_count() >= limits.live as usize {
             return Ok(DirectoryReply::TableFull);
         }
-        if self.openings >= u64::from(MOST_OPENINGS) {
+        if self.openings >= u64::from(limits.openings) {
             return Ok(DirectoryReply::OpeningsSpent);
         }
         let (mut session, answer) = start(self.alloc, self.openings + 1, opening)?;
@@ -112,8 +112,7 @@ impl Directory {
 
     /// The session is one of the live ones.
     fn enter(&mut self, caller: u32, session: SessionHandle) -> Result<(), AllocError>
-        requires not_full { length (live_of self.old) < most_sessions }
-        requires not_spent { length (openings_of self.old) < most_openings }
+        requires not_spent { length (openings_of self.old) < highest_number }
         requires number { session.number ≡ length (openings_of self.old) + 1 }
         requires sid { IsSidOf session.sid session.number }
         ensures ok { OnOk result (EntersOpening self.old caller session self.new) }
@@ -198,7 +197,7 @@ impl Directory {
 /// A session for the creation, behind a gate of its own.
 fn start(alloc: Global, number: u64, opening: &Opening) -> Result<Started, AllocError>
     requires may { MayOpen opening.now }
-    requires few { number ≤ most_openings }
+    requires few { number ≤ highest_number }
     ensures { IfOk result (λ started. Starts number opening.now started.0 started.1) }
 {
     let sid = sid_text(alloc, opening.name.as_slice(), number)?;
@@ -226,7 +225,7 @@ fn begin(
     opening: &Opening,
 ) -> Result<(Recorded, SharedText), AllocError>
     requires may { MayOpen opening.now }
-    requires few { number ≤ most_openings }
+    requires few { number ≤ highest_number }
     requires sid { sid.now ≡ sid_of opening.now.name number }
     ensures log { IfOk result (λ begun. begun.0.log ≡ first_seen sid.now opening.now) }
     ensures answer { IfOk result (λ begun. IsAnswered begun.0.log begun.1) }
@@ -255,7 +254,7 @@ fn session_opening(
         host: opening.host.again()?,
         greeting: Stanzas::from_vec(greeting),
         at: opening.at,
-        limit: opening.limit,
+        limit: opening.limits.journal,
     })
 }
 

@@ -21,6 +21,6 @@ pub use directory::Directory;
 pub use entry::{Entry, Event};
 pub use handle::SessionHandle;
 pub use laws::{live_sessions_are_told_by_number, names_differ};
-pub use opening::Opening;
+pub use opening::{Limits, Opening};
 pub use purse::Purse;
 pub use timed::{Timed, TimedAnswer, TimedQuestion};

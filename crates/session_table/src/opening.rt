@@ -2,7 +2,19 @@
 use bosh_types::{Moment, SharedText, Stanzas, Text};
 use session_attrs::Request;
 
-/// A creation, which its body gives, for a host with a greeting; and the part of the session's name that was drawn for it.
+/// How much may be kept where a session is opened.
+#[derive(Clone, Copy, Debug, PartialEq, Eq)]
+pub struct Limits {
+    /// How many sessions may be live at once.
+    pub live: u32,
+    /// How many may be opened since the directory was made.
+    pub openings: u32,
+    /// How many counted bytes the journal of each may have.
+    pub journal: u64,
+}
+
+/// A creation, which its body gives, for a host with a greeting; the part of the session's name that was drawn for it; and the limits
+/// that it is opened within.
 #[derive(Drop)]
 pub struct Opening {
     pub name: Text,
@@ -11,6 +23,5 @@ pub struct Opening {
     pub request: Request,
     pub body: SharedText,
     pub at: Moment,
-    /// How many counted bytes its journal may have.
-    pub limit: u64,
+    pub limits: Limits,
 }

@@ -1,9 +1,8 @@
 // The names of sessions, and the opening numbers at their ends.
 ghost use Rattle.std.specs.Prelude.{◌≡◌, ℕ, ◌≤◌, ◌<◌, ◌++◌, ◌-◌, List, IfOk, Some, drop, length, not};
 ghost use Rattle.std.specs.Char.{is_ascii_digit};
-ghost use Rattle.bosh_types.specs.Limits.{most_openings};
 ghost use Rattle.server_ports.specs.Names.{IsNamePart};
-ghost use Rattle.session_table.specs.Sids.{EndsInDigits, IsSidOf, sid_of};
+ghost use Rattle.session_table.specs.Sids.{EndsInDigits, IsSidOf, highest_number, sid_of};
 
 use bosh_types::{SharedText, Text};
 use std::alloc::{AllocError, Global};
@@ -35,7 +34,7 @@ fn digits_at_end(text: &[u8]) -> &[u8]
 
 /// The opening number at the end of a name. A text that is no name of a session may have another number or none.
 pub(crate) fn number_in(sid: &[u8]) -> Option<u64>
-    ensures { (number : ℕ) → number ≤ most_openings → IsSidOf sid.now number → result ≡ Some number }
+    ensures { (number : ℕ) → number ≤ highest_number → IsSidOf sid.now number → result ≡ Some number }
 {
     let Ok(digits) = str::from_utf8(digits_at_end(sid)) else {
         return None;

@@ -22,6 +22,7 @@ pub struct StoppableLink<R: Wait + Copy + Drop> {
     is_closed: bool,
     pub(crate) faults: u64,
     waits: u64,
+    leaves: u64,
 }
 
 impl<R: Wait + Copy + Drop> StoppableLink<R> {
@@ -42,6 +43,7 @@ impl<R: Wait + Copy + Drop> StoppableLink<R> {
             is_closed: false,
             faults: 0,
             waits: 0,
+            leaves: 0,
         }
     }
 
@@ -60,6 +62,7 @@ impl<R: Wait + Copy + Drop> StoppableLink<R> {
         ensures heard { (more : List ℕ) → asked_by self.new.heard more ≡ asked_by self.old.heard (bytes.now ++ more) }
         ensures faults { self.new.faults ≡ self.old.faults }
         ensures waits { self.new.waits ≡ self.old.waits }
+        ensures leaves { self.new.leaves ≡ self.old.leaves }
         ensures closed { self.new.is_closed ≡ self.old.is_closed }
     {
         let mut heard = self.heard;
@@ -72,6 +75,7 @@ impl<R: Wait + Copy + Drop> StoppableLink<R> {
         ensures heard { self.new.heard ≡ heard }
         ensures faults { self.new.faults ≡ self.old.faults }
         ensures waits { self.new.waits ≡ self.old.waits }
+        ensures leaves { self.new.leaves ≡ self.old.leaves }
         ensures closed { self.new.is_closed ≡ self.old.is_closed }
     {
         let was_asked = self.heard.is_asked;
@@ -88,6 +92,7 @@ impl<R: Wait + Copy + Drop> StoppableLink<R> {
         ensures risen { HasRisen self.old.faults self.new.faults }
         ensures never_falls { self.old.faults ≤ self.new.faults }
         ensures waits { self.new.waits ≡ self.old.waits }
+        ensures leaves { self.new.leaves ≡ self.old.leaves }
         ensures closed { self.new.is_closed ≡ self.old.is_closed }
     {
         self.faults = self.faults.saturating_add(1);
@@ -97,6 +102,7 @@ impl<R: Wait + Copy + Drop> StoppableLink<R> {
     fn wait(&mut self)
         ensures risen { HasRisen self.old.waits self.new.waits }
         ensures faults { self.new.faults ≡ self.old.faults }
+        ensures leaves { self.new.leaves ≡ self.old.leaves }
         ensures closed { self.new.is_closed ≡ self.old.is_closed }
     {
         self.waits = self.waits.saturating_add(1);
@@ -107,6 +113,7 @@ impl<R: Wait + Copy + Drop> StoppableLink<R> {
         ensures closed { self.new.is_closed ≡ true }
         ensures faults { self.new.faults ≡ self.old.faults }
         ensures waits { self.new.waits ≡ self.old.waits }
+        ensures leaves { self.new.leaves ≡ self.old.leaves }
     {
         if let Some(number) = self.number {
             self.stopper.leave(&self.rt, number);
@@ -171,6 +178,8 @@ impl<R: Wait + Copy + Drop> Polled for StoppableLink<R> {
 
     ghost waits = { λ l. l.waits };
 
+    ghost leaves = { λ l. l.leaves };
+
     // The end of what comes may be the stopper's doing.
     fn poll_take(&mut self, into: &mut [u8]) -> Option<Got> {
         if self.is_cut() {
@@ -216,6 +225,14 @@ impl<R: Wait + Copy + Drop> Polled for StoppableLink<R> {
                 None
             }
         }
+    }
+
+    fn has_left(&mut self) -> bool {
+        if !self.link.has_left() {
+            return false;
+        }
+        self.leaves = self.leaves.saturating_add(1);
+        true
     }
 
     fn close(&mut self) {

@@ -77,6 +77,8 @@ impl<R: Wait + Clock + Copy + Drop> Polled for ShownLink<R> {
 
     ghost waits = { λ l. l.waits };
 
+    ghost leaves = { λ _. 0 };
+
     fn poll_take(&mut self, into: &mut [u8]) -> Option<Got> {
         if self.has_nothing() {
             self.waits = self.waits.saturating_add(1);
@@ -91,6 +93,10 @@ impl<R: Wait + Clock + Copy + Drop> Polled for ShownLink<R> {
             return Some(Gave::Failed);
         }
         Some(Gave::Wrote(bytes.len()))
+    }
+
+    fn has_left(&mut self) -> bool {
+        false
     }
 
     fn close(&mut self) {}

@@ -7,7 +7,7 @@ use Rattle.serve_loop.proofs.connection.ask.Goals as goal
 
 pub returns-in-Ok-clause-moves : goal.returns-in-Ok-clause-moves
 returns-in-Ok-clause-moves g c stream given faults =
-    let site = setting c.args.site.now.hosts.now c.args.site.now.limit (g.C.Clock.moment c.args.site.now.clock.now) in
+    let site = setting c.args.site.now.hosts.now c.args.site.now.limits (g.C.Clock.moment c.args.site.now.clock.now) in
     let old = c.args.worker.now in
     let new = c.answer.new.self in
     subst (Moves site (after_write stream given old.trail old.purse faults) (after_write stream given new.trail new.purse faults) (stages.Asked c.args.body c.args.closing))

@@ -15,7 +15,7 @@ invariant-loop g l = record {
   held : IsServedBy l.worker.purse.sessions l.connection.standing.stage;
   first : Purse;
   dropped : DropsRemoved l.fn.worker.purse first;
-  stands : StandsAt (setting l.site.hosts.now l.site.limit (g.C.Clock.moment l.site.clock.now))
+  stands : StandsAt (setting l.site.hosts.now l.site.limits (g.C.Clock.moment l.site.clock.now))
       (outside [] (g.K.Polled.left l.fn.link) (g.K.Polled.given l.fn.link) l.fn.worker.trail first (g.K.Polled.faults l.fn.link))
       (outside l.connection.reader (g.K.Polled.left l.link) (g.K.Polled.given l.link) l.worker.trail l.worker.purse (g.K.Polled.faults l.link))
       l.connection.standing.place l.connection.standing.stage;

@@ -12,7 +12,7 @@ loop-init g c =
     let port = g.L.Link in
     let link = c.args.link.now in
     let trail = c.args.worker.now.trail in
-    let site = setting c.args.site.now.hosts.now c.args.site.now.limit (g.C.Clock.moment c.args.site.now.clock.now) in
+    let site = setting c.args.site.now.hosts.now c.args.site.now.limits (g.C.Clock.moment c.args.site.now.clock.now) in
     let purse = c.drop_removed.new.self in
     let new = c.new-connection in
     let start = outside [] (port.left link) (port.given link) trail purse (port.faults link) in
@@ -33,7 +33,7 @@ pub returns-then-is_silent-clause-served : goal.returns-then-is_silent-clause-se
 returns-then-is_silent-clause-served g c =
     let port = g.L.Link in
     let link = c.args.link.now in
-    let site = setting c.args.site.now.hosts.now c.args.site.now.limit (g.C.Clock.moment c.args.site.now.clock.now) in
+    let site = setting c.args.site.now.hosts.now c.args.site.now.limits (g.C.Clock.moment c.args.site.now.clock.now) in
     let all = c.loop.invariant in
     let start = outside [] (port.left link) (port.given link) c.args.worker.now.trail all.first (port.faults link) in
     let new = c.step.new in
@@ -47,7 +47,7 @@ pub returns-in-Over-clause-served : goal.returns-in-Over-clause-served
 returns-in-Over-clause-served g c =
     let port = g.L.Link in
     let link = c.args.link.now in
-    let site = setting c.args.site.now.hosts.now c.args.site.now.limit (g.C.Clock.moment c.args.site.now.clock.now) in
+    let site = setting c.args.site.now.hosts.now c.args.site.now.limits (g.C.Clock.moment c.args.site.now.clock.now) in
     let all = c.loop.invariant in
     let start = outside [] (port.left link) (port.given link) c.args.worker.now.trail all.first (port.faults link) in
     let new = c.step.new in
@@ -59,7 +59,7 @@ pub returns-in-Over-clause-silent : goal.returns-in-Over-clause-silent
 returns-in-Over-clause-silent g c silent =
     let port = g.L.Link in
     let link = c.args.link.now in
-    let site = setting c.args.site.now.hosts.now c.args.site.now.limit (g.C.Clock.moment c.args.site.now.clock.now) in
+    let site = setting c.args.site.now.hosts.now c.args.site.now.limits (g.C.Clock.moment c.args.site.now.clock.now) in
     let all = c.loop.invariant in
     let start = outside [] (port.left link) (port.given link) c.args.worker.now.trail all.first (port.faults link) in
     let new = c.step.new in

@@ -14,7 +14,7 @@ invariant-loop g l = record {
   held : IsServedBy l.worker.purse.sessions l.connection.stage;
   first : Purse;
   dropped : DropsRemoved l.fn.worker.purse first;
-  stands : Stands (setting l.site.hosts.now l.site.limit (g.C.Clock.moment l.site.clock.now))
+  stands : Stands (setting l.site.hosts.now l.site.limits (g.C.Clock.moment l.site.clock.now))
       (outside [] (g.L.Link.left l.fn.link) (g.L.Link.given l.fn.link) l.fn.worker.trail first (g.L.Link.faults l.fn.link))
       (outside l.connection.reader (g.L.Link.left l.link) (g.L.Link.given l.link) l.worker.trail l.worker.purse (g.L.Link.faults l.link))
       l.connection.stage;

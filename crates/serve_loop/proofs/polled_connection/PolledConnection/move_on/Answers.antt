@@ -11,7 +11,7 @@ use Rattle.serve_loop.proofs.polled_connection.PolledConnection.move_on.Goals as
 pub returns-in-Reading-clause-moves : goal.returns-in-Reading-clause-moves
 returns-in-Reading-clause-moves g c =
     let port = g.K.Polled in
-    let site = setting c.args.site.now.hosts.now c.args.site.now.limit (g.C.Clock.moment c.args.site.now.clock.now) in
+    let site = setting c.args.site.now.hosts.now c.args.site.now.limits (g.C.Clock.moment c.args.site.now.clock.now) in
     let purse = c.args.worker.now.purse in
     let old = outside c.args.self.now.reader (port.left c.args.link.now) (port.given c.args.link.now) c.args.worker.now.trail purse (port.faults c.args.link.now) in
     let new = outside c.read.new.self.reader (port.left c.read.new.link) (port.given c.read.new.link) c.read.new.trail purse (port.faults c.read.new.link) in
@@ -20,7 +20,7 @@ returns-in-Reading-clause-moves g c =
 pub returns-in-Owing-clause-moves : goal.returns-in-Owing-clause-moves
 returns-in-Owing-clause-moves g c =
     let port = g.K.Polled in
-    let site = setting c.args.site.now.hosts.now c.args.site.now.limit (g.C.Clock.moment c.args.site.now.clock.now) in
+    let site = setting c.args.site.now.hosts.now c.args.site.now.limits (g.C.Clock.moment c.args.site.now.clock.now) in
     let purse = c.args.worker.now.purse in
     let trail = c.args.worker.now.trail in
     let kept = c.args.self.now.reader in
@@ -31,7 +31,7 @@ returns-in-Owing-clause-moves g c =
 pub returns-in-Asked-clause-moves : goal.returns-in-Asked-clause-moves
 returns-in-Asked-clause-moves g c =
     let port = g.K.Polled in
-    let site = setting c.args.site.now.hosts.now c.args.site.now.limit (g.C.Clock.moment c.args.site.now.clock.now) in
+    let site = setting c.args.site.now.hosts.now c.args.site.now.limits (g.C.Clock.moment c.args.site.now.clock.now) in
     let link = c.args.link.now in
     let old = c.args.worker.now in
     let new = c.ask.new.worker in

@@ -39,12 +39,12 @@ returns-in-Over-clause-lost g c = λ before found.
     let turned = replied_so _ _ _ c.args.request c.args.body c.now-now.result c.in_ok-reply.reply c.arrived_in.result arrivals.Over c.arrived_in.ensures c.in-Over.is c.in_ok-reply.ensures.called in
     let called : Beside c.args.session.number c.args.self.now.purse c.call.new.self = record { others = c.in_ok-reply.ensures.others; directory = c.in_ok-reply.ensures.directory } in
     on_err_as c.over.result _ _ (λ kept. subst (AddsNothing before) (sym kept)
-    (over_wanting (setting c.args.site.now.hosts.now c.args.site.now.limit (g.C.Clock.moment c.args.site.now.clock.now)) c.args.body c.args.session.sid c.args.request c.now-now.result c.args.session.number before c.args.self.now.purse c.now-now.ensures c.requires.names c.requires.held found
+    (over_wanting (setting c.args.site.now.hosts.now c.args.site.now.limits (g.C.Clock.moment c.args.site.now.clock.now)) c.args.body c.args.session.sid c.args.request c.now-now.result c.args.session.number before c.args.self.now.purse c.now-now.ensures c.requires.names c.requires.held found
     c.call.new.self called turned)) c.over.ensures.kept
 
 pub returns-in_err-reply-clause-lost : goal.returns-in_err-reply-clause-lost
 returns-in_err-reply-clause-lost g c = λ before found.
     let called : Beside c.args.session.number c.args.self.now.purse c.call.new.self = record { others = c.in_err-reply.ensures.others; directory = c.in_err-reply.ensures.directory } in
     on_err _ _
-    (arrives_wanting (setting c.args.site.now.hosts.now c.args.site.now.limit (g.C.Clock.moment c.args.site.now.clock.now)) c.args.body c.args.session.sid c.args.request c.now-now.result c.args.session.number before c.args.self.now.purse c.now-now.ensures c.requires.names c.requires.held found
+    (arrives_wanting (setting c.args.site.now.hosts.now c.args.site.now.limits (g.C.Clock.moment c.args.site.now.clock.now)) c.args.body c.args.session.sid c.args.request c.now-now.result c.args.session.number before c.args.self.now.purse c.now-now.ensures c.requires.names c.requires.held found
     c.call.new.self called _ c.in_err-reply.ensures.called)
