@@ -61,8 +61,8 @@ pub trait Polled {
     /// says so only where that is known.
     fn has_left(&mut self) -> bool
         ensures leaves { CountsLeft (leaves self.old) (leaves self.new) result }
-        ensures left { Keeps (left self.old) (left self.new) }
-        ensures given { Keeps (given self.old) (given self.new) }
+        ensures left { left self.new ≡ left self.old }
+        ensures given { given self.new ≡ given self.old }
         ensures closed { closed self.new ≡ closed self.old }
         ensures faults { faults self.new ≡ faults self.old }
         ensures waits { waits self.new ≡ waits self.old };

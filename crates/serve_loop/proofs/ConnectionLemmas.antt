@@ -318,3 +318,4 @@ ends_so site start now ends.WriteFault so = so
 ends_so site start now ends.Superseded so = so
 ends_so site start now ends.Silent so = elim so [ ]
 ends_so site start now ends.Memory so = so
+ends_so site start now ends.Gone so = elim so [ ]

@@ -129,3 +129,8 @@ steps_not_yet site s s' given given' trail purse n m what place keeps gave same 
 pub message_is : (what : Owed) (status : ℕ) (text : List ℕ) (closing : Bool) → status ≡ status_owed what → text ≡ text_owed what → closing ≡ closes what → response_text status text closing ≡ message what
 message_is what status text closing is_status is_text is_closing =
     ap (λ k. response_text status text k) is_closing ∙ ap (λ t. response_text status t (closes what)) is_text ∙ ap (λ s. response_text s (text_owed what) (closes what)) is_status
+
+-- the request that is coming is given up
+pub moves_up : (site : Setting) (now : Outside) → Moves site now now stages.Reading (stages.Owing owed.NoMemory)
+moves_up site now start (es, a) =
+    record { exchanges = es; stream = now.stream; purse = now.purse; answered = a; came = inl (Keeps-refl now.stream, refl) }

@@ -227,7 +227,7 @@ pub record IsTaken (site : Setting) (start now : Outside) : Type 0 where
 abbrev pub IsClosed : Setting → Outside → Outside → Type 0
 IsClosed site start now = ((text : List ℕ) × Gave site start now (owed.Answer text true)) ⊎ ((refusal : HttpRefusal) × Gave site start now (owed.Refusal refusal))
 
--- how a connection ended of itself, which is never for want of a ring
+-- how a connection ended of itself, which is never for want of a ring, or since its peer left while its request waits
 abbrev pub EndsItself : Setting → Outside → Outside → ConnectionEnd → Type 0
 EndsItself site start now ends.Ended = IsAtEnd site start now ⊎ IsClosed site start now
 EndsItself site start now ends.ReadFault = FailsToTake site start now
@@ -235,15 +235,21 @@ EndsItself site start now ends.WriteFault = FailsToGive site start now
 EndsItself site start now ends.Superseded = IsTaken site start now
 EndsItself site start now ends.Silent = ⊥
 EndsItself site start now ends.Memory = Gave site start now owed.NoMemory
+EndsItself site start now ends.Gone = ⊥
 
--- how a connection ended: where the bell was silent, its last request waits, and there was nothing for it
+-- its last request was read and waits, and there was nothing for it when its session was looked at
+abbrev pub WaitsOn : Setting → Outside → Outside → Type 0
+WaitsOn site start now = (w : Waiting) × (closing : Bool) × Waits site start now w closing true
+
+-- how a connection ended: where the bell was silent, or its peer left, its last request waits, and there was nothing for it
 abbrev pub Ends : Setting → Outside → Outside → ConnectionEnd → Type 0
 Ends site start now ends.Ended = EndsItself site start now ends.Ended
 Ends site start now ends.ReadFault = EndsItself site start now ends.ReadFault
 Ends site start now ends.WriteFault = EndsItself site start now ends.WriteFault
 Ends site start now ends.Superseded = EndsItself site start now ends.Superseded
-Ends site start now ends.Silent = (w : Waiting) × (closing : Bool) × Waits site start now w closing true
+Ends site start now ends.Silent = WaitsOn site start now
 Ends site start now ends.Memory = EndsItself site start now ends.Memory
+Ends site start now ends.Gone = WaitsOn site start now
 
 -- where a connection stands
 abbrev pub Stands : Setting → Outside → Outside → Stage → Type 0

@@ -9,6 +9,7 @@ use Rattle.serve_loop.specs.declared.connection.ConnectionEnd.TheVariants as end
 use Rattle.serve_loop.specs.declared.connection.Stage.{Stage}
 use Rattle.serve_loop.specs.declared.connection.Stage.TheVariants as stages
 use Rattle.serve_loop.specs.declared.owed.Owed.{Owed}
+use Rattle.serve_loop.specs.declared.owed.Owed.TheVariants as owed
 use Rattle.serve_loop.specs.declared.polled_connection.Standing.{Standing}
 use Rattle.serve_loop.specs.Connections.{IsNext, Outside, Owes, Stands, is_read, message, stage_behind}
 use Rattle.serve_loop.specs.Trail.{Setting}
@@ -81,3 +82,11 @@ CountsRead old new (http.Request body closing) = new ≡ old
 CountsRead old new (http.Refused refusal) = new ≡ old
 CountsRead old new http.End = new ≡ old
 CountsRead old new http.ReadFault = HasRisen old new
+
+-- where a connection stands whose next request is given up
+abbrev pub given_up : Stage → Stage
+given_up stages.Reading = stages.Owing owed.NoMemory
+given_up (stages.Asked body closing) = stages.Asked body closing
+given_up (stages.Waiting w closing looked) = stages.Waiting w closing looked
+given_up (stages.Owing what) = stages.Owing what
+given_up (stages.Over end) = stages.Over end

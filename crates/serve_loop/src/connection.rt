@@ -34,6 +34,8 @@ pub enum ConnectionEnd {
     Silent,
     /// There was no memory for the last request, which was answered so.
     Memory,
+    /// The peer left while its last request waited, for which there is nothing yet. Its session holds the request on.
+    Gone,
 }
 
 /// What a connection wants next.

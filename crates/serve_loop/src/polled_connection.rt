@@ -6,8 +6,8 @@ ghost use Rattle.bosh_ports.specs.Faults.{HasRisen};
 ghost use Rattle.parked_gate.specs.Passes.{IsPassOf};
 ghost use Rattle.serve_loop.specs.declared.trail.Traced.{Traced};
 ghost use Rattle.session_table.specs.declared.purse.Purse.{Purse};
-ghost use Rattle.serve_loop.specs.Connections.{IsServedBy, Moves, is_read, outside, wanted_by};
-ghost use Rattle.serve_loop.specs.Stepping.{CountsRead, IsNextAt, StaysSo, Steps, WantsMore, asks_link};
+ghost use Rattle.serve_loop.specs.Connections.{Ends, IsServedBy, Moves, Outside, is_read, outside, wanted_by};
+ghost use Rattle.serve_loop.specs.Stepping.{CountsRead, IsNextAt, StandsAt, StaysSo, Steps, WantsMore, asks_link, given_up};
 ghost use Rattle.serve_loop.specs.Trail.{Setting, setting};
 
 use crate::connection::{
@@ -101,6 +101,41 @@ impl PolledConnection {
         ensures { result ≡ self.now.standing.place }
     {
         self.standing.place
+    }
+
+    /// Whether it ends by `Gone`: it waits for an answer that isn't there yet, and the link said that its peer has left. No bytes are taken, and its
+    /// session holds the request on.
+    pub fn is_gone<K: Polled>(&self, link: &mut K) -> bool
+        ensures ends { result ≡ true → (site : Setting) → (start : Outside) → (trail : List Traced) → (purse : Purse)
+            → StandsAt site start (outside self.now.reader (K.left link.old) (K.given link.old) trail purse (K.faults link.old)) self.now.standing.place self.now.standing.stage
+            → Ends site start (outside self.now.reader (K.left link.new) (K.given link.new) trail purse (K.faults link.new)) ConnectionEnd.Gone }
+        ensures said { result ≡ true → HasRisen (K.leaves link.old) (K.leaves link.new) }
+        ensures left { K.left link.new ≡ K.left link.old }
+        ensures given { K.given link.new ≡ K.given link.old }
+        ensures closed { K.closed link.new ≡ K.closed link.old }
+        ensures faults { K.faults link.new ≡ K.faults link.old }
+        ensures waits { K.waits link.new ≡ K.waits link.old }
+    {
+        match &self.standing.stage {
+            Stage::Waiting { looked: true, .. } => link.has_left(),
+            _ => false,
+        }
+    }
+
+    /// The request that is coming is given up: it is answered as one for which there is no memory, and the connection ends behind that. Where no
+    /// request is read nothing changes.
+    pub fn give_up(&mut self)
+        ensures reader { self.new.reader ≡ self.old.reader }
+        ensures stage { self.new.standing.stage ≡ given_up self.old.standing.stage }
+        ensures held { (purse : Purse) → IsServedBy purse.sessions self.old.standing.stage → IsServedBy purse.sessions self.new.standing.stage }
+        ensures moves { (site : Setting) → (now : Outside) → Steps site now now self.old.standing self.new.standing }
+    {
+        if let Stage::Reading = &self.standing.stage {
+            self.standing = Standing {
+                stage: Stage::Owing(Owed::NoMemory),
+                place: 0,
+            };
+        }
     }
 
     /// Makes one step: takes a piece of a request, makes its call, looks for its answer, or gives a piece of that. It never waits for the

@@ -1,5 +1,5 @@
 // A connection over a link that is asked, stepped to its end by one thread.
-ghost use Rattle.std.specs.Prelude.{◌≡◌, ◌≤◌, []};
+ghost use Rattle.std.specs.Prelude.{◌≡◌, ◌≢◌, ◌≤◌, []};
 ghost use Rattle.bosh_ports.specs.Faults.{HasRisen};
 ghost use Rattle.parked_gate.specs.Passes.{IsPassOf};
 ghost use Rattle.serve_loop.specs.Connections.{outside, Serves};
@@ -15,7 +15,7 @@ use server_ports::{Clock, Names};
 use std::sync::Wait;
 
 /// Steps a connection to its end, as `serve_connection` serves one over a link that waits. Where the link has nothing now it is asked
-/// again at once, so it is for one that seldom has nothing, as `Waited`.
+/// again at once, so it is for one that seldom has nothing, as `Waited`. Whether its peer has left isn't asked.
 pub fn serve_polled<R: Wait, K: Polled, C: Clock, B: Bell, M: Names>(
     rt: &R,
     site: &Site<'_, C>,
@@ -31,6 +31,7 @@ pub fn serve_polled<R: Wait, K: Polled, C: Clock, B: Bell, M: Names>(
         (outside [] (K.left link.old) (K.given link.old) worker.old.trail worker.old.purse (K.faults link.old))
         (K.left link.new) (K.given link.new) worker.new.trail worker.new.purse (K.faults link.new) result }
     ensures silent { result ≡ ConnectionEnd.Silent → HasRisen (B.silences worker.old.bell) (B.silences worker.new.bell) }
+    ensures never_gone { result ≢ ConnectionEnd.Gone }
     ensures silences { B.silences worker.old.bell ≤ B.silences worker.new.bell }
     ensures faults { K.faults link.old ≤ K.faults link.new }
 {

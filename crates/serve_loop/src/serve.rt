@@ -1,5 +1,5 @@
 // A connection served by one thread, from its first byte to its end.
-ghost use Rattle.std.specs.Prelude.{◌≡◌, ◌≤◌, [], true};
+ghost use Rattle.std.specs.Prelude.{◌≡◌, ◌≢◌, ◌≤◌, [], true};
 ghost use Rattle.bosh_ports.specs.Faults.{HasRisen};
 ghost use Rattle.parked_gate.specs.Passes.{IsPassOf};
 ghost use Rattle.serve_loop.specs.Connections.{outside, Serves};
@@ -27,6 +27,7 @@ pub fn serve_connection<R: Wait, L: Link, C: Clock, B: Bell, M: Names>(
         (outside [] (L.left link.old) (L.given link.old) worker.old.trail worker.old.purse (L.faults link.old))
         (L.left link.new) (L.given link.new) worker.new.trail worker.new.purse (L.faults link.new) result }
     ensures silent { result ≡ ConnectionEnd.Silent → HasRisen (B.silences worker.old.bell) (B.silences worker.new.bell) }
+    ensures never_gone { result ≢ ConnectionEnd.Gone }
     ensures silences { B.silences worker.old.bell ≤ B.silences worker.new.bell }
     ensures faults { L.faults link.old ≤ L.faults link.new }
 {

@@ -68,6 +68,19 @@ returns-in-Over-clause-silent g c silent =
     let none = subst (EndsItself site start now) silent ended in
     elim none [ ]
 
+pub returns-in-Over-clause-never_gone : goal.returns-in-Over-clause-never_gone
+returns-in-Over-clause-never_gone g c gone =
+    let port = g.L.Link in
+    let link = c.args.link.now in
+    let site = setting c.args.site.now.hosts.now c.args.site.now.limits (g.C.Clock.moment c.args.site.now.clock.now) in
+    let all = c.loop.invariant in
+    let start = outside [] (port.left link) (port.given link) c.args.worker.now.trail all.first (port.faults link) in
+    let new = c.step.new in
+    let now = outside new.self.reader (port.left new.link) (port.given new.link) new.worker.trail new.worker.purse (port.faults new.link) in
+    let ended = subst (Stands site start now) c.in-Over.is (c.step.ensures.moves start all.stands) in
+    let none = subst (EndsItself site start now) gone ended in
+    elim none [ ]
+
 pub loop-preserved-in-Waiting-1 : goal.loop-preserved-in-Waiting-1
 loop-preserved-in-Waiting-1 g c =
     let port = g.L.Link in
