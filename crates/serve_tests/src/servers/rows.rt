@@ -103,6 +103,7 @@ fn served<R: Wait + Threads + Clock + Copy + Send + Sync + Drop + 'static>(
     let names = GivenNames::new(alloc, b"s", Rid::new(1000).ok_or("an id")?);
     let mut outside = Outside {
         net,
+        room: 65_536,
         clock: StillClock {
             moment: Moment::from_millis(0),
         },
@@ -114,6 +115,7 @@ fn served<R: Wait + Threads + Clock + Copy + Send + Sync + Drop + 'static>(
     let ran = run_workers(rt, alloc, &mut outside, plan, hosts);
     let Outside {
         net: _net,
+        room: _room,
         clock: _clock,
         bell: _bell,
         spawner,
