@@ -24,8 +24,11 @@ pub(crate) struct ShownLink<R: Wait + Clock + Copy + Drop> {
     pub(crate) source: QuietSource,
     pub(crate) given: Given,
     pub(crate) after: Option<Given>,
+    /// Its peer leaves once its requests were read.
+    pub(crate) is_left: bool,
     pub(crate) faults: u64,
     pub(crate) waits: u64,
+    pub(crate) leaves: u64,
 }
 
 impl<R: Wait + Clock + Copy + Drop> ShownLink<R> {
@@ -77,7 +80,7 @@ impl<R: Wait + Clock + Copy + Drop> Polled for ShownLink<R> {
 
     ghost waits = { λ l. l.waits };
 
-    ghost leaves = { λ _. 0 };
+    ghost leaves = { λ l. l.leaves };
 
     fn poll_take(&mut self, into: &mut [u8]) -> Option<Got> {
         if self.has_nothing() {
@@ -96,7 +99,10 @@ impl<R: Wait + Clock + Copy + Drop> Polled for ShownLink<R> {
     }
 
     fn has_left(&mut self) -> bool {
-        false
+        if self.is_left {
+            self.leaves = self.leaves.saturating_add(1);
+        }
+        self.is_left
     }
 
     fn close(&mut self) {}

@@ -64,8 +64,10 @@ fn link<R: Wait + Clock + Copy + Drop>(
         source: QuietSource::new(text.as_bytes().to_vec(*text.allocator())?),
         given: Arc::try_clone(given)?,
         after,
+        is_left: false,
         faults: 0,
         waits: 0,
+        leaves: 0,
     })
 }
 
@@ -228,5 +230,97 @@ fn a_refused_start_ends_the_server(rt: HostRuntime) -> Result<(), Fail> {
         assert_eq!(rt; ran, Ran::SpawnFault);
         assert!(rt; given.lock(&rt).is_empty());
     }
+    Ok(())
+}
+
+/// What one is told for whom there is no room.
+const NO_ROOM: &[u8] =
+    b"HTTP/1.1 503 Service Unavailable\r\nContent-Type: text/xml; charset=utf-8\r\nContent-Length: 0\r\nConnection: close\r\n\r\n";
+
+// Serves these links by one loop, with an echo behind it, where one connection may be open and so many bytes may come in.
+fn served_narrowly<R: Wait + Threads + Clock + Copy + Send + Sync + Drop + 'static>(
+    rt: &R,
+    alloc: Global,
+    links: Vec<ShownLink<R>>,
+    incoming: u64,
+) -> Result<Ran, Fail> {
+    let net = ShownNetwork::new(links);
+    let plan = ServePlan {
+        workers: 1,
+        open: Some(1),
+        incoming,
+        ..ServePlan::USUAL
+    };
+    let hosts = one_host(alloc, InMemory::Echo(Echo::new(alloc)))?;
+    served(rt, alloc, net, &plan, Vec::new(alloc), hosts)
+}
+
+#[test]
+fn one_connection_too_many_is_told_so(rt: HostRuntime) -> Result<(), Fail> {
+    let alloc = rt.alloc();
+    let (one, two) = (given_nothing(alloc)?, given_nothing(alloc)?);
+    let mut links = Vec::new(alloc);
+    links.push(link(&rt, &two_requests(alloc, "")?, &one, None)?)?;
+    links.push(link(&rt, &two_requests(alloc, "")?, &two, None)?)?;
+    let ran = served_narrowly(&rt, alloc, links, 1_048_576)?;
+    assert_eq!(rt; ran, Ran::Done { connections: 2 });
+    let wanted = answer(
+        alloc,
+        "<body xmlns='http://jabber.org/protocol/httpbind' type='terminate' condition='system-shutdown'/>",
+    )?;
+    assert!(rt; ends_with(&rt, &one, &wanted));
+    assert_eq!(rt; two.lock(&rt).as_slice(), NO_ROOM);
+    Ok(())
+}
+
+#[test]
+fn an_idle_connection_gives_its_place(rt: HostRuntime) -> Result<(), Fail> {
+    let alloc = rt.alloc();
+    let (one, two) = (given_nothing(alloc)?, given_nothing(alloc)?);
+    let after = Some(Arc::try_clone(&two)?);
+    let mut links = Vec::new(alloc);
+    links.push(link(&rt, &two_requests(alloc, "")?, &one, after)?)?;
+    links.push(link(&rt, &two_requests(alloc, "<a/>")?, &two, None)?)?;
+    let ran = served_narrowly(&rt, alloc, links, 1_048_576)?;
+    assert_eq!(rt; ran, Ran::Done { connections: 2 });
+    assert!(rt; one.lock(&rt).is_empty());
+    assert!(rt; two.lock(&rt).starts_with(b"HTTP/1.1 200 OK"));
+    Ok(())
+}
+
+#[test]
+fn a_content_that_is_too_much_is_given_up(rt: HostRuntime) -> Result<(), Fail> {
+    let alloc = rt.alloc();
+    let spaces = " ".repeat(alloc, 200_000)?;
+    let content = format!(in alloc; "<a>{spaces}</a>")?;
+    let given = given_nothing(alloc)?;
+    let mut links = Vec::new(alloc);
+    let request = later(alloc, 1001, content.as_str())?;
+    links.push(link(&rt, &request, &given, None)?)?;
+    let ran = served_narrowly(&rt, alloc, links, 100_000)?;
+    assert_eq!(rt; ran, Ran::Done { connections: 1 });
+    assert_eq!(rt; given.lock(&rt).as_slice(), NO_ROOM);
+    Ok(())
+}
+
+#[test]
+fn a_connection_ends_whose_peer_left_while_it_waits(rt: HostRuntime) -> Result<(), Fail> {
+    let alloc = rt.alloc();
+    let given = given_nothing(alloc)?;
+    let mut only = link(&rt, &two_requests(alloc, "")?, &given, None)?;
+    only.is_left = true;
+    let net = ShownNetwork::new(vec![in alloc; only]?);
+    let plan = ServePlan {
+        workers: 1,
+        connections: 1,
+        ..ServePlan::USUAL
+    };
+    let end = Scripted::new(alloc, Vec::new(alloc), Vec::new(alloc));
+    let hosts = one_host(alloc, InMemory::Scripted(end))?;
+    let ran = served(&rt, alloc, net, &plan, Vec::new(alloc), hosts)?;
+    assert_eq!(rt; ran, Ran::Done { connections: 1 });
+    let answers = given.lock(&rt);
+    assert!(rt; answers.starts_with(b"HTTP/1.1 200 OK"));
+    assert!(rt; answers.ends_with(b"<stream:features/></body>"));
     Ok(())
 }
