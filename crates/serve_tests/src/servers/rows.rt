@@ -64,6 +64,7 @@ fn link<R: Wait + Clock + Copy + Drop>(
         source: QuietSource::new(text.as_bytes().to_vec(*text.allocator())?),
         given: Arc::try_clone(given)?,
         after,
+        lead: 0,
         is_left: false,
         faults: 0,
         waits: 0,
@@ -259,16 +260,15 @@ fn served_narrowly<R: Wait + Threads + Clock + Copy + Send + Sync + Drop + 'stat
 fn one_connection_too_many_is_told_so(rt: HostRuntime) -> Result<(), Fail> {
     let alloc = rt.alloc();
     let (one, two) = (given_nothing(alloc)?, given_nothing(alloc)?);
+    let after = Some(Arc::try_clone(&two)?);
+    let mut first = link(&rt, &post(alloc, CREATION)?, &one, after)?;
+    first.lead = 1;
     let mut links = Vec::new(alloc);
-    links.push(link(&rt, &two_requests(alloc, "")?, &one, None)?)?;
-    links.push(link(&rt, &two_requests(alloc, "")?, &two, None)?)?;
+    links.push(first)?;
+    links.push(link(&rt, &post(alloc, CREATION)?, &two, None)?)?;
     let ran = served_narrowly(&rt, alloc, links, 1_048_576)?;
     assert_eq!(rt; ran, Ran::Done { connections: 2 });
-    let wanted = answer(
-        alloc,
-        "<body xmlns='http://jabber.org/protocol/httpbind' type='terminate' condition='system-shutdown'/>",
-    )?;
-    assert!(rt; ends_with(&rt, &one, &wanted));
+    assert!(rt; one.lock(&rt).starts_with(b"HTTP/1.1 200 OK"));
     assert_eq!(rt; two.lock(&rt).as_slice(), NO_ROOM);
     Ok(())
 }
