@@ -19,7 +19,7 @@ const CREATION: &str =
     "<body rid='1000' to='example.org' wait='60' hold='1' ver='1.6' xmlns='http://jabber.org/protocol/httpbind'/>";
 
 // A request with this content.
-fn post(alloc: Global, body: &str) -> Result<String, AllocError> {
+pub(crate) fn post(alloc: Global, body: &str) -> Result<String, AllocError> {
     let length = body.len();
     format!(in alloc;
         "POST /http-bind HTTP/1.1\r\nHost: localhost\r\nContent-Length: {length}\r\n\r\n{body}"
@@ -35,7 +35,7 @@ fn answer(alloc: Global, body: &str) -> Result<String, AllocError> {
 }
 
 // A later request of the session with this content.
-fn later(alloc: Global, rid: u64, content: &str) -> Result<String, AllocError> {
+pub(crate) fn later(alloc: Global, rid: u64, content: &str) -> Result<String, AllocError> {
     let body = format!(in alloc; "<body rid='{rid}' sid='s1' {NAMESPACE}>{content}</body>")?;
     post(alloc, body.as_str())
 }
@@ -127,6 +127,26 @@ fn served<R: Wait + Threads + Clock + Copy + Send + Sync + Drop + 'static>(
     } = outside;
     spawner.into_inner().join_all(rt);
     Ok(ran?)
+}
+
+/// What a loop gives to a link over these bytes, behind which stands a back end that gives nothing.
+pub(crate) fn given_by_loop<R: Wait + Threads + Clock + Copy + Send + Sync + Drop + 'static>(
+    rt: &R,
+    alloc: Global,
+    text: &String,
+) -> Result<Vec<u8>, Fail> {
+    let given = given_nothing(alloc)?;
+    let net = ShownNetwork::new(vec![in alloc; link(rt, text, &given, None)?]?);
+    let plan = ServePlan {
+        workers: 1,
+        connections: 1,
+        ..ServePlan::USUAL
+    };
+    let end = Scripted::new(alloc, Vec::new(alloc), Vec::new(alloc));
+    let hosts = one_host(alloc, InMemory::Scripted(end))?;
+    served(rt, alloc, net, &plan, Vec::new(alloc), hosts)?;
+    let bytes = given.lock(rt).to_vec(alloc)?;
+    Ok(bytes)
 }
 
 // A request that waits is freed by the end of its session, which comes over another link, where so many loops serve both.
