@@ -12,7 +12,7 @@ use Rattle.std.proofs.lemmas.Option.{none-some}
 use Rattle.std.specs.Bool.{⊤}
 use Rattle.std.specs.BTreeMap.{keys}
 use Rattle.std.specs.List.{Contains}
-use Rattle.std.specs.Result.{OnErr, OnOk}
+use Rattle.std.specs.Result.{OnOk}
 use Rattle.std.specs.declared.alloc.AllocError.{AllocError}
 use Rattle.std.specs.Map.{keys_of}
 use Rattle.std.specs.Map.Iter.{deref_pair}
@@ -21,7 +21,7 @@ use Rattle.std.specs.Ordering.{is_eq, nat_cmp}
 use Rattle.pause_rules.specs.NextDue.{IsByNumber, IsNextDue, moment_of}
 use Rattle.parked_gate.specs.Passes.{Looks, known}
 use Rattle.session_table.specs.declared.handle.SessionHandle.{SessionHandle}
-use Rattle.session_table.specs.Purses.{OthersStay, Sessions, Turned, held}
+use Rattle.session_table.specs.Purses.{Sessions, Turned, held}
 use Rattle.session_pump.specs.Dues.{AskDues, AsksDue, Dues, IsDueOf, IsFirstDue, IsNoted, IsNotedAs, IsOver, IsTakenBy, asked, asked_none, asked_one, not_held, stays, was_due}
 
 -- a pair of the index is the moment of its number

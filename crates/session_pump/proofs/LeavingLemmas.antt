@@ -1,13 +1,11 @@
 -- A session that is asked what there is to do for it, and left alone where that is nothing.
-use Rattle.std.proofs.Common.{◌≡◌, ℕ, List, map, Option, Some, None, Result, Ok, Err, sym, subst, ap, ◌∙◌}
+use Rattle.std.proofs.Common.{◌≡◌, ℕ, List, map, Option, Some, None, Err, sym, subst, ap, ◌∙◌}
 use Rattle.std.specs.Prelude.{slice_get}
-use Rattle.std.specs.Bool.{⊤}
 use Rattle.std.specs.Option.{option_map}
 use Rattle.std.specs.declared.alloc.AllocError.{AllocError}
 use Rattle.std.proofs.lemmas.Option.{slice_get-map}
 use Rattle.parked_gate.specs.Passes.{Known, Looks}
 use Rattle.session_journal.specs.declared.asking.State.{State}
-use Rattle.session_journal.specs.declared.entry.Entry as journal
 use Rattle.session_journal.specs.Seen.{IsStateAfter}
 use Rattle.session_table.specs.declared.entry.Entry.{Entry}
 use Rattle.session_table.specs.Purses.{Sessions, Turned}
