@@ -10,6 +10,7 @@ mod laws;
 mod manager;
 mod manager_side;
 mod reading;
+mod refusing;
 mod running;
 mod site;
 mod sums;

@@ -1,13 +1,14 @@
+pub mod AdmittedLemmas
 pub mod AnswerSizes
 pub mod Below
 pub mod CallLemmas
 pub mod ClientLemmas
 pub mod EventLemmas
 pub mod GrownLemmas
-pub mod InwardLemmas
-pub mod NameLemmas
 pub mod HandedLemmas
+pub mod InwardLemmas
 pub mod MomentLemmas
+pub mod NameLemmas
 pub mod PlaceLemmas
 pub mod PrefixLemmas
 pub mod ProperLemmas
