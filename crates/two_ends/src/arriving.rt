@@ -182,7 +182,7 @@ fn admitted(alloc: Global, request: &Request, site: &Site) -> Result<Admitted, A
 }
 
 // The place of the request with this id among these, which go on by one from the first.
-fn place_in(first: Rid, rid: Rid, sent: &[SharedText]) -> Option<usize>
+pub(crate) fn place_in(first: Rid, rid: Rid, sent: &[SharedText]) -> Option<usize>
     ensures some { IfSome result (λ place. (rid ≡ first + place) × (place < length sent.now)) }
     ensures none { result ≡ None → first ≤ rid → first + length sent.now ≤ rid }
 {

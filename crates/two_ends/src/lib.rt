@@ -15,8 +15,12 @@ mod running;
 mod site;
 mod sums;
 mod telling;
+mod timing;
 mod world;
 
 pub use sums::Sums;
 pub use world::World;
-pub use world_laws::{Report, Seen, SeenItem, Word, WorldEvent, every_world_keeps_both_prefixes};
+pub use world_laws::{
+    Report, Seen, SeenItem, Word, WorldEvent, every_world_keeps_both_prefixes,
+    timely_worlds_are_complete,
+};

@@ -1,8 +1,9 @@
 -- Each copy that came to a session of a client after its creation is a request that the client made.
-use Rattle.std.proofs.Common.{◌≡◌, ℕ, zero, suc, ◌+◌, ◌<◌, ◌≤◌, ◌==◌, ◌&&◌, ◌||◌, true, List, [], ◌∷◌, length, slice_get, inl, inr, refl, sym, ◌∙◌, ap, subst, arith}
+use Rattle.std.proofs.Common.{◌≡◌, ℕ, zero, suc, ◌+◌, ◌<◌, ◌≤◌, ◌==◌, ◌&&◌, ◌||◌, true, false, List, [], ◌∷◌, ◌++◌, length, slice_get, inl, inr, refl, sym, ◌∙◌, ap, subst, arith}
 use Rattle.std.specs.Prelude.{Option, None, Some, All, IfSome, is_some, not, ⊤}
 use Rattle.std.proofs.lemmas.Bool.{cases_lt}
 use Rattle.std.proofs.lemmas.List.{length-map}
+use Rattle.std.proofs.lemmas.List.Elements.{All-append, All-cons, All-nil}
 use Rattle.bosh_types.specs.ById.{at_id}
 use Rattle.body_cutter.specs.declared.parts.Span.{Span}
 use Rattle.body_cutter.specs.Pieces.{bytes_at}
@@ -24,13 +25,15 @@ use Rattle.session_laws.proofs.Lists.{get_some, get_within}
 use Rattle.bosh_client.specs.declared.agreed.Agreed.{Agreed}
 use Rattle.bosh_client.specs.declared.setup.ClientSetup.{ClientSetup}
 use Rattle.bosh_client.specs.Keys.{key_at, newkey_at}
-use Rattle.bosh_client.specs.PlainClient.{Made, PlainClient, id_of, lowest, next_id, taken}
+use Rattle.bosh_client.specs.PlainClient.{Made, PlainClient, Taken, id_of, lowest, next_id, request_at, taken}
 use Rattle.bosh_client.specs.Promises.{Acknowledges, AllTaken, HasForm}
 use Rattle.bosh_client.specs.Requests.{agreed, with_keys}
 use Rattle.bosh_client.specs.Runs as calls
-use Rattle.bosh_client.specs.Runs.{Call, client_after}
+use Rattle.bosh_client.specs.Machine.{new_client}
+use Rattle.bosh_client.specs.Runs.{Call, after, step}
 use Rattle.bosh_client.specs.StandsFor.{AreFrom}
-use Rattle.bosh_client.proofs.RunLemmas.{client_is, new_is}
+use Rattle.bosh_client.proofs.FoundLemmas.{unmade_low}
+use Rattle.bosh_client.proofs.RunLemmas.{IsClient, client_is, new_is, step_by, step_is}
 use Rattle.world_laws.specs.Sound.{IsOpenedBy, IsRunClient, IsSent, IsSound}
 use Rattle.world_laws.specs.World.{PlainWorld}
 use Rattle.world_laws.proofs.Below.{Below}
@@ -250,3 +253,32 @@ module _ (below : Below) (setup : ClientSetup) (w : PlainWorld) (h : IsSound set
             let came = (every_tells j made).follows.each (first_of s + 1 + k) last.0 ((every_tells j made).sound.stand k last.0 last.1) in
             let of = copy_of (first_of s + 1 + k) last.0 came in
             omega (arith, first_is, ap length is, of.rid_is, get_within c.requests of.place of.request of.here)
+
+-- Each answer that a client took is of its first id or a later one.
+
+abbrev AreLater : PlainClient → Type 0
+AreLater c = All (λ (answer : ℕ × Taken). c.setup.first ≤ answer.0) c.answers
+
+first_step : (setup : ClientSetup) (c : PlainClient) (call : Call) → IsClient setup c → AreLater c → AreLater (step c call).0
+first_step setup c call client h =
+    step_by c (λ p. AreLater p.0) (λ reply quiet. h) (λ item. h) (λ now due left. h)
+    (λ rid t made none reads.
+    let P : ℕ × Taken → Type 0 = λ answer. c.setup.first ≤ answer.0 in
+    All-append P c.answers ((rid, t) ∷ []) h (All-cons P (rid, t) [] (low rid made) (All-nil P)))
+    (λ payload next. h) call
+  where
+    low : (rid : ℕ) → is_some (request_at c rid) ≡ true → c.setup.first ≤ rid
+    low rid made = elim (cases_lt rid c.setup.first) [
+      | inl below ↦ absurd (
+          let none : is_some (request_at c rid) ≡ false = unmade_low c rid client.ids below in
+          cc)
+      | inr from ↦ from
+    ]
+
+first_after : (setup : ClientSetup) (c : PlainClient) (list : List Call) → IsClient setup c → AreLater c → AreLater (after c list)
+first_after setup c [] client h = h
+first_after setup c (call ∷ list) client h = first_after setup (step c call).0 list (step_is setup c call client) (first_step setup c call client h)
+
+pub answers_first : (setup : ClientSetup) → 1 ≤ setup.first → (c : PlainClient) → IsRunClient setup c → All (λ (answer : ℕ × Taken). c.setup.first ≤ answer.0) c.answers
+answers_first setup some c run =
+    subst AreLater (sym run.is) (first_after setup (new_client setup) run.calls (new_is setup some) (All-nil (λ (answer : ℕ × Taken). setup.first ≤ answer.0)))
