@@ -1,5 +1,5 @@
 -- The definitions of a world compute: events with what is seen of them.
-use Rattle.std.proofs.Common.{◌≡◌, ℕ, ◌∷◌, [], ◌++◌, List, refl, true, false}
+use Rattle.std.proofs.Common.{◌≡◌, ℕ, ◌∷◌, [], ◌++◌, List, refl, take, true, false}
 use Rattle.std.specs.Prelude.{Some, codes, ⊤}
 use Rattle.bosh_types.specs.declared.condition.Condition.TheVariants.{HostUnknown, ImproperAddressing, ItemNotFound}
 use Rattle.bosh_types.specs.declared.ending.Closing.TheVariants.{Plain}
@@ -18,6 +18,7 @@ use Rattle.world_laws.specs.declared.seen.SeenItem.TheVariants as seen
 use Rattle.world_laws.specs.declared.seen.Word.TheVariants as words
 use Rattle.world_laws.specs.Steps.{after, report}
 use Rattle.world_laws.specs.Sums.{sums_of}
+use Rattle.world_laws.specs.Timely.{is_timely}
 use Rattle.world_laws.specs.World.{PlainWorld, new_world}
 
 unfoldable worlds_compute : ⊤
@@ -150,3 +151,21 @@ no_request :
     ∷ (seen.Ans 3 4 (body (codes " type='terminate' condition='bad-request'/>")) ∷ []) ∷ [] ∷ (seen.Got (codes "<stream:features/>") ∷ []) ∷ []
 unfolding worlds_compute
 no_request = refl
+
+-- the events of that login are timely but for the last, which brings a copy whose answer was taken
+login_in_time : is_timely (world_of 1000) (take 28 login) ≡ true
+unfolding worlds_compute
+login_in_time = refl
+
+login_late : is_timely (world_of 1000) login ≡ false
+unfolding worlds_compute
+login_late = refl
+
+-- copies are timely that were never made, or have an answer that was not taken; and a copy is late whose answer was
+copies_in_time : is_timely (world_of 5) (events.Carry 9 ∷ events.Send ∷ events.Carry 5 ∷ events.Carry 5 ∷ events.Return 1 ∷ events.Carry 6 ∷ []) ≡ true
+unfolding worlds_compute
+copies_in_time = refl
+
+creation_late : is_timely (world_of 5) (events.Send ∷ events.Carry 5 ∷ events.Return 1 ∷ events.Carry 5 ∷ []) ≡ false
+unfolding worlds_compute
+creation_late = refl
