@@ -1,5 +1,5 @@
 use crate::asking::{Seen, await_end, await_take, give, give_much, take};
-use bosh_ports::Link;
+use bosh_ports::{Link, Polled};
 use front_net::{FrontLink, FrontNetwork};
 use server_ports::{Accepted, Dialled, Network};
 use std::alloc::{AllocError, Global};
@@ -125,5 +125,38 @@ fn a_link_says_what_there_is(rt: HostRuntime) -> Result<(), Fail> {
         Seen::Failed,
     ];
     assert_eq!(rt; seen, wanted);
+    Ok(())
+}
+
+// Whether the peer is said to have left, within two seconds.
+fn await_leaving<R: Clock>(rt: &R, link: &mut FrontLink) -> bool {
+    for _ in 0..200 {
+        if link.has_left() {
+            return true;
+        }
+        sleep(rt, Duration::from_millis(10));
+    }
+    false
+}
+
+// Bytes that came before are no leaving, and hide one until they are taken. No question takes any.
+#[test]
+fn a_peer_has_left_once_nothing_is_left(rt: HostRuntime) -> Result<(), Fail> {
+    let Ends { near, far } = connect(rt, rt.alloc(), free_port(&rt)).ok_or("no connection")?;
+    let (mut near, mut far) = (near, far);
+    let at_first = near.has_left();
+    let gave = give(&mut far, b"ab");
+    sleep(&rt, Duration::from_millis(50));
+    let with_bytes = near.has_left();
+    Link::close(&mut far);
+    sleep(&rt, Duration::from_millis(50));
+    let behind_bytes = near.has_left();
+    let took = await_take(&rt, &mut near);
+    let then = await_leaving(&rt, &mut near);
+    assert_eq!(rt;
+        [at_first, with_bytes, behind_bytes, then],
+        [false, false, false, true]
+    );
+    assert_eq!(rt; [gave, took], [Seen::Moved(2), Seen::Moved(2)]);
     Ok(())
 }
