@@ -10,7 +10,7 @@ use bosh_ports::SteadyBell;
 use bosh_types::{Moment, Ticket};
 use parked_gate::{Gate, Waited};
 use session_core::Arrived;
-use session_journal::{Call, Found, Reply};
+use session_journal::{Call, Found, Reply, State};
 use session_table::{Directory, DirectoryCall, DirectoryReply, NewSession, Purse};
 use std::alloc::{AllocError, Global};
 use std::sync::Wait;
@@ -156,12 +156,21 @@ fn waits<R: Wait>(rt: &R, purse: &mut Purse, ticket: Ticket) -> bool {
     found.is_none()
 }
 
-/// When time next has something to do for the session, in milliseconds.
-fn due<R: Wait>(rt: &R, purse: &mut Purse) -> Option<u64> {
+/// What there is to do for the session.
+fn state<R: Wait>(rt: &R, purse: &mut Purse) -> Option<State> {
     if !holds(purse, 1) {
         return None;
     }
-    purse.due(rt, 1).map(|moment| moment.millis())
+    Some(purse.state(rt, 1))
+}
+
+/// What there is to do for one that goes on and is due at this moment.
+fn due_at(millis: u64, is_inward: bool) -> Option<State> {
+    Some(State {
+        due: Some(Moment::from_millis(millis)),
+        is_inward,
+        ending: None,
+    })
 }
 
 #[test]
@@ -169,8 +178,9 @@ fn a_session_is_called_through_the_purse(rt: HostRuntime) -> Result<(), Fail> {
     let (directory, pass) = gate(rt.alloc())?;
     let mut purse = Purse::new(rt.alloc(), pass);
     open(&rt, rt.alloc(), &directory, &mut purse)?;
-    assert_eq!(rt; due(&rt, &mut purse), Some(30001));
+    assert_eq!(rt; state(&rt, &mut purse), due_at(30_001, false));
     let ticket = arrive(&rt, rt.alloc(), &mut purse, FIRST)?.ok_or("not parked")?;
+    assert_eq!(rt; state(&rt, &mut purse), due_at(60_010, true));
     assert!(rt; waits(&rt, &mut purse, ticket));
     arrive(&rt, rt.alloc(), &mut purse, SECOND)?;
     assert!(rt; is_answered(&rt, &mut purse, ticket));
