@@ -1,5 +1,5 @@
 // In which order the lines of a session are written.
-ghost use Rattle.std.specs.Prelude.{◌≡◌, ◌↔◌, ◌⊎◌, ◌×◌, ◌<◌, ◌≤◌, true};
+ghost use Rattle.std.specs.Prelude.{◌≡◌, ◌↔◌, ◌⊎◌, ◌<◌, ◌≤◌, true};
 
 /// Where the id of a copy stands among the ids that came.
 #[derive(Clone, Copy, Debug, PartialEq, Eq)]

@@ -1,5 +1,5 @@
 // The lines of one session, in an order in which each keeps its rule where the server does.
-ghost use Rattle.std.specs.Prelude.{◌≤◌};
+ghost use Rattle.std.specs.Prelude.{◌≡◌, ◌↔◌, ◌<◌, ◌≤◌, Contains, IfSome, length, slice_get, Some, true, ⊥};
 
 use crate::noted::{Answer, Copy, Opening};
 use crate::order::{Place, is_due, place_of};
@@ -34,8 +34,20 @@ pub struct SessionTrace {
 }
 
 // Whether one more of so many bytes may be held.
-fn has_room(count: usize, held: usize, more: usize) -> bool {
-    count < MOST_HELD && held <= MOST_HELD_BYTES && more <= MOST_HELD_BYTES
+fn has_room(count: usize, held: usize, more: usize) -> bool
+    ensures { (result ≡ true) ↔ ((count < 64) × (held ≤ 4194304) × (more ≤ 4194304)) }
+{
+    if count >= MOST_HELD {
+        return false;
+    }
+    held <= MOST_HELD_BYTES && more <= MOST_HELD_BYTES
+}
+
+// Whether a text stands in one line.
+fn is_one_line(text: &[u8]) -> bool
+    ensures { (result ≡ true) ↔ (Contains text.now 10 → ⊥) }
+{
+    !text.contains(&b'\n')
 }
 
 // The place of the first of these copies that may be written.
@@ -129,7 +141,7 @@ impl SessionTrace {
             return Err(Remark::Lines);
         }
         for part in parts {
-            if part.contains(&b'\n') {
+            if !is_one_line(part) {
                 return Err(Remark::LineFeed);
             }
         }

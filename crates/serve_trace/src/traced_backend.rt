@@ -1,4 +1,6 @@
 // A back end that is listened in on.
+ghost use Rattle.std.specs.Prelude.{◌≡◌, ◌↔◌, ◌*◌, ◌+◌, ◌<◌, ℕ, true};
+
 use crate::noted::{Noted, Seen};
 use crate::queue::TraceQueue;
 use crate::remark::Remark;
@@ -24,12 +26,16 @@ impl<R: Wait + Copy + Drop, E: Backend> TracedBackend<R, E> {
 }
 
 // The opening number of the session that has this wire.
-fn session_of(wire: Wire) -> u64 {
+fn session_of(wire: Wire) -> u64
+    ensures { (opening stream : ℕ) → stream < 8 → wire ≡ opening * 8 + stream → result ≡ opening }
+{
     wire.number() / STREAMS
 }
 
 // Whether a wire is that of its session's one stream.
-fn is_plain(wire: Wire) -> bool {
+fn is_plain(wire: Wire) -> bool
+    ensures { (opening stream : ℕ) → stream < 8 → wire ≡ opening * 8 + stream → (result ≡ true) ↔ (stream ≡ 0) }
+{
     wire.number() % STREAMS == 0
 }
 
