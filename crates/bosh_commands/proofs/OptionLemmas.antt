@@ -7,9 +7,11 @@ use Rattle.clap.specs.declared.error.kind.ErrorKind.TheVariants.{DisplayHelp, Di
 use Rattle.clap.specs.declared.parser.matches.Found.{Found}
 use Rattle.clap.proofs.OnLiterals.{clap_on_literals}
 use Rattle.clap.proofs.WalkLemmas.{first_value-rows, raw_values-rows}
+use Rattle.bosh_server.specs.declared.plan.ServePlan.{ServePlan}
+use Rattle.session_table.specs.declared.opening.Limits.{Limits}
 use Rattle.bosh_commands.specs.declared.options.ServeOptions.{ServeOptions}
 use Rattle.bosh_commands.specs.declared.options.Wanted.{Wanted}
-use Rattle.bosh_commands.specs.Options.{ShowsWhatIsAsked, flag_in, number_in, options_by, options_from, options_of, options_wanted, plan_from, plan_of, serve_app, site_in}
+use Rattle.bosh_commands.specs.Options.{ShowsWhatIsAsked, flag_in, limits_from, limits_of, number_in, open_in, options_by, options_from, options_of, options_wanted, plan_from, plan_of, serve_app, site_in}
 use Rattle.bosh_commands.specs.Site.{site_of}
 
 pub serve_is_simple : is_simple serve_app ≡ true
@@ -20,14 +22,28 @@ pub serve_is_free : is_simple_and_free serve_app ≡ true
 unfolding clap_on_literals
 serve_is_free = refl
 
+limits_reads : (f : Text → Option Text) (g : Text → Option Text) → ((id : Text) → f id ≡ g id) → limits_of f ≡ limits_of g
+limits_reads f g reads =
+    let live = codes "sessions" in
+    let openings = codes "openings" in
+    let journal = codes "journal-limit" in
+    ap (λ n. limits_from (number_in 1 65536 n) (number_in 1 4294967295 (f openings)) (number_in 65536 1099511627776 (f journal))) (reads live)
+    ∙ ap (λ n. limits_from (number_in 1 65536 (g live)) (number_in 1 4294967295 n) (number_in 65536 1099511627776 (f journal))) (reads openings)
+    ∙ ap (λ n. limits_from (number_in 1 65536 (g live)) (number_in 1 4294967295 (g openings)) (number_in 65536 1099511627776 n)) (reads journal)
+
 plan_reads : (f : Text → Option Text) (g : Text → Option Text) → ((id : Text) → f id ≡ g id) → plan_of f ≡ plan_of g
 plan_reads f g reads =
     let workers = codes "workers" in
     let connections = codes "connections" in
-    let limit = codes "journal-limit" in
-    ap (λ w. plan_from (number_in 1 64 w) (number_in 0 1048576 (f connections)) (number_in 65536 1099511627776 (f limit))) (reads workers)
-    ∙ ap (λ c. plan_from (number_in 1 64 (g workers)) (number_in 0 1048576 c) (number_in 65536 1099511627776 (f limit))) (reads connections)
-    ∙ ap (λ l. plan_from (number_in 1 64 (g workers)) (number_in 0 1048576 (g connections)) (number_in 65536 1099511627776 l)) (reads limit)
+    let open_ = codes "open" in
+    let incoming = codes "incoming" in
+    let Plan : Option Text → Option Text → Option Limits → Option Text → Option Text → Option ServePlan =
+    λ w c l o i. plan_from (number_in 1 64 w) (number_in 0 1048576 c) l (open_in o) (number_in 1048576 1099511627776 i) in
+    ap (λ w. Plan w (f connections) (limits_of f) (f open_) (f incoming)) (reads workers)
+    ∙ ap (λ c. Plan (g workers) c (limits_of f) (f open_) (f incoming)) (reads connections)
+    ∙ ap (λ l. Plan (g workers) (g connections) l (f open_) (f incoming)) (limits_reads f g reads)
+    ∙ ap (λ o. Plan (g workers) (g connections) (limits_of g) o (f incoming)) (reads open_)
+    ∙ ap (λ i. Plan (g workers) (g connections) (limits_of g) (g open_) i) (reads incoming)
 
 site_reads : (f : Text → Option Text) (g : Text → Option Text) → ((id : Text) → f id ≡ g id) → (names : Option (List Text)) → site_in f names ≡ site_in g names
 site_reads f g reads names =
@@ -47,11 +63,13 @@ by_rows f kinds rows none are =
     let names : Option (List Text) = all_of (codes "xmpp") rows in
     let eof = codes "until-eof" in
     let port = codes "port" in
+    let trace = codes "trace" in
     ap (options_of value) named
-    ∙ ap (λ e. options_from (flag_in e) (number_in 1 65535 (value port)) (plan_of value) (site_in value names)) (reads eof)
-    ∙ ap (λ p. options_from (flag_in (first eof)) (number_in 1 65535 p) (plan_of value) (site_in value names)) (reads port)
-    ∙ ap (λ plan. options_from (flag_in (first eof)) (number_in 1 65535 (first port)) plan (site_in value names)) (plan_reads value first reads)
-    ∙ ap (λ site. options_from (flag_in (first eof)) (number_in 1 65535 (first port)) (plan_of first) site) (site_reads value first reads names)
+    ∙ ap (λ e. options_from (flag_in e) (number_in 1 65535 (value port)) (plan_of value) (site_in value names) (value trace)) (reads eof)
+    ∙ ap (λ p. options_from (flag_in (first eof)) (number_in 1 65535 p) (plan_of value) (site_in value names) (value trace)) (reads port)
+    ∙ ap (λ plan. options_from (flag_in (first eof)) (number_in 1 65535 (first port)) plan (site_in value names) (value trace)) (plan_reads value first reads)
+    ∙ ap (λ site. options_from (flag_in (first eof)) (number_in 1 65535 (first port)) (plan_of first) site (value trace)) (site_reads value first reads names)
+    ∙ ap (λ t. options_from (flag_in (first eof)) (number_in 1 65535 (first port)) (plan_of first) (site_in first names) t) (reads trace)
     ∙ sym (ap (λ k. options_by k rows) none)
 
 pub wanted_so : {E : Type 0} (result : Result Wanted E) (found options : Option ServeOptions) → found ≡ options → IfOk result (λ wanted. options_wanted wanted ≡ found)

@@ -7,6 +7,7 @@ use Rattle.clap.specs.declared.builder.action.ArgAction.TheVariants.{Append, Set
 use Rattle.clap.specs.declared.error.kind.ErrorKind.TheVariants.{DisplayHelp, DisplayVersion}
 use Rattle.bosh_types.specs.Rid.{rid_of}
 use Rattle.bosh_server.specs.declared.plan.ServePlan.{ServePlan}
+use Rattle.session_table.specs.declared.opening.Limits.{Limits}
 use Rattle.bosh_commands.specs.Site.{site_of}
 use Rattle.bosh_commands.specs.declared.site.Site.{Site}
 use Rattle.bosh_commands.specs.declared.options.ServeOptions.{ServeOptions}
@@ -14,43 +15,54 @@ use Rattle.bosh_commands.specs.declared.options.Wanted.{Wanted}
 use Rattle.bosh_commands.specs.declared.options.Wanted.TheVariants as wanted
 
 -- the options, as the parser of words knows them
-abbrev pub port_rule : Rule
-port_rule = record (new_rule (codes "port")) { long = Some (codes "port"); value_names = 1; required = true }
 
-abbrev pub workers_rule : Rule
-workers_rule = record (new_rule (codes "workers")) { long = Some (codes "workers"); value_names = 1; defaults = codes "8" ∷ [] }
+-- one that takes a value, and has this one where none is given
+abbrev pub usual_rule : Text → Text → Rule
+usual_rule name usual = record (new_rule name) { long = Some name; value_names = 1; defaults = usual ∷ [] }
 
-abbrev pub connections_rule : Rule
-connections_rule = record (new_rule (codes "connections")) { long = Some (codes "connections"); value_names = 1; defaults = codes "0" ∷ [] }
+-- one that takes a value, and may be left out
+abbrev pub optional_rule : Text → Rule
+optional_rule name = record (new_rule name) { long = Some name; value_names = 1 }
 
-abbrev pub journal_limit_rule : Rule
-journal_limit_rule = record (new_rule (codes "journal-limit")) { long = Some (codes "journal-limit"); value_names = 1; defaults = codes "16777216" ∷ [] }
+-- one that takes no value
+abbrev pub switch_rule : Text → Rule
+switch_rule name = record (new_rule name) { long = Some name; action = Some SetTrue }
 
--- a word that takes no value
-abbrev pub until_eof_rule : Rule
-until_eof_rule = record (new_rule (codes "until-eof")) { long = Some (codes "until-eof"); action = Some SetTrue }
-
--- the same, and it tells its version
+-- it tells its version
 abbrev pub with_version : App → App
 with_version app = record app { top = record app.top { has_version = true } }
 
--- one that may stand several times
+-- the port has to be given
+abbrev pub port_rule : Rule
+port_rule = record (optional_rule (codes "port")) { required = true }
+
+-- a domain may be named several times
 abbrev pub xmpp_rule : Rule
-xmpp_rule = record (new_rule (codes "xmpp")) { long = Some (codes "xmpp"); value_names = 1; action = Some Append }
-
-abbrev pub xmpp_port_rule : Rule
-xmpp_port_rule = record (new_rule (codes "xmpp-port")) { long = Some (codes "xmpp-port"); value_names = 1; defaults = codes "5222" ∷ [] }
-
-abbrev pub test_hosts_rule : Rule
-test_hosts_rule = record (new_rule (codes "test-hosts")) { long = Some (codes "test-hosts"); action = Some SetTrue }
+xmpp_rule = record (optional_rule (codes "xmpp")) { action = Some Append }
 
 -- the rules of how a server runs
-abbrev pub run_app : App
-run_app = with_rule (with_rule (with_rule (with_rule (with_rule (with_version (new_app (codes "serve"))) port_rule) workers_rule) connections_rule) journal_limit_rule) until_eof_rule
+abbrev pub counts_app : App
+counts_app = with_rule (with_rule (with_rule (with_version (new_app (codes "serve"))) port_rule) (usual_rule (codes "workers") (codes "8"))) (usual_rule (codes "connections") (codes "0"))
 
--- and of which hosts it has
+-- of how much it takes
+abbrev pub limits_app : App
+limits_app =
+    with_rule (with_rule (with_rule (with_rule (with_rule counts_app
+    (usual_rule (codes "sessions") (codes "256")))
+    (usual_rule (codes "openings") (codes "1048576")))
+    (optional_rule (codes "open")))
+    (usual_rule (codes "incoming") (codes "67108864")))
+    (usual_rule (codes "journal-limit") (codes "16777216"))
+
+-- and of when it ends, which hosts it has, and where it writes traces
 abbrev pub serve_app : App
-serve_app = with_rule (with_rule (with_rule run_app xmpp_rule) xmpp_port_rule) test_hosts_rule
+serve_app =
+    with_rule (with_rule (with_rule (with_rule (with_rule limits_app
+    (switch_rule (codes "until-eof")))
+    xmpp_rule)
+    (usual_rule (codes "xmpp-port") (codes "5222")))
+    (switch_rule (codes "test-hosts")))
+    (optional_rule (codes "trace"))
 
 -- the number that a text writes in plain decimal, without a sign or a leading zero
 abbrev pub plain_number : Text → Option ℕ
@@ -70,33 +82,54 @@ abbrev pub flag_in : Option Text → Bool
 flag_in None = false
 flag_in (Some text) = bytes_eq text (codes "true")
 
-abbrev pub plan_from : Option ℕ → Option ℕ → Option ℕ → Option ServePlan
-plan_from (Some workers) (Some connections) (Some limit) = Some (record { workers = workers; connections = connections; journal_limit = limit })
-plan_from (Some workers) (Some connections) None = None
-plan_from (Some workers) None limit = None
-plan_from None connections limit = None
+abbrev pub limits_from : Option ℕ → Option ℕ → Option ℕ → Option Limits
+limits_from (Some live) (Some openings) (Some journal) = Some (record { live = live; openings = openings; journal = journal })
+limits_from (Some live) (Some openings) None = None
+limits_from (Some live) None journal = None
+limits_from None openings journal = None
 
--- what the texts of these options say: 1 to 64 workers, up to 1048576 connections, and a journal of 65,536 to 1,099,511,627,776 counted
--- bytes
+-- what the texts of these options say: 1 to 65,536 live sessions, 1 to 4,294,967,295 openings, and a journal of 65,536 to 1,099,511,627,776
+-- counted bytes
+abbrev pub limits_of : (Text → Option Text) → Option Limits
+limits_of text_of =
+    limits_from (number_in 1 65536 (text_of (codes "sessions"))) (number_in 1 4294967295 (text_of (codes "openings"))) (number_in 65536 1099511627776 (text_of (codes "journal-limit")))
+
+-- 1 to 1,048,576 open connections, where the words say how many
+abbrev pub open_in : Option Text → Option (Option ℕ)
+open_in None = Some None
+open_in (Some text) = option_map Some (number_in 1 1048576 (Some text))
+
+abbrev pub plan_from : Option ℕ → Option ℕ → Option Limits → Option (Option ℕ) → Option ℕ → Option ServePlan
+plan_from (Some workers) (Some connections) (Some limits) (Some open) (Some incoming) =
+    Some (record { workers = workers; connections = connections; limits = limits; open = open; incoming = incoming })
+plan_from (Some workers) (Some connections) (Some limits) (Some open) None = None
+plan_from (Some workers) (Some connections) (Some limits) None incoming = None
+plan_from (Some workers) (Some connections) None open incoming = None
+plan_from (Some workers) None limits open incoming = None
+plan_from None connections limits open incoming = None
+
+-- what the texts of these options say: 1 to 64 workers, up to 1,048,576 connections, the limits of sessions and of open connections, and
+-- 1,048,576 to 1,099,511,627,776 bytes that come in
 abbrev pub plan_of : (Text → Option Text) → Option ServePlan
 plan_of text_of =
-    plan_from (number_in 1 64 (text_of (codes "workers"))) (number_in 0 1048576 (text_of (codes "connections"))) (number_in 65536 1099511627776 (text_of (codes "journal-limit")))
+    plan_from (number_in 1 64 (text_of (codes "workers"))) (number_in 0 1048576 (text_of (codes "connections"))) (limits_of text_of)
+    (open_in (text_of (codes "open"))) (number_in 1048576 1099511627776 (text_of (codes "incoming")))
 
 -- the port of the XMPP server from 1 to 65535, the domains that are named, and whether the test hosts are wanted
 abbrev pub site_in : (Text → Option Text) → Option (List Text) → Option Site
 site_in text_of names = site_of (flag_in (text_of (codes "test-hosts"))) (number_in 1 65535 (text_of (codes "xmpp-port"))) names
 
-abbrev pub options_from : Bool → Option ℕ → Option ServePlan → Option Site → Option ServeOptions
-options_from until_eof (Some port) (Some plan) (Some site) = Some (record { port = port; until_eof = until_eof; plan = plan; site = site })
-options_from until_eof (Some port) (Some plan) None = None
-options_from until_eof (Some port) None site = None
-options_from until_eof None plan site = None
+abbrev pub options_from : Bool → Option ℕ → Option ServePlan → Option Site → Option Text → Option ServeOptions
+options_from until_eof (Some port) (Some plan) (Some site) trace = Some (record { port = port; until_eof = until_eof; plan = plan; site = site; trace = trace })
+options_from until_eof (Some port) (Some plan) None trace = None
+options_from until_eof (Some port) None site trace = None
+options_from until_eof None plan site trace = None
 
--- what the texts of the options say, and these names of domains: the port from 1 to 65535, how it runs, its hosts, and whether it ends
--- with its input
+-- what the texts of the options say, and these names of domains: the port from 1 to 65535, how it runs, its hosts, whether it ends with its
+-- input, and where it writes traces
 abbrev pub options_of : (Text → Option Text) → Option (List Text) → Option ServeOptions
 options_of text_of names =
-    options_from (flag_in (text_of (codes "until-eof"))) (number_in 1 65535 (text_of (codes "port"))) (plan_of text_of) (site_in text_of names)
+    options_from (flag_in (text_of (codes "until-eof"))) (number_in 1 65535 (text_of (codes "port"))) (plan_of text_of) (site_in text_of names) (text_of (codes "trace"))
 
 -- options where the parser of words has no fault to find
 abbrev pub options_by : Kinds → List Row → Option ServeOptions
@@ -116,10 +149,6 @@ options_wanted wanted.Nothing = None
 abbrev pub ends_with_input : Option ServeOptions → Bool
 ends_with_input None = false
 ends_with_input (Some options) = options.until_eof
-
--- the hosts that the server is to have
-abbrev pub site_among : Option ServeOptions → Option Site
-site_among options = option_map (λ (options : ServeOptions). options.site) options
 
 -- a text is to be shown
 abbrev pub is_shown : Wanted → Bool

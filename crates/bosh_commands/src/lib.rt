@@ -16,10 +16,11 @@ mod why;
 mod wrong_words;
 
 pub use client_command::{ENDED, REFUSED, STUCK, run_client_command};
+pub use options::ServeOptions;
 pub use run::{
     BAD_SCRIPT, BROKEN_RULE, DONE, NO_MEMORY, READ_FAULT, WRITE_FAULT, WRONG_WORDS, run_local,
     status_without_words,
 };
-pub use serve_command::{NET_FAULT, SPAWN_FAULT, run_serve_command, serves_until_eof, site_wanted};
+pub use serve_command::{NET_FAULT, SPAWN_FAULT, options_to_serve, run_serve_command};
 pub use site::Site;
 pub use wrong_words::{Mistake, mistake_in, wrong_words_text};

@@ -1,13 +1,14 @@
 // The words of the command `serve`.
 ghost use Rattle.std.specs.Prelude.{◌≡◌, ◌≢◌, ◌≤◌, ◌⊎◌, ℕ, true, false, IfOk, IfSome, None, codes, map, option_map, string_bytes};
-ghost use Rattle.clap.specs.Words.{app_of, first_value, found_of, kind_of, matched_of, raw_values};
-ghost use Rattle.bosh_commands.specs.Options.{ShowsWhatIsAsked, flag_in, is_shown, number_in, options_from, options_in, options_of, options_wanted, plain_number, plan_from, plan_of, serve_app, serve_faults, site_in};
+ghost use Rattle.clap.specs.Words.{app_of, first_value, found_of, kind_of, matched_of, raw_values, rule_of};
+ghost use Rattle.bosh_commands.specs.Options.{ShowsWhatIsAsked, flag_in, is_shown, limits_from, limits_of, number_in, open_in, optional_rule, options_from, options_in, options_of, options_wanted, plain_number, plan_from, plan_of, serve_app, serve_faults, site_in, switch_rule, usual_rule};
 
 use crate::site::{Site, site_of};
 use bosh_server::ServePlan;
-use bosh_types::Rid;
+use bosh_types::{Rid, Text};
 use clap::error::ErrorKind;
 use clap::{Arg, ArgAction, ArgMatches, Command, Error};
+use session_table::Limits;
 use std::alloc::{AllocError, Global};
 
 /// How the command `serve` is to run.
@@ -18,6 +19,8 @@ pub struct ServeOptions {
     pub until_eof: bool,
     pub plan: ServePlan,
     pub site: Site,
+    /// The directory that traces are written to, where they are.
+    pub trace: Option<Text>,
 }
 
 /// What the words ask for.
@@ -39,55 +42,146 @@ const WORKERS: u32 = 64;
 
 const CONNECTIONS: u32 = 1_048_576;
 
+const SESSIONS: u32 = 65_536;
+
+const OPENINGS: u32 = u32::MAX;
+
+const LEAST_INCOMING: u64 = 1_048_576;
+
+const GREATEST_INCOMING: u64 = 1_099_511_627_776;
+
 const LEAST_JOURNAL: u64 = 65_536;
 
 const GREATEST_JOURNAL: u64 = 1_099_511_627_776;
 
+// An option that takes a value, and has this one where none is given.
+fn usual<'a>(
+    alloc: Global,
+    name: &'a str,
+    value: &'a str,
+    usual: &'a str,
+    help: &'a str,
+) -> Arg<'a>
+    ensures rule { rule_of result ≡ usual_rule name.now usual.now }
+    ensures local { result.global ≡ false }
+{
+    Arg::new(alloc, name)
+        .long(name)
+        .value_name(value)
+        .help(help)
+        .default_value(usual)
+}
+
+// An option that takes a value, and may be left out.
+fn optional<'a>(alloc: Global, name: &'a str, value: &'a str, help: &'a str) -> Arg<'a>
+    ensures rule { rule_of result ≡ optional_rule name.now }
+    ensures local { result.global ≡ false }
+{
+    Arg::new(alloc, name)
+        .long(name)
+        .value_name(value)
+        .help(help)
+}
+
+// An option that takes no value.
+fn switch<'a>(alloc: Global, name: &'a str, help: &'a str) -> Arg<'a>
+    ensures rule { rule_of result ≡ switch_rule name.now }
+    ensures local { result.global ≡ false }
+{
+    Arg::new(alloc, name)
+        .long(name)
+        .help(help)
+        .action(ArgAction::SetTrue)
+}
+
 fn serve_command<'a>(alloc: Global) -> Result<Command<'a>, AllocError>
     ensures { IfOk result (λ command. app_of command ≡ serve_app) }
 {
-    let port = Arg::new(alloc, "port")
-        .long("port")
-        .value_name("PORT")
-        .help("The port of 127.0.0.1 to listen at, from 1 to 65535")
-        .required(true);
-    let workers = Arg::new(alloc, "workers")
-        .long("workers")
-        .value_name("WORKERS")
-        .help("How many connections are served at once, from 1 to 64")
-        .default_value("8");
-    let connections = Arg::new(alloc, "connections")
-        .long("connections")
-        .value_name("CONNECTIONS")
-        .help("After how many connections to end, up to 1048576; 0 is without end")
-        .default_value("0");
-    let journal_limit = Arg::new(alloc, "journal-limit")
-        .long("journal-limit")
-        .value_name("BYTES")
-        .help(
-            "How many counted bytes the journal of a session may have, from 65536 to 1099511627776: the request that would pass it ends the session",
-        )
-        .default_value("16777216");
-    let until_eof = Arg::new(alloc, "until-eof")
-        .long("until-eof")
-        .help("Read standard input, and end where that does")
-        .action(ArgAction::SetTrue);
-    let xmpp = Arg::new(alloc, "xmpp")
-        .long("xmpp")
-        .value_name("DOMAIN")
-        .help(
-            "A domain whose XMPP server listens at 127.0.0.1; up to eight times. Without it there are xmpp.localhost and the test hosts",
-        )
-        .action(ArgAction::Append);
-    let xmpp_port = Arg::new(alloc, "xmpp-port")
-        .long("xmpp-port")
-        .value_name("PORT")
-        .help("The port of 127.0.0.1 at which the XMPP server listens, from 1 to 65535")
-        .default_value("5222");
-    let test_hosts = Arg::new(alloc, "test-hosts")
-        .long("test-hosts")
-        .help("Serve an echo at echo.localhost and a room at room.localhost beside the domains")
-        .action(ArgAction::SetTrue);
+    let port = optional(
+        alloc,
+        "port",
+        "PORT",
+        "The port of 127.0.0.1 to listen at, from 1 to 65535",
+    )
+    .required(true);
+    let workers = usual(
+        alloc,
+        "workers",
+        "WORKERS",
+        "8",
+        "How many threads serve connections, each all that it was handed, from 1 to 64",
+    );
+    let connections = usual(
+        alloc,
+        "connections",
+        "CONNECTIONS",
+        "0",
+        "After how many connections to end, up to 1048576; 0 is without end",
+    );
+    let sessions = usual(
+        alloc,
+        "sessions",
+        "SESSIONS",
+        "256",
+        "How many sessions may be live at once, from 1 to 65536",
+    );
+    let openings = usual(
+        alloc,
+        "openings",
+        "OPENINGS",
+        "1048576",
+        "How many sessions may be opened since the start, from 1 to 4294967295",
+    );
+    let open = optional(
+        alloc,
+        "open",
+        "CONNECTIONS",
+        "How many connections may be open at once, from 1 to 1048576: one more takes the place of an idle one, or is answered by 503. Without it as many as there are descriptors for, but 64",
+    );
+    let incoming = usual(
+        alloc,
+        "incoming",
+        "BYTES",
+        "67108864",
+        "How many bytes of requests may be coming in at once, from 1048576 to 1099511627776: the request that would pass it is answered by 503",
+    );
+    let journal_limit = usual(
+        alloc,
+        "journal-limit",
+        "BYTES",
+        "16777216",
+        "How many counted bytes the journal of a session may have, from 65536 to 1099511627776: the request that would pass it ends the session",
+    );
+    let until_eof = switch(
+        alloc,
+        "until-eof",
+        "Read standard input, and end where that does",
+    );
+    let xmpp = optional(
+        alloc,
+        "xmpp",
+        "DOMAIN",
+        "A domain whose XMPP server listens at 127.0.0.1; up to eight times. Without it there are xmpp.localhost and the test hosts",
+    )
+    .action(ArgAction::Append);
+    let xmpp_port = usual(
+        alloc,
+        "xmpp-port",
+        "PORT",
+        "5222",
+        "The port of 127.0.0.1 at which the XMPP server listens, from 1 to 65535",
+    );
+    let test_hosts = switch(
+        alloc,
+        "test-hosts",
+        "Serve an echo at echo.localhost and a room at room.localhost beside the domains",
+    );
+    let trace = optional(
+        alloc,
+        "trace",
+        "DIR",
+        "Write what is seen of each session to a file in this directory, which audit judges",
+    );
     Command::new(alloc, "serve")
         .about(
             "Serves XMPP over BOSH at http://127.0.0.1:PORT/http-bind, for a server of XMPP behind it",
@@ -96,11 +190,16 @@ fn serve_command<'a>(alloc: Global) -> Result<Command<'a>, AllocError>
         .arg(port)?
         .arg(workers)?
         .arg(connections)?
+        .arg(sessions)?
+        .arg(openings)?
+        .arg(open)?
+        .arg(incoming)?
         .arg(journal_limit)?
         .arg(until_eof)?
         .arg(xmpp)?
         .arg(xmpp_port)?
-        .arg(test_hosts)
+        .arg(test_hosts)?
+        .arg(trace)
 }
 
 /// Reads the words, of which the first is the command's. The only error is want of memory.
@@ -148,7 +247,8 @@ fn options(alloc: Global, matches: &ArgMatches<'_>) -> Result<Option<ServeOption
     let port = number(matches.get_str("port"), 1, PORTS);
     let plan = plan(matches);
     let site = site(alloc, matches)?;
-    Ok(options_from(until_eof, port, plan, site))
+    let trace = text_in(alloc, matches.get_str("trace"))?;
+    Ok(options_from(until_eof, port, plan, site, trace))
 }
 
 fn plan(matches: &ArgMatches<'_>) -> Option<ServePlan>
@@ -156,29 +256,84 @@ fn plan(matches: &ArgMatches<'_>) -> Option<ServePlan>
 {
     let workers = number(matches.get_str("workers"), 1, WORKERS);
     let connections = number(matches.get_str("connections"), 0, CONNECTIONS);
-    let journal_limit = wide_number(
+    let limits = limits(matches);
+    let open = open_in(matches.get_str("open"));
+    let incoming = wide_number(
+        matches.get_str("incoming"),
+        LEAST_INCOMING,
+        GREATEST_INCOMING,
+    );
+    plan_from(workers, connections, limits, open, incoming)
+}
+
+fn limits(matches: &ArgMatches<'_>) -> Option<Limits>
+    ensures { result ≡ limits_of (λ id. first_value (found_of matches.now) id) }
+{
+    let live = number(matches.get_str("sessions"), 1, SESSIONS);
+    let openings = number(matches.get_str("openings"), 1, OPENINGS);
+    let journal = wide_number(
         matches.get_str("journal-limit"),
         LEAST_JOURNAL,
         GREATEST_JOURNAL,
     );
-    plan_from(workers, connections, journal_limit)
+    limits_from(live, openings, journal)
+}
+
+fn limits_from(live: Option<u32>, openings: Option<u32>, journal: Option<u64>) -> Option<Limits>
+    ensures { result ≡ limits_from live openings journal }
+{
+    let live = live?;
+    let openings = openings?;
+    let journal = journal?;
+    Some(Limits {
+        live,
+        openings,
+        journal,
+    })
 }
 
 fn plan_from(
     workers: Option<u32>,
     connections: Option<u32>,
-    journal_limit: Option<u64>,
+    limits: Option<Limits>,
+    open: Option<Option<u32>>,
+    incoming: Option<u64>,
 ) -> Option<ServePlan>
-    ensures { result ≡ plan_from workers connections journal_limit }
+    ensures { result ≡ plan_from workers connections limits open incoming }
 {
     let workers = workers?;
     let connections = connections?;
-    let journal_limit = journal_limit?;
+    let limits = limits?;
+    let open = open?;
+    let incoming = incoming?;
     Some(ServePlan {
         workers,
         connections,
-        journal_limit,
+        limits,
+        open,
+        incoming,
     })
+}
+
+// How many connections may be open; None within where the words don't say it.
+fn open_in(text: Option<&str>) -> Option<Option<u32>>
+    ensures { result ≡ open_in (option_map (λ text. text.now) text.entry) }
+{
+    if text.is_none() {
+        return Some(None);
+    }
+    let open = number(text, 1, CONNECTIONS)?;
+    Some(Some(open))
+}
+
+// A text of its own. The only error is want of memory.
+fn text_in(alloc: Global, text: Option<&str>) -> Result<Option<Text>, AllocError>
+    ensures { IfOk result (λ copy. copy ≡ option_map (λ text. text.now) text.entry) }
+{
+    match text {
+        Some(text) => Ok(Some(Text::from_vec(Vec::from_slice(alloc, text.as_bytes())?))),
+        None => Ok(None),
+    }
 }
 
 // The only error is want of memory.
@@ -196,9 +351,10 @@ fn options_from(
     port: Option<u32>,
     plan: Option<ServePlan>,
     site: Option<Site>,
+    trace: Option<Text>,
 ) -> Option<ServeOptions>
     requires { IfSome port (λ port. port ≤ 65535) }
-    ensures { result ≡ options_from until_eof port plan site }
+    ensures { result ≡ options_from until_eof port plan site trace }
 {
     let port = port?;
     let plan = plan?;
@@ -208,6 +364,7 @@ fn options_from(
         until_eof,
         plan,
         site,
+        trace,
     })
 }
 

@@ -2,13 +2,12 @@
 ghost use Rattle.std.specs.Prelude.{◌≡◌, ◌≢◌, ◌≤◌, [], ◌∷◌, Contains, IfOk, IfSome, IsSome, None, codes, false};
 ghost use Rattle.std.specs.Io.KnownBytes.{Appends};
 ghost use Rattle.bosh_ports.specs.Faults.{HasRisen};
-ghost use Rattle.bosh_commands.specs.Options.{Asks, MayAsk, ShowsWhatIsAsked, ends_with_input, is_shown, options_wanted, serve_findings, serve_options, site_among};
+ghost use Rattle.bosh_commands.specs.Options.{Asks, MayAsk, ShowsWhatIsAsked, ends_with_input, is_shown, options_wanted, serve_findings, serve_options};
 ghost use Rattle.bosh_commands.specs.ServeCommand.{Served, served_line};
 
 use crate::input_end::tell_end;
 use crate::options::{ServeOptions, Wanted, read_options};
 use crate::run::{DONE, NO_MEMORY, WRITE_FAULT, WRONG_WORDS};
-use crate::site::Site;
 use bosh_ports::{Bell, Polled, Sink, give_all};
 use bosh_server::{Outside, Ran, run_workers};
 use client_run::Ready;
@@ -94,30 +93,12 @@ where
     }
 }
 
-/// Whether the words say how to serve, and that the server ends with its input. The only error is want of memory.
-pub fn serves_until_eof(alloc: Global, words: &[String]) -> Result<bool, AllocError>
-    ensures { IfOk result (λ until_eof. until_eof ≡ ends_with_input (serve_options words.now)) }
+/// How the words say to serve, where they do. The only error is want of memory.
+pub fn options_to_serve(alloc: Global, words: &[String]) -> Result<Option<ServeOptions>, AllocError>
+    ensures { IfOk result (λ options. options ≡ serve_options words.now) }
 {
     match wanted(alloc, words)? {
-        Wanted::Serve(options) => Ok(options.until_eof),
-        Wanted::Shown(_) | Wanted::Nothing => Ok(false),
-    }
-}
-
-/// The hosts that the server is to have, where the words say how to serve. The only error is want of memory.
-pub fn site_wanted(alloc: Global, words: &[String]) -> Result<Option<Site>, AllocError>
-    ensures { IfOk result (λ site. site ≡ site_among (serve_options words.now)) }
-{
-    match wanted(alloc, words)? {
-        Wanted::Serve(options) => {
-            let ServeOptions {
-                port: _,
-                until_eof: _,
-                plan: _,
-                site,
-            } = options;
-            Ok(Some(site))
-        }
+        Wanted::Serve(options) => Ok(Some(options)),
         Wanted::Shown(_) | Wanted::Nothing => Ok(None),
     }
 }

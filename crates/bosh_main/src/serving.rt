@@ -1,13 +1,13 @@
 // The command `serve` over the real network, with the real clock, bell, threads and names.
 
 use crate::streams::{start_teller, stream_end};
-use bosh_commands::{NET_FAULT, NO_MEMORY, run_serve_command, serves_until_eof, site_wanted};
-use bosh_ports::{Bell, Polled, QuietSource, RealBell, Sink};
+use bosh_commands::{NET_FAULT, NO_MEMORY, ServeOptions, options_to_serve, run_serve_command};
+use bosh_ports::{Bell, Polled, QuietSource, RealBell, Sink, give_all};
 use bosh_server::Outside;
 use bosh_types::{Stanzas, Text};
 use client_run::Ready;
 use connection_loops::{Pollers, ReadyPollers};
-use front_net::FrontNetwork;
+use front_net::{FrontNetwork, room_for_links};
 use server_ports::{Names, Network, RealClock, RealNames, Spawner, ThreadSpawner, system_seed};
 use session_pump::Host;
 use std::alloc::{AllocError, Global};
@@ -16,6 +16,7 @@ use std::net::{Net, TcpListener, TcpStream};
 use std::os::fd::AsRawFd;
 use std::rt::{Clock, Files};
 use std::sync::{Arc, Wait};
+use std::thread;
 use std::thread::Threads;
 use stop_net::{EndOfInput, StoppableNetwork, Stopper, stop_apart};
 use stream_backend::{StreamBackend, Watch};
@@ -51,16 +52,35 @@ where
     K: Sink,
     E: Sink,
 {
-    if !serves_until_eof(alloc, words)? {
+    let options = options_to_serve(alloc, words)?;
+    if let Some(options) = &options {
+        tell_workers(rt, alloc, options.plan.workers, errors);
+    }
+    if !options.as_ref().is_some_and(|options| options.until_eof) {
         let mut nothing = QuietSource::new(Vec::new(alloc));
         let net = FrontNetwork::new(*rt, alloc);
-        return serve_over(rt, alloc, words, &mut nothing, sink, errors, net);
+        return serve_over(rt, alloc, words, options, &mut nothing, sink, errors, net);
     }
     let stopper = Stopper::new(alloc)?;
     stop_apart(rt, input, Arc::try_clone(&stopper)?)?;
     let mut end = EndOfInput::new(*rt, Arc::try_clone(&stopper)?);
     let net = StoppableNetwork::new(*rt, alloc, stopper);
-    serve_over(rt, alloc, words, &mut end, sink, errors, net)
+    serve_over(rt, alloc, words, options, &mut end, sink, errors, net)
+}
+
+/// Says where more threads are to serve than there are processors. What can't be said is not.
+fn tell_workers<R: Threads, E: Sink>(rt: &R, alloc: Global, workers: u32, errors: &mut E) {
+    let Ok(processors) = thread::available_parallelism(rt) else {
+        return;
+    };
+    if workers as usize <= processors.get() {
+        return;
+    }
+    if let Ok(text) = format!(in alloc;
+        "serve: {workers} workers are more than the processors that are here, {processors}\n"
+    ) {
+        let _ = give_all(errors, text.as_bytes());
+    }
 }
 
 /// Serves the hosts that the words want over this network, each with a spare of its kind, with the real clock, bell, threads and names.
@@ -68,6 +88,7 @@ fn serve_over<R, I, K, E, N>(
     rt: &R,
     alloc: Global,
     words: &[String],
+    options: Option<ServeOptions>,
     input: &mut I,
     sink: &mut K,
     errors: &mut E,
@@ -96,7 +117,8 @@ where
     let bell = RealBell::new(alloc, *rt)?;
     let mut hosts = Vec::new(alloc);
     let mut teller = None;
-    if let Some(site) = site_wanted(alloc, words)? {
+    if let Some(options) = options {
+        let site = &options.site;
         if site.has_test_hosts {
             let end = InMemory::Echo(Echo::new(alloc));
             let spare = InMemory::Echo(Echo::new(alloc));
@@ -117,6 +139,7 @@ where
     }
     let mut outside = Outside {
         net,
+        room: room_for_links(rt),
         clock: RealClock::new(*rt),
         bell,
         spawner: ThreadSpawner::new(alloc),
@@ -126,6 +149,7 @@ where
     let status = serve_hosts(rt, alloc, words, input, sink, errors, &mut outside, hosts);
     let Outside {
         net: _net,
+        room: _room,
         clock: _clock,
         bell: _bell,
         spawner,

@@ -7,6 +7,7 @@ ghost use Rattle.session_attrs.specs.Serving.{can_serve};
 
 use crate::bells::{Doors, PumpBell};
 use crate::looping::LoopJob;
+use crate::plan::ServePlan;
 use crate::pumping::PumpJob;
 use crate::seat::LoopTools;
 use crate::yard::{Post, Yard};
@@ -52,7 +53,8 @@ fn push_served(alloc: Global, served: &mut Vec<HostName>, host: HostName) -> Res
 pub(crate) fn new_yard<E: Backend>(
     alloc: Global,
     hosts: &Hosts<E>,
-    journal_limit: u64,
+    plan: &ServePlan,
+    room: u32,
 ) -> Result<(Arc<Yard>, Pass<Directory>), AllocError>
     ensures { IfOk result (λ made. IsPassOf (arc_value made.0).directory made.1) }
 {
@@ -60,7 +62,7 @@ pub(crate) fn new_yard<E: Backend>(
     let Ok((directory, pass)) = Gate::new(alloc, Directory::new(alloc)) else {
         return Err(AllocError);
     };
-    let Ok(yard) = Arc::new(alloc, Yard::new(alloc, directory, hosts, journal_limit)) else {
+    let Ok(yard) = Arc::new(alloc, Yard::new(alloc, directory, hosts, plan, room)) else {
         return Err(AllocError);
     };
     Ok((yard, pass))

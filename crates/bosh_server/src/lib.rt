@@ -11,6 +11,7 @@ mod outside;
 mod patience;
 mod plan;
 mod pumping;
+mod quota;
 mod rings;
 mod run;
 mod seat;

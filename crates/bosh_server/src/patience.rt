@@ -51,6 +51,13 @@ impl Patience {
         }
     }
 
+    /// Since when it is waited for.
+    pub(crate) fn since(&self) -> Moment
+        ensures { result ≡ self.now.since }
+    {
+        self.since
+    }
+
     /// From when on it is waited for no longer.
     pub(crate) fn due(&self) -> Moment
         ensures { result ≡ min (self.now.since + limit_of self.now.awaiting) (2 ^ 64 - 1) }

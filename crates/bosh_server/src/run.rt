@@ -53,7 +53,7 @@ where
     ensures err { OnErr result ((outside.new.net ≡ outside.old.net) × (outside.new.spawner ≡ outside.old.spawner)) }
 {
     let hosts = Hosts::new(alloc, hosts)?;
-    let (yard, pass) = new_yard(alloc, &hosts, plan.journal_limit)?;
+    let (yard, pass) = new_yard(alloc, &hosts, plan, outside.room)?;
     let mut pass = pass;
     let lanes = new_lanes(alloc, &mut outside.pollers, plan.workers.max(1))?;
     let doors = doors_of(alloc, lanes.as_slice())?;

@@ -12,7 +12,7 @@ use bosh_types::Moment;
 use connection_loops::{Door, Rouse, Seat, Wanted};
 use parked_gate::Pass;
 use polled_http::Rooms;
-use serve_loop::{Site, Trail, Wants, Worker};
+use serve_loop::{Site, Trail, Wants, Worker, turn_away};
 use server_ports::{Clock, Names};
 use session_table::{Directory, Purse};
 use std::alloc::{AllocError, Global};
@@ -133,8 +133,21 @@ where
 
     type Tools = LoopTools<R, C, B, M, W>;
 
+    fn has_room<T: Wait>(rt: &T, tools: &LoopTools<R, C, B, M, W>) -> bool {
+        tools.yard.open.has_left(rt, 1)
+    }
+
     fn seated<T: Wait>(rt: &T, tools: &mut LoopTools<R, C, B, M, W>, link: L) -> Option<Self> {
-        tools.seat(rt, link).ok()
+        let mut link = link;
+        if !tools.yard.open.take(rt, 1) {
+            turn_away(&mut tools.rooms, &mut link);
+            return None;
+        }
+        let seat = tools.seat(rt, link).ok();
+        if seat.is_none() {
+            tools.yard.open.give_back(rt, 1);
+        }
+        seat
     }
 
     fn link(&self) -> &L {
@@ -147,6 +160,15 @@ where
 
     fn due(&self) -> Moment {
         self.served.due()
+    }
+
+    fn idle_since(&self) -> Option<Moment> {
+        self.served.idle_since()
+    }
+
+    fn has_left(&mut self) -> Option<BellKey> {
+        let number = self.served.is_left()?;
+        Some(BellKey(number))
     }
 
     fn go_on<T: Wait>(
@@ -167,13 +189,20 @@ where
         wanted(wants)
     }
 
-    fn leave<T: Wait>(self, _rt: &T, tools: &mut LoopTools<R, C, B, M, W>) {
+    fn leave<T: Wait>(self, rt: &T, tools: &mut LoopTools<R, C, B, M, W>) {
         let ConnectionSeat {
             served,
             yard,
             clock: _,
         } = self;
-        let Served { link, worker, .. } = served;
+        let Served {
+            link,
+            worker,
+            coming,
+            ..
+        } = served;
+        yard.open.give_back(rt, 1);
+        yard.incoming.give_back(rt, coming);
         let mut link = link;
         link.close();
         let Worker {
@@ -208,9 +237,9 @@ fn go_on<R: Wait, L: Polled + Drop, C: Clock, B: Bell + Drop, M: Names + Drop>(
         directory: &yard.directory,
         hosts: &yard.hosts,
         clock,
-        limit: yard.journal_limit,
+        limits: yard.limits,
     };
-    served.go_on(rt, &site, rooms, most)
+    served.go_on(rt, &site, &yard.incoming, rooms, most)
 }
 
 fn wanted(wants: Wants) -> Wanted {

@@ -1,26 +1,33 @@
 // A connection with its link, and what it is served with.
-ghost use Rattle.std.specs.Prelude.{◌≡◌, ◌≤◌, ◌⊎◌};
+ghost use Rattle.std.specs.Prelude.{◌≡◌, ◌≤◌, ◌⊎◌, IfNone, IfSome, true};
+ghost use Rattle.bosh_ports.specs.Faults.{HasRisen};
 ghost use Rattle.parked_gate.specs.Passes.{IsPassOf};
-ghost use Rattle.serve_loop.specs.Connections.{IsServedBy, outside, wanted_by};
+ghost use Rattle.serve_loop.specs.Connections.{IsServedBy, Outside, outside, wanted_by};
 ghost use Rattle.serve_loop.specs.Stepping.{Steps};
-ghost use Rattle.serve_loop.specs.Trail.{setting};
+ghost use Rattle.serve_loop.specs.Trail.{Setting, setting};
+ghost use Rattle.bosh_server.specs.Quotas.{content_awaited};
 
 use crate::patience::Patience;
+use crate::quota::Quota;
 use bosh_ports::{Bell, Polled};
 use bosh_types::Moment;
 use polled_http::Rooms;
-use serve_loop::{Moved, PolledConnection, Site, Wants, Worker};
+use serve_loop::{Awaited, ConnectionEnd, Moved, PolledConnection, Site, Wants, Worker};
 use server_ports::{Clock, Names};
 use std::alloc::Global;
 use std::sync::Wait;
 
-/// A connection with its link and its worker, and how long it waits for its peer.
+/// A connection with its link and its worker, how long it waits for its peer, and how much is coming in on it.
 #[derive(Drop)]
 pub(crate) struct Served<L: Polled + Drop, B: Bell + Drop, M: Names + Drop> {
     connection: PolledConnection,
     pub(crate) link: L,
     pub(crate) worker: Worker<B, M>,
     patience: Patience,
+    // How many bytes the content has that is coming in, where one is.
+    pub(crate) coming: u64,
+    // Its peer left while its request waited.
+    is_left: bool,
 }
 
 impl<L: Polled + Drop, B: Bell + Drop, M: Names + Drop> Served<L, B, M> {
@@ -34,6 +41,8 @@ impl<L: Polled + Drop, B: Bell + Drop, M: Names + Drop> Served<L, B, M> {
             link,
             worker,
             patience: Patience::new(now),
+            coming: 0,
+            is_left: false,
         }
     }
 
@@ -42,11 +51,40 @@ impl<L: Polled + Drop, B: Bell + Drop, M: Names + Drop> Served<L, B, M> {
         self.patience.due()
     }
 
+    /// Since when it waits for the first byte of its next request, where it does.
+    pub(crate) fn idle_since(&self) -> Option<Moment> {
+        match (self.connection.wants(), self.connection.awaits()) {
+            (Wants::Bytes, Awaited::Message) => Some(self.patience.since()),
+            _ => None,
+        }
+    }
+
+    /// Whether its peer has left while its request waits, for which there is nothing yet: it has ended by that. The opening number of the
+    /// session that holds the request.
+    pub(crate) fn is_left(&mut self) -> Option<u64>
+        ensures waits { IfSome result (λ number. wanted_by self.now.connection.standing.stage ≡ Wants.Answer number) }
+        ensures said { IfSome result (λ _. HasRisen (L.leaves self.old.link) (L.leaves self.new.link)) }
+        ensures ends { IfSome result (λ _. self.new.is_left ≡ true) }
+        ensures stays { IfNone result (self.new.is_left ≡ self.old.is_left) }
+        ensures connection { self.new.connection ≡ self.old.connection }
+        ensures worker { self.new.worker ≡ self.old.worker }
+    {
+        let Wants::Answer(number) = self.connection.wants() else {
+            return None;
+        };
+        if !self.connection.is_gone(&mut self.link) {
+            return None;
+        }
+        self.is_left = true;
+        Some(number)
+    }
+
     // One step, at this moment.
     fn step<R: Wait, C: Clock>(
         &mut self,
         rt: &R,
         site: &Site<'_, C>,
+        incoming: &Quota,
         rooms: &mut Rooms,
         now: Moment,
     ) -> Moved
@@ -71,16 +109,41 @@ impl<L: Polled + Drop, B: Bell + Drop, M: Names + Drop> Served<L, B, M> {
                 connection.place(),
                 now,
             );
+            self.count_coming(rt, incoming);
         }
         moved
     }
 
+    // Takes room for the content that is coming in, and gives back what isn't needed any longer. Where there isn't so much the request is
+    // given up.
+    fn count_coming<R: Wait>(&mut self, rt: &R, incoming: &Quota)
+        ensures worker { self.new.worker ≡ self.old.worker }
+        ensures link { self.new.link ≡ self.old.link }
+        ensures reader { self.new.connection.reader ≡ self.old.connection.reader }
+        ensures held { IsServedBy self.old.worker.purse.sessions self.old.connection.standing.stage → IsServedBy self.new.worker.purse.sessions self.new.connection.standing.stage }
+        ensures moves { (site : Setting) → (now : Outside) → Steps site now now self.old.connection.standing self.new.connection.standing }
+        ensures left { self.new.is_left ≡ self.old.is_left }
+    {
+        let wanted = content_awaited(self.connection.wants(), self.connection.awaits());
+        if wanted == self.coming {
+            return;
+        }
+        incoming.give_back(rt, self.coming);
+        self.coming = 0;
+        if incoming.take(rt, wanted) {
+            self.coming = wanted;
+            return;
+        }
+        self.connection.give_up();
+    }
+
     /// Makes steps, at most so many, until its link has nothing, nothing is there yet for a request that waits, or it is over. It says what the
-    /// connection wants then, or `Nothing` where it made all these steps.
+    /// connection wants then, or `Nothing` where it made all these steps; that it has ended, where its peer left.
     pub(crate) fn go_on<R: Wait, C: Clock>(
         &mut self,
         rt: &R,
         site: &Site<'_, C>,
+        incoming: &Quota,
         rooms: &mut Rooms,
         most: u32,
     ) -> Wants
@@ -94,12 +157,15 @@ impl<L: Polled + Drop, B: Bell + Drop, M: Names + Drop> Served<L, B, M> {
             (outside self.old.connection.reader (L.left self.old.link) (L.given self.old.link) self.old.worker.trail self.old.worker.purse (L.faults self.old.link))
             (outside self.new.connection.reader (L.left self.new.link) (L.given self.new.link) self.new.worker.trail self.new.worker.purse (L.faults self.new.link))
             self.old.connection.standing self.new.connection.standing }
-        ensures wants { (result ≡ Wants.Nothing) ⊎ (result ≡ wanted_by self.new.connection.standing.stage) }
+        ensures wants { (result ≡ Wants.Nothing) ⊎ (result ≡ wanted_by self.new.connection.standing.stage) ⊎ ((result ≡ Wants.End ConnectionEnd.Gone) × (self.old.is_left ≡ true)) }
         ensures faults { L.faults self.old.link ≤ L.faults self.new.link }
     {
+        if self.is_left {
+            return Wants::End(ConnectionEnd::Gone);
+        }
         let now = site.clock.now();
         for _ in 0..most {
-            if self.step(rt, site, rooms, now) == Moved::NotYet {
+            if self.step(rt, site, incoming, rooms, now) == Moved::NotYet {
                 return self.connection.wants();
             }
             if rests(self.connection.wants()) {
@@ -107,6 +173,16 @@ impl<L: Polled + Drop, B: Bell + Drop, M: Names + Drop> Served<L, B, M> {
             }
         }
         Wants::Nothing
+    }
+}
+
+// How many bytes the content has that a connection waits for.
+fn content_awaited(wants: Wants, awaits: Awaited) -> u64
+    ensures { result ≡ content_awaited wants awaits }
+{
+    match (wants, awaits) {
+        (Wants::Bytes, Awaited::Content(length)) => length as u64,
+        _ => 0,
     }
 }
 

@@ -5,10 +5,12 @@ ghost use Rattle.std.specs.List.{list_all};
 ghost use Rattle.parked_gate.specs.Passes.{IsPassOf};
 ghost use Rattle.session_attrs.specs.Serving.{can_serve};
 
+use crate::plan::ServePlan;
+use crate::quota::Quota;
 use crate::rings::Rings;
 use bosh_types::HostNames;
 use parked_gate::Gate;
-use session_table::{Directory, Purse};
+use session_table::{Directory, Limits, Purse};
 use std::alloc::Global;
 use std::sync::{Arc, Condvar, Mutex, Wait};
 
@@ -38,8 +40,11 @@ pub(crate) struct Yard {
     pub(crate) directory: Gate<Directory>,
     pub(crate) hosts: HostNames,
     pub(crate) rings: Rings,
-    // How many counted bytes the journal of a session may have.
-    pub(crate) journal_limit: u64,
+    // The limits that sessions are opened within.
+    pub(crate) limits: Limits,
+    // The connections that are open, and the bytes of contents that are coming in.
+    pub(crate) open: Quota,
+    pub(crate) incoming: Quota,
     progress: Mutex<Progress>,
     // Some job has ended.
     ended: Condvar,
@@ -60,7 +65,8 @@ impl Yard {
         alloc: Global,
         directory: Gate<Directory>,
         hosts: HostNames,
-        journal_limit: u64,
+        plan: &ServePlan,
+        room: u32,
     ) -> Yard
         requires { IsTrue (list_all can_serve hosts) }
         ensures { result.directory ≡ directory }
@@ -69,7 +75,9 @@ impl Yard {
             directory,
             hosts,
             rings: Rings::new(alloc),
-            journal_limit,
+            limits: plan.limits,
+            open: Quota::new(u64::from(plan.open.unwrap_or(room))),
+            incoming: Quota::new(plan.incoming),
             progress: Mutex::new(Progress {
                 phase: Phase::Serving,
                 workers: 0,

@@ -208,6 +208,7 @@ where
     let mut errors = MemorySink::new(alloc, Vec::new(alloc));
     let mut outside = ServerOutside {
         net: FrontNetwork::new(*rt, alloc),
+        room: 65_536,
         clock: StillClock {
             moment: Moment::from_millis(0),
         },
@@ -228,6 +229,7 @@ where
     );
     let ServerOutside {
         net: _net,
+        room: _room,
         clock: _clock,
         bell: _bell,
         spawner,

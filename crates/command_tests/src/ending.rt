@@ -78,6 +78,7 @@ where
     let mut errors = MemorySink::new(alloc, Vec::new(alloc));
     let mut outside = Outside {
         net: StoppableNetwork::new(*rt, alloc, stopper),
+        room: 65_536,
         clock: RealClock::new(*rt),
         bell: RealBell::new(alloc, *rt)?,
         spawner: ThreadSpawner::new(alloc),
@@ -96,6 +97,7 @@ where
     );
     let Outside {
         net: _net,
+        room: _room,
         clock: _clock,
         bell: _bell,
         spawner,

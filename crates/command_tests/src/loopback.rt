@@ -89,6 +89,7 @@ where
     let mut errors = MemorySink::new(alloc, Vec::new(alloc));
     let mut outside = Outside {
         net: FrontNetwork::new(*rt, alloc),
+        room: 65_536,
         clock,
         bell,
         spawner: ThreadSpawner::new(alloc),
@@ -107,6 +108,7 @@ where
     );
     let Outside {
         net: _net,
+        room: _room,
         clock: _clock,
         bell: _bell,
         spawner,

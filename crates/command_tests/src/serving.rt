@@ -1,6 +1,6 @@
 // The command `serve` over a network in memory.
 use bosh_commands::{
-    DONE, NET_FAULT, READ_FAULT, WRONG_WORDS, run_serve_command, serves_until_eof, site_wanted,
+    DONE, NET_FAULT, READ_FAULT, WRONG_WORDS, options_to_serve, run_serve_command,
 };
 use bosh_ports::{MemorySink, MemorySource, SteadyBell};
 use bosh_server::Outside;
@@ -61,6 +61,7 @@ fn shown_over<R: Wait + Threads + Copy + Send + Sync + Drop + 'static>(
     let names = GivenNames::new(alloc, b"s", Rid::new(1000).ok_or("an id")?);
     let mut outside = Outside {
         net,
+        room: 65_536,
         clock: StillClock {
             moment: Moment::from_millis(0),
         },
@@ -82,6 +83,7 @@ fn shown_over<R: Wait + Threads + Copy + Send + Sync + Drop + 'static>(
     );
     let Outside {
         net: _net,
+        room: _room,
         clock: _clock,
         bell: _bell,
         spawner,
@@ -136,8 +138,9 @@ fn words_say_whether_a_server_ends_with_its_input(rt: HostRuntime) -> Result<(),
     ];
     for (line, wanted) in rows {
         let words = words_of(rt.alloc(), line)?;
+        let options = options_to_serve(rt.alloc(), &words)?;
         assert_eq!(rt;
-            serves_until_eof(rt.alloc(), &words)?,
+            options.is_some_and(|options| options.until_eof),
             wanted,
             "of {line:?}"
         );
@@ -148,9 +151,10 @@ fn words_say_whether_a_server_ends_with_its_input(rt: HostRuntime) -> Result<(),
 // The hosts that these words want, as a line.
 fn site_line(alloc: Global, line: &str) -> Result<String, AllocError> {
     let words = words_of(alloc, line)?;
-    let Some(site) = site_wanted(alloc, &words)? else {
+    let Some(options) = options_to_serve(alloc, &words)? else {
         return String::from_str(alloc, "none");
     };
+    let site = &options.site;
     let port = site.port;
     let tests = site.has_test_hosts;
     let mut text = format!(in alloc; "{port} {tests}")?;

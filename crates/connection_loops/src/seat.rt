@@ -24,7 +24,10 @@ pub trait Seat: Sized {
     /// What a thread has for all its seats.
     type Tools;
 
-    /// A seat for a link on which nothing came yet. None where there is no memory for it: the link is closed then.
+    /// Whether there is room for one seat more.
+    fn has_room<R: Wait>(rt: &R, tools: &Self::Tools) -> bool;
+
+    /// A seat for a link on which nothing came yet. None where there is no room or no memory for it: the link is closed then.
     fn seated<R: Wait>(rt: &R, tools: &mut Self::Tools, link: Self::Link) -> Option<Self>;
 
     fn link(&self) -> &Self::Link;
@@ -34,6 +37,12 @@ pub trait Seat: Sized {
 
     /// The moment from which on its link is waited for no longer. It is asked for where it waits for that.
     fn due(&self) -> Moment;
+
+    /// Since when it waits for the first byte of its next request, where it does: it may be ended for another then.
+    fn idle_since(&self) -> Option<Moment>;
+
+    /// Whether its peer has left while it waits for a ring: then it has ended, and this is the ring's key.
+    fn has_left(&mut self) -> Option<BellKey>;
 
     /// Makes steps, at most so many, until it wants something.
     fn go_on<R: Wait>(&mut self, rt: &R, tools: &mut Self::Tools, most: u32) -> Wanted;

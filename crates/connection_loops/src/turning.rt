@@ -1,4 +1,7 @@
 // A loop: its turns, each of which steps those that may go on.
+ghost use Rattle.std.specs.Prelude.{◌≡◌};
+ghost use Rattle.connection_loops.specs.Idle.{longer_idle};
+
 use crate::bits::bit_of;
 use crate::chains::Chain;
 use crate::door::Rouse;
@@ -6,6 +9,7 @@ use crate::inbox::Inbox;
 use crate::poller::Poller;
 use crate::seat::{Seat, Wanted};
 use crate::slots::Slots;
+use bosh_ports::BellKey;
 use bosh_types::Moment;
 use std::alloc::{AllocError, Global};
 use std::sync::Wait;
@@ -138,9 +142,30 @@ where
     }
 
     fn seat<R: Wait>(&mut self, rt: &R, link: S::Link) {
+        if !S::has_room(rt, &self.tools) {
+            self.make_room(rt);
+        }
         match S::seated(rt, &mut self.tools, link) {
             Some(seat) => self.enter(rt, seat),
             None => {}
+        }
+    }
+
+    // Ends the seat that waits longest for its next request, where one does.
+    fn make_room<R: Wait>(&mut self, rt: &R) {
+        let mut longest = None;
+        for at in 0..self.slots.bound() {
+            longest = longer_idle(longest, at, self.idle_since(at));
+        }
+        if let Some(idle) = longest {
+            self.let_go(rt, idle.at);
+        }
+    }
+
+    fn idle_since(&self, at: usize) -> Option<Moment> {
+        match self.slots.seat(at) {
+            Some(seat) => seat.idle_since(),
+            None => None,
         }
     }
 
@@ -193,17 +218,30 @@ where
         }
     }
 
-    // Steps those on whose links something may have happened, unless they wait for a ring.
+    // Steps those on whose links something may have happened. One that waits for a ring isn't stepped for that, but its peer may have left.
     fn step_news<R: Wait>(&mut self, rt: &R) {
         for i in 0..self.news.len() {
             if let Some(at) = self.news.get(i) {
                 let at = *at;
                 if self.slots.is_at_link(at) {
                     self.step(rt, at);
+                } else {
+                    self.look_for_peer(rt, at);
                 }
             }
         }
         self.news.clear();
+    }
+
+    // Where the peer has left, all who wait for the same ring are stepped: it ends, and the others find nothing.
+    fn look_for_peer<R: Wait>(&mut self, rt: &R, at: usize) {
+        let Some(seat) = self.slots.seat_mut(at) else {
+            return;
+        };
+        if let Some(key) = seat.has_left() {
+            let chain = self.slots.take_parked(bit_of(key));
+            self.step_chain(rt, chain);
+        }
     }
 
     fn step<R: Wait>(&mut self, rt: &R, at: usize) {
@@ -213,8 +251,39 @@ where
         match seat.go_on(rt, &mut self.tools, STEPS) {
             Wanted::Link => {}
             Wanted::Turn => self.slots.make_ready(at),
-            Wanted::Ring(key) => self.slots.park(at, bit_of(key)),
+            Wanted::Ring(key) => self.park(rt, at, key),
             Wanted::End => self.let_go(rt, at),
         }
+    }
+
+    // It waits for a ring, unless its peer has left: that may have been told before it began to wait.
+    fn park<R: Wait>(&mut self, rt: &R, at: usize, key: BellKey) {
+        let Some(seat) = self.slots.seat_mut(at) else {
+            return;
+        };
+        match seat.has_left() {
+            Some(_) => self.let_go(rt, at),
+            None => self.slots.park(at, bit_of(key)),
+        }
+    }
+}
+
+// A seat that waits for its next request, and since when.
+#[derive(Clone, Copy, Debug, PartialEq, Eq)]
+struct Idle {
+    at: usize,
+    since: Moment,
+}
+
+// Which of both waits longer; the first where they wait as long.
+fn longer_idle(longest: Option<Idle>, at: usize, since: Option<Moment>) -> Option<Idle>
+    ensures { result ≡ longer_idle longest at since }
+{
+    let Some(since) = since else {
+        return longest;
+    };
+    match longest {
+        Some(idle) if idle.since <= since => Some(idle),
+        _ => Some(Idle { at, since }),
     }
 }

@@ -5,7 +5,9 @@
 mod front_link;
 mod front_listener;
 mod front_network;
+mod room;
 
 pub use front_link::FrontLink;
 pub use front_listener::{Attempt, FrontListener};
 pub use front_network::FrontNetwork;
+pub use room::room_for_links;

@@ -32,6 +32,10 @@ impl Seat for Waiter {
 
     type Tools = u64;
 
+    fn has_room<R: Wait>(_rt: &R, _tools: &u64) -> bool {
+        true
+    }
+
     fn seated<R: Wait>(_rt: &R, _tools: &mut u64, link: Ticket) -> Option<Waiter> {
         let seen = link.number.load(Ordering::SeqCst);
         Some(Waiter { ticket: link, seen })
@@ -48,6 +52,14 @@ impl Seat for Waiter {
 
     fn due(&self) -> Moment {
         Moment::from_millis(self.ticket.due)
+    }
+
+    fn idle_since(&self) -> Option<Moment> {
+        None
+    }
+
+    fn has_left(&mut self) -> Option<BellKey> {
+        None
     }
 
     fn go_on<R: Wait>(&mut self, _rt: &R, tools: &mut u64, _most: u32) -> Wanted {

@@ -1,6 +1,6 @@
 -- What a step of a connection does over a link that never waits.
 use Rattle.std.proofs.Common.{◌≡◌, ◌≢◌, ℕ, ◌+◌, ◌-◌, ◌<◌, ◌≤◌, List, [], ◌∷◌, ◌++◌, Result, Ok, Err, Bool, true, false, ◌⊎◌, Option, Some, None, inl, inr, refl, sym, ◌∙◌, ap, subst, length, take, drop, slice_range, append_assoc, append-nil, arith, take-add, take-append-drop}
-use Rattle.std.proofs.KnownBytes.{Appends-trans, Appends-kept, Appends-nil, Keeps-trans}
+use Rattle.std.proofs.KnownBytes.{Appends-trans, Appends-kept, Appends-nil, Keeps-refl, Keeps-trans}
 use Rattle.std.specs.Io.KnownBytes.{Appends, Keeps, prepend_known}
 use Rattle.bosh_http.specs.Reading.{Reads}
 use Rattle.bosh_http.specs.Texts.{response_text}
@@ -8,8 +8,11 @@ use Rattle.bosh_http.specs.declared.reading.HttpIn.TheVariants as http
 use Rattle.bosh_http.specs.declared.reading.HttpIn.{HttpIn}
 use Rattle.bosh_ports.specs.Faults.{HasRisen}
 use Rattle.bosh_ports.specs.Sink.{AppendsFront}
+use Rattle.polled_http.specs.declared.giving.Given.{Given}
+use Rattle.polled_http.specs.declared.giving.Given.TheVariants as given
 use Rattle.polled_http.specs.declared.polling.HttpPolled.{HttpPolled}
 use Rattle.polled_http.specs.declared.polling.HttpPolled.TheVariants as polled
+use Rattle.polled_http.specs.Giving.{GivesFrom}
 use Rattle.session_table.specs.declared.purse.Purse.{Purse}
 use Rattle.serve_loop.specs.declared.connection.ConnectionEnd.TheVariants as ends
 use Rattle.serve_loop.specs.declared.connection.Stage.{Stage}
@@ -134,3 +137,11 @@ message_is what status text closing is_status is_text is_closing =
 pub moves_up : (site : Setting) (now : Outside) → Moves site now now stages.Reading (stages.Owing owed.NoMemory)
 moves_up site now start (es, a) =
     record { exchanges = es; stream = now.stream; purse = now.purse; answered = a; came = inl (Keeps-refl now.stream, refl) }
+
+-- what was given of a text from its beginning on is a front of it
+pub front_of : (text : List ℕ) (old mid new : Option (List ℕ)) (given : Given) → GivesFrom text 0 old mid given → Keeps mid new → AppendsFront old new text
+front_of text old mid new (given.Upto next) gives keeps =
+    (slice_range text 0 next, drop next text, sym (take-append-drop next text), Appends-kept old mid new (slice_range text 0 next) gives.2 keeps)
+front_of text old mid new given.All gave keeps = (text, [], sym (append-nil text), Appends-kept old mid new text gave keeps)
+front_of text old mid new given.NotYet same keeps = ([], text, refl, Appends-kept old old new [] (Appends-nil old) (Keeps-trans old mid new same keeps))
+front_of text old mid new given.Failed same keeps = ([], text, refl, Appends-kept old old new [] (Appends-nil old) (Keeps-trans old mid new same keeps))

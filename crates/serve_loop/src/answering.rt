@@ -147,6 +147,7 @@ fn sees_ending<R: Wait>(purse: &mut Purse, rt: &R, number: u64) -> bool
         ) => true,
         Ok(Answer::Load { ending: None, .. }) => false,
         Ok(Answer::Home(_)) => false,
+        Ok(Answer::State(_)) => false,
         Err(AllocError) => false,
     }
 }

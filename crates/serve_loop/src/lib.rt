@@ -14,6 +14,7 @@ mod refusing;
 mod serve;
 mod telling;
 mod trail;
+mod turned_away;
 mod worker;
 
 pub use bosh_http::Awaited;
@@ -23,4 +24,5 @@ pub use polled_connection::{Moved, PolledConnection};
 pub use polled_serve::serve_polled;
 pub use serve::serve_connection;
 pub use trail::{Evidence, Traced, Trail, TrailLine};
+pub use turned_away::turn_away;
 pub use worker::{Site, Worker};

@@ -6,14 +6,13 @@ ghost use Rattle.session_table.specs.Purses.{held};
 
 use crate::bell::TurningBell;
 use crate::link::{Manner, RowLink};
-use bosh_types::limits::JOURNAL_BYTES;
 use bosh_types::{HostNames, Moment, Rid, Stanzas, Text};
 use parked_gate::{Gate, Pass};
 use serve_loop::{ConnectionEnd, Site, Trail, Worker, serve_connection};
 use server_ports::{GivenNames, StillClock};
 use session_journal::{Answer, Question};
 use session_pump::{Host, Hosts, Pump};
-use session_table::{Directory, Purse};
+use session_table::{Directory, Limits, Purse};
 use std::alloc::{AllocError, Global};
 use std::sync::{Arc, Wait};
 use xmpp_backend::InMemory;
@@ -141,7 +140,7 @@ impl Place {
             &self.directory,
             &self.hosts,
             &clock,
-            JOURNAL_BYTES,
+            Limits::USUAL,
         ) else {
             return None;
         };

@@ -2,12 +2,11 @@
 ghost use Rattle.parked_gate.specs.Passes.{IsPassOf};
 
 use bosh_ports::{Bell, ListedBell, MemoryLink, MemorySink, MemorySource};
-use bosh_types::limits::JOURNAL_BYTES;
 use bosh_types::{HostName, HostNames, Moment, Rid, Stanzas, Text};
 use parked_gate::{Gate, Pass};
 use serve_loop::{ConnectionEnd, Site, Trail, Worker, serve_connection};
 use server_ports::{GivenNames, StillClock};
-use session_table::{Directory, Purse};
+use session_table::{Directory, Limits, Purse};
 use std::alloc::{AllocError, Global};
 use std::sync::Wait;
 use std::test::Fail;
@@ -82,7 +81,7 @@ fn serve_at<R: Wait>(
     let Ok(hosts) = one_host(alloc) else {
         return Err("no memory");
     };
-    let Ok(Some(site)) = Site::new(alloc, directory, &hosts, &clock, JOURNAL_BYTES) else {
+    let Ok(Some(site)) = Site::new(alloc, directory, &hosts, &clock, Limits::USUAL) else {
         return Err("a host that can't be served");
     };
     let Ok(silent) = vec![in alloc; 1] else {

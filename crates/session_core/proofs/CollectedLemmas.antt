@@ -1,6 +1,6 @@
 -- A session that hands something out stands for the plain one that did.
-use Rattle.std.proofs.Common.{◌≡◌, ℕ, zero, suc, List, [], ◌∷◌, length, drop, Option, Some, None, refl, sym, ◌∙◌, ap, subst, arith}
-use Rattle.std.specs.Prelude.{slice_get}
+use Rattle.std.proofs.Common.{◌≡◌, ℕ, zero, suc, List, [], ◌∷◌, length, drop, Option, Some, None, refl, sym, ◌∙◌, ap, subst, arith, ne_eqb}
+use Rattle.std.specs.Prelude.{◌==◌, is_some, not, slice_get}
 use Rattle.std.proofs.lemmas.Option.{slice_get_within}
 use Rattle.bosh_types.specs.declared.inward.Inward.{Inward}
 use Rattle.session_core.specs.declared.outward.Outward.{Outward}
@@ -79,12 +79,19 @@ module _ {X : Type 0} where
   get_none (suc n) [] is = refl
   get_none (suc n) (x ∷ xs) is = get_none n xs is
 
+  get_first : (xs : List X) → not (length xs == 0) ≡ is_some (slice_get xs 0)
+  get_first [] = refl
+  get_first (x ∷ xs) = ap not (ne_eqb (suc (length xs)) 0 (λ e. absurd (omega (arith, e))))
+
 pub first_inward : {s : Session} {plain : PlainSession} → Holds s plain → slice_get s.inward 0 ≡ slice_get (inward plain) plain.passed
 first_inward {plain = plain} h = ap (λ (items : List Inward). slice_get items 0) h.inward.queue_is ∙ get_drop plain.passed (inward plain)
 
 pub passed_is : (plain : PlainSession) (o : Option Inward) → o ≡ (passed_on plain o).1
 passed_is plain None = refl
 passed_is plain (Some item) = refl
+
+pub some_inward : {s : Session} {plain : PlainSession} → Holds s plain → not (length s.inward == 0) ≡ is_some (take_inward plain).1
+some_inward {s = s} {plain = plain} h = get_first s.inward ∙ ap is_some (first_inward h ∙ passed_is plain (slice_get (inward plain) plain.passed))
 
 -- the inward items alone change where one is taken
 taken_holds : {s : Session} {plain : PlainSession} (o : Option Inward) → Holds s plain → slice_get (inward plain) plain.passed ≡ o

@@ -1,5 +1,5 @@
 // What a session hands out, and what it tells of itself. Nothing here takes memory.
-ghost use Rattle.std.specs.Prelude.{◌≡◌};
+ghost use Rattle.std.specs.Prelude.{◌≡◌, is_some};
 ghost use Rattle.session_core.specs.Machine.{collect, take_inward};
 ghost use Rattle.session_core.specs.StandsFor.{StandsFor};
 ghost use Rattle.session_core.specs.State.{PlainSession, waiting_counts};
@@ -29,6 +29,14 @@ impl Session {
         ensures after { (plain : PlainSession) → StandsFor self.old plain → StandsFor self.new (take_inward plain).0 }
     {
         self.inward.take_first()
+    }
+
+    /// Whether something goes inward that was not taken yet: `take_inward` gives an item then, and none otherwise.
+    #[tactic(auto, unfolding(crate::specs::StandsFor::StandsFor))]
+    pub fn has_inward(&self) -> bool
+        ensures { (plain : PlainSession) → StandsFor self.now plain → result ≡ is_some (take_inward plain).1 }
+    {
+        !self.inward.is_empty()
     }
 
     /// Why the session ended: `None` while it goes on.

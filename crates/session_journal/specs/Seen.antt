@@ -1,11 +1,13 @@
 -- A session as the object of a gate: what calls, polls and questions are told after a history.
-use Rattle.std.specs.Prelude.{◌≡◌, ℕ, List, Option, Some, None, Result, Ok, Err}
+use Rattle.std.specs.Prelude.{◌≡◌, ℕ, List, Option, Some, None, Result, Ok, Err, is_some}
 use Rattle.std.specs.declared.alloc.AllocError.{AllocError}
+use Rattle.pause_rules.specs.Due.{IsFirstMoment}
 use Rattle.session_core.specs.declared.replies.Collected.{Collected}
 use Rattle.session_core.specs.declared.replies.Collected.TheVariants as collections
 use Rattle.session_core.specs.Journal.{Collect, ToCollect}
-use Rattle.session_core.specs.Machine.{collect}
-use Rattle.session_core.specs.State.{waiting_counts}
+use Rattle.session_core.specs.Machine.{collect, take_inward}
+use Rattle.session_core.specs.State.{PlainSession, waiting_counts}
+use Rattle.session_core.specs.Time.{is_due}
 use Rattle.session_journal.specs.declared.call.Call.{Call}
 use Rattle.session_journal.specs.declared.call.Reply.{Reply}
 use Rattle.session_journal.specs.declared.entry.Entry.{Entry}
@@ -15,6 +17,7 @@ use Rattle.session_journal.specs.declared.asking.Found.{Found}
 use Rattle.session_journal.specs.declared.asking.Found.TheVariants as found
 use Rattle.session_journal.specs.declared.asking.Question.{Question}
 use Rattle.session_journal.specs.declared.asking.Question.TheVariants as questions
+use Rattle.session_journal.specs.declared.asking.State.{State}
 use Rattle.session_journal.specs.Calls.{IsReplyTo, call_in, reply_in}
 use Rattle.session_journal.specs.Entries.{host_of}
 use Rattle.session_journal.specs.Stored.{After, Replies}
@@ -38,11 +41,27 @@ collected_as found.UnknownTicket = collections.UnknownTicket
 abbrev pub Finds : List Entry → ℕ → Found → Option Entry → Type 0
 Finds log ticket what made = Replies log (Collect ticket) (ToCollect (collected_as what)) made
 
--- the answer has what waits and how the session ended, or the host, unless there was no memory
+-- this is when time first has something to do for a session, whether an item of it goes inward, and how it has ended
+pub record IsStateOf (state : State) (plain : PlainSession) : Type 0 where
+  pub due : IsFirstMoment (is_due plain) state.due
+  pub inward : state.is_inward ≡ is_some (take_inward plain).1
+  pub ending : state.ending ≡ plain.ending
+
+-- after these entries
+abbrev pub IsStateAfter : List Entry → State → Type 0
+IsStateAfter log state = After log (IsStateOf state)
+
+-- the answer has what waits and how the session ended, or what there is to do for it, or the host, unless there was no memory for that
 abbrev pub Answers : List Entry → Question → Result Answer AllocError → Type 0
 Answers log questions.Load (Ok (answers.Load waiting ending)) = After log (λ plain. (waiting ≡ waiting_counts plain) × (ending ≡ plain.ending))
 Answers log questions.Load (Ok (answers.Home host)) = ⊥
+Answers log questions.Load (Ok (answers.State state)) = ⊥
 Answers log questions.Home (Ok (answers.Load waiting ending)) = ⊥
 Answers log questions.Home (Ok (answers.Home host)) = host_of log ≡ Some host
+Answers log questions.Home (Ok (answers.State state)) = ⊥
+Answers log questions.State (Ok (answers.Load waiting ending)) = ⊥
+Answers log questions.State (Ok (answers.Home host)) = ⊥
+Answers log questions.State (Ok (answers.State state)) = IsStateAfter log state
 Answers log questions.Load (Err error) = ⊥
+Answers log questions.State (Err error) = ⊥
 Answers log questions.Home (Err error) = Unit {0}

@@ -13,7 +13,7 @@ mod object;
 mod recorded;
 mod storing;
 
-pub use asking::{Answer, Found, Question};
+pub use asking::{Answer, Found, Question, State};
 pub use call::{Call, Reply};
 pub use entry::{Entered, Entry, Limited};
 pub use history::History;

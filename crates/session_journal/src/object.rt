@@ -8,7 +8,7 @@ use parked_gate::Object;
 use session_core::Collected;
 use std::alloc::AllocError;
 
-/// A call and a question of the host may find no memory.
+/// A call may find no memory, and so may the question of the host, and no other.
 impl Object for Recorded {
     ghost use Rattle.session_core.specs.Journal.{IsAllowed};
     ghost use Rattle.session_journal.specs.Calls.{call_in};
@@ -68,6 +68,7 @@ impl Object for Recorded {
                 let host = self.host()?;
                 Ok(Answer::Home(host))
             }
+            Question::State => Ok(Answer::State(self.state())),
         }
     }
 

@@ -9,9 +9,11 @@ ghost use Rattle.session_core.specs.Time.{is_due};
 ghost use Rattle.session_journal.specs.Calls.{IsReplyTo, call_in, reply_in};
 ghost use Rattle.session_journal.specs.declared.entry.Entered.TheVariants.{Open};
 ghost use Rattle.session_journal.specs.Entries.{host_of};
+ghost use Rattle.session_journal.specs.Seen.{IsStateAfter};
 ghost use Rattle.session_journal.specs.Stored.{After, IsJournalOf, IsLegal, Steps, tickets_out};
 ghost use Rattle.session_journal.specs.Storing.{by_caller};
 
+use crate::asking::State;
 use crate::call::{Call, Reply};
 use crate::entry::{Entered, Entry, Limited};
 use crate::history::History;
@@ -332,6 +334,17 @@ impl Recorded {
         ensures { After self.now.log (λ plain. IsFirstMoment (is_due plain) result) }
     {
         self.session.due()
+    }
+
+    /// What there is to do for the session, and whether it has ended. It takes no memory.
+    pub(crate) fn state(&self) -> State
+        ensures { IsStateAfter self.now.log result }
+    {
+        State {
+            due: self.session.due(),
+            is_inward: self.session.has_inward(),
+            ending: self.session.ending(),
+        }
     }
 
     /// Why the session ended: `None` while it goes on.

@@ -165,6 +165,7 @@ fn has_room_for(answer: &Answer, bytes: usize) -> bool
             fits(*waiting, bytes)
         }
         Answer::Home(_) => unreachable!(),
+        Answer::State(_) => unreachable!(),
     }
 }
 

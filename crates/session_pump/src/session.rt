@@ -380,6 +380,7 @@ fn is_ending(answer: &Answer) -> bool
     match answer {
         Answer::Load { ending, .. } => ending.is_some(),
         Answer::Home(_) => unreachable!(),
+        Answer::State(_) => unreachable!(),
     }
 }
 
@@ -404,5 +405,6 @@ fn home_in(answer: Answer) -> SharedText
     match answer {
         Answer::Home(name) => name,
         Answer::Load { .. } => unreachable!(),
+        Answer::State(_) => unreachable!(),
     }
 }

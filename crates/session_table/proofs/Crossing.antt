@@ -39,7 +39,6 @@ use Rattle.session_journal.specs.contracts.recorded.Recorded as Recorded
 use Rattle.session_table.specs.contracts.directory.Directory as Directory
 use Rattle.session_table.specs.contracts.handle.SessionHandle as SessionHandle
 use Rattle.session_table.specs.contracts.purse.Purse as Purse
-use Rattle.session_table.specs.contracts.timed.Timed as Timed
 
 pub deed_send : (T : RattleType) → IsSend (Deed.the_row T Heap.the_row ghosts)
 deed_send T = deed.the_send T Heap.the_row ghosts heap.send heap.frees
@@ -117,12 +116,9 @@ entry = search (shared_text, crosses) depth 200 fits 100000
 pub recorded : IsSend Recorded.the_row
 recorded = search (session, entry, shared_text, crosses) depth 200 fits 100000
 
-pub timed : IsSend Timed.the_row
-timed = search (recorded, crosses) depth 200 fits 100000
-
 -- the directory and what its callers keep
 pub handle : IsSend SessionHandle.the_row
-handle = search (timed, crosses) depth 200 fits 100000
+handle = search (recorded, crosses) depth 200 fits 100000
 
 pub directory : IsSend Directory.the_row
 directory = search (handle, crosses) depth 200 fits 100000

@@ -9,4 +9,5 @@ mod ReplyLemmas
 mod PurseLemmas
 mod PassLemmas
 mod HoldingLemmas
+mod StateLemmas
 pub mod Crossing

@@ -7,5 +7,4 @@ pub mod Keeping
 pub mod Entering
 pub mod Replies
 pub mod Serving
-pub mod Timing
 pub mod Purses

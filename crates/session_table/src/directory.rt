@@ -15,7 +15,6 @@ use crate::entry::{Entry, Event};
 use crate::handle::SessionHandle;
 use crate::opening::Opening;
 use crate::sid::{number_in, sid_text};
-use crate::timed::Timed;
 use bosh_types::{SharedText, Stanzas, Terms, Text, copy_items};
 use parked_gate::Gate;
 use session_attrs::{Kind, Request, negotiate};
@@ -202,7 +201,7 @@ fn start(alloc: Global, number: u64, opening: &Opening) -> Result<Started, Alloc
 {
     let sid = sid_text(alloc, opening.name.as_slice(), number)?;
     let (recorded, answer) = begin(alloc, number, &sid, opening)?;
-    let Ok((gate, pass)) = Gate::new(alloc, Timed { recorded }) else {
+    let Ok((gate, pass)) = Gate::new(alloc, recorded) else {
         return Err(AllocError);
     };
     let Ok(gate) = Arc::new(alloc, gate) else {

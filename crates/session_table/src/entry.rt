@@ -1,14 +1,14 @@
 // What a directory keeps of what happened to it.
-use crate::timed::Timed;
 use bosh_types::SharedText;
 use parked_gate::Gate;
+use session_journal::Recorded;
 use std::snapshot::Snapshot;
 
 /// What happened to a session.
 #[derive(Drop)]
 pub enum Event {
     /// It was opened behind this gate. Only proofs read which one it is: it takes no memory.
-    Opened(Snapshot<Gate<Timed>>),
+    Opened(Snapshot<Gate<Recorded>>),
     Removed,
 }
 

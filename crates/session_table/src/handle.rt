@@ -4,9 +4,9 @@ ghost use Rattle.std.specs.Arc.{arc_value};
 ghost use Rattle.parked_gate.specs.Passes.{IsPassOf, gate_of, known};
 ghost use Rattle.session_table.specs.Opens.{opened_sid};
 
-use crate::timed::Timed;
 use bosh_types::SharedText;
 use parked_gate::{Gate, Pass};
+use session_journal::Recorded;
 use std::alloc::{AllocError, Global};
 use std::sync::Arc;
 
@@ -16,8 +16,8 @@ pub struct SessionHandle {
     pub sid: SharedText,
     /// How many sessions were opened up to it.
     pub number: u64,
-    pub gate: Arc<Gate<Timed>, Global>,
-    pub pass: Pass<Timed>,
+    pub gate: Arc<Gate<Recorded>, Global>,
+    pub pass: Pass<Recorded>,
     pub ghost fits: { IsPassOf (arc_value gate) pass },
     // The pass has seen that the session was opened under this name.
     pub ghost opened: { opened_sid (known pass).seen ≡ Some sid },

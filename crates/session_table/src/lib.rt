@@ -12,7 +12,6 @@ mod opening;
 mod purse;
 mod serving;
 mod sid;
-mod timed;
 
 pub use calls::{
     DirectoryCall, DirectoryReply, LiveSession, LiveSessions, NewSession, Opened, Question,
@@ -23,4 +22,3 @@ pub use handle::SessionHandle;
 pub use laws::{live_sessions_are_told_by_number, names_differ};
 pub use opening::{Limits, Opening};
 pub use purse::Purse;
-pub use timed::{Timed, TimedAnswer, TimedQuestion};

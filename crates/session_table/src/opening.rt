@@ -1,4 +1,5 @@
 // What a session is opened with.
+use bosh_types::limits::{JOURNAL_BYTES, MOST_OPENINGS, MOST_SESSIONS};
 use bosh_types::{Moment, SharedText, Stanzas, Text};
 use session_attrs::Request;
 
@@ -11,6 +12,15 @@ pub struct Limits {
     pub openings: u32,
     /// How many counted bytes the journal of each may have.
     pub journal: u64,
+}
+
+impl Limits {
+    /// Those of a server that was told no others.
+    pub const USUAL: Limits = Limits {
+        live: MOST_SESSIONS,
+        openings: MOST_OPENINGS,
+        journal: JOURNAL_BYTES,
+    };
 }
 
 /// A creation, which its body gives, for a host with a greeting; the part of the session's name that was drawn for it; and the limits

@@ -7,12 +7,11 @@ ghost use Rattle.parked_gate.specs.Passes.{Calls, Grows, IsPassOf, Looks, known}
 ghost use Rattle.parked_gate.specs.Waits.{OnSilent};
 ghost use Rattle.session_core.specs.Journal.{IsAllowed};
 ghost use Rattle.session_journal.specs.Calls.{call_in};
-ghost use Rattle.session_journal.specs.Seen.{Answers, RepliesTo};
+ghost use Rattle.session_journal.specs.Seen.{Answers, IsStateAfter, RepliesTo};
 ghost use Rattle.session_table.specs.History.{live_at};
 ghost use Rattle.session_table.specs.Purses.{Holds, IsFound, IsNotHeld, IsNumberOf, KeepsLive, OpensInto, OpensOrNot, OthersStay, StaysBeside, Turned, found_of, held};
 ghost use Rattle.session_table.specs.Replies.{MayOpen};
 ghost use Rattle.session_table.specs.Serving.{PollsAs, WaitsAs};
-ghost use Rattle.session_table.specs.Timing.{IsFirstDue};
 
 use crate::calls::{
     DirectoryCall, DirectoryReply, LiveSession, NewSession, Opened, Question as Asked,
@@ -22,9 +21,9 @@ use crate::handle::SessionHandle;
 use crate::opening::Opening;
 use crate::sid::number_in;
 use bosh_ports::Bell;
-use bosh_types::{Moment, Text, Ticket};
+use bosh_types::{Text, Ticket};
 use parked_gate::{Gate, Pass, Waited};
-use session_journal::{Answer, Call, Found, Question, Reply};
+use session_journal::{Answer, Call, Found, Question, Reply, State};
 use std::alloc::{AllocError, Global};
 use std::collections::BTreeMap;
 use std::sync::Wait;
@@ -232,15 +231,15 @@ impl Purse {
         }
     }
 
-    /// The first moment at which time has something to do for the session with this opening number. It takes no memory.
-    pub fn due<R: Wait>(&mut self, rt: &R, number: u64) -> Option<Moment>
+    /// What there is to do for the session with this opening number, and whether it has ended. It takes no memory.
+    pub fn state<R: Wait>(&mut self, rt: &R, number: u64) -> State
         requires { IsSome (held self.old.sessions number) }
-        ensures looked { Turned number self.old.sessions self.new.sessions (Looks (λ seen. IsFirstDue seen result)) }
+        ensures looked { Turned number self.old.sessions self.new.sessions (Looks (λ seen. IsStateAfter seen result)) }
         ensures others { OthersStay number self.old.sessions self.new.sessions }
         ensures directory { self.new.directory ≡ self.old.directory }
     {
         match self.sessions.get_mut(&number) {
-            Some(session) => session.due(rt),
+            Some(session) => session.state(rt),
             None => unreachable!(),
         }
     }

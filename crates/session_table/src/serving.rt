@@ -5,17 +5,17 @@ ghost use Rattle.parked_gate.specs.Passes.{Calls, Looks, known};
 ghost use Rattle.parked_gate.specs.Waits.{OnSilent};
 ghost use Rattle.session_core.specs.Journal.{IsAllowed};
 ghost use Rattle.session_journal.specs.Calls.{call_in};
-ghost use Rattle.session_journal.specs.Seen.{Answers, RepliesTo};
+ghost use Rattle.session_journal.specs.declared.asking.Answer.TheVariants as answers;
+ghost use Rattle.session_journal.specs.declared.asking.State.{State};
+ghost use Rattle.session_journal.specs.Seen.{Answers, IsStateAfter, RepliesTo};
 ghost use Rattle.session_table.specs.Handles.{IsOfSame};
 ghost use Rattle.session_table.specs.Serving.{PollsAs, WaitsAs};
-ghost use Rattle.session_table.specs.Timing.{IsFirstDue};
 
 use crate::handle::SessionHandle;
-use crate::timed::{TimedAnswer, TimedQuestion};
 use bosh_ports::Bell;
-use bosh_types::{Moment, Ticket};
+use bosh_types::Ticket;
 use parked_gate::Waited;
-use session_journal::{Answer, Call, Found, Question, Reply};
+use session_journal::{Answer, Call, Found, Question, Reply, State};
 use std::alloc::AllocError;
 use std::sync::Wait;
 
@@ -38,23 +38,19 @@ impl SessionHandle {
         ensures looked { Looks (λ seen. Answers seen question.now result) (known self.old.pass) (known self.new.pass) }
         ensures learns_once { length (known self.new.pass).learnt ≡ length (known self.old.pass).learnt + 1 }
     {
-        let question = TimedQuestion::Session(*question);
-        match self.gate.look(rt, &mut self.pass, &question) {
-            TimedAnswer::Session(answer) => answer,
-            TimedAnswer::Due(_) => unreachable!(),
-        }
+        self.gate.look(rt, &mut self.pass, question)
     }
 
-    /// The first moment at which time has something to do for the session, when the pass's turn has come. It takes no memory.
-    pub fn due<R: Wait>(&mut self, rt: &R) -> Option<Moment>
+    /// What there is to do for the session, and whether it has ended, when the pass's turn has come. It takes no memory.
+    pub fn state<R: Wait>(&mut self, rt: &R) -> State
         ensures same { IsOfSame self.old self.new }
         ensures number { (known self.new.pass).number ≡ (known self.old.pass).number }
-        ensures looked { Looks (λ seen. IsFirstDue seen result) (known self.old.pass) (known self.new.pass) }
+        ensures looked { Looks (λ seen. IsStateAfter seen result) (known self.old.pass) (known self.new.pass) }
         ensures learns_once { length (known self.new.pass).learnt ≡ length (known self.old.pass).learnt + 1 }
     {
-        match self.gate.look(rt, &mut self.pass, &TimedQuestion::Due) {
-            TimedAnswer::Due(due) => due,
-            TimedAnswer::Session(_) => unreachable!(),
+        match self.look(rt, &Question::State) {
+            Ok(answer) => state_in(&answer),
+            Err(AllocError) => unreachable!(),
         }
     }
 
@@ -82,5 +78,17 @@ impl SessionHandle {
         ensures bell { B.silences bell.old ≤ B.silences bell.new }
     {
         self.gate.wait_for(rt, &mut self.pass, ticket, bell)
+    }
+}
+
+// What there is to do for a session, by its answer.
+fn state_in(answer: &Answer) -> State
+    requires { (state : State) × (answer.now ≡ answers.State state) }
+    ensures { answer.now ≡ answers.State result }
+{
+    match answer {
+        Answer::State(state) => *state,
+        Answer::Load { .. } => unreachable!(),
+        Answer::Home(_) => unreachable!(),
     }
 }

@@ -281,6 +281,7 @@ fn load_in(answer: &Answer) -> Option<(Waiting, bool)> {
     match answer {
         Answer::Load { waiting, ending } => Some((*waiting, ending.is_some())),
         Answer::Home(_) => None,
+        Answer::State(_) => None,
     }
 }
 
@@ -288,6 +289,7 @@ fn host_in(answer: &Answer) -> Option<&SharedText> {
     match answer {
         Answer::Load { .. } => None,
         Answer::Home(host) => Some(host),
+        Answer::State(_) => None,
     }
 }
 

@@ -2,13 +2,12 @@
 ghost use Rattle.parked_gate.specs.Passes.{IsPassOf};
 
 use bosh_ports::{ListedBell, MemoryLink, MemorySink, MemorySource};
-use bosh_types::limits::JOURNAL_BYTES;
 use bosh_types::{HostName, HostNames, Moment, Rid, Stanzas, Text};
 use parked_gate::{Gate, Pass};
 use polled_http::{Paced, Rooms};
 use serve_loop::{ConnectionEnd, Site, Trail, Worker, serve_connection, serve_polled};
 use server_ports::{GivenNames, StillClock};
-use session_table::{Directory, Purse};
+use session_table::{Directory, Limits, Purse};
 use std::alloc::{AllocError, Global};
 use std::sync::Wait;
 use std::test::Fail;
@@ -95,7 +94,7 @@ fn served_at<R: Wait>(
         moment: Moment::from_millis(0),
     };
     let hosts = hosts(alloc)?;
-    let Ok(Some(site)) = Site::new(alloc, directory, &hosts, &clock, JOURNAL_BYTES) else {
+    let Ok(Some(site)) = Site::new(alloc, directory, &hosts, &clock, Limits::USUAL) else {
         return Err(AllocError);
     };
     served(rt, &site, Purse::new(alloc, pass), link, manner)

@@ -7,12 +7,11 @@ ghost use Rattle.session_core.specs.Journal.{IsReadFrom};
 ghost use Rattle.session_table.specs.Replies.{MayOpen};
 
 use body_cutter::cut;
-use bosh_types::limits::JOURNAL_BYTES;
 use bosh_types::{Moment, Row, SharedText, Stanzas, Text};
 use parked_gate::{Gate, Object, Pass};
 use session_attrs::{Kind, Request, read_request};
 use session_table::{
-    Directory, DirectoryCall, DirectoryReply, Opened, Opening, Question, SessionHandle,
+    Directory, DirectoryCall, DirectoryReply, Limits, Opened, Opening, Question, SessionHandle,
 };
 use std::alloc::{AllocError, Global};
 use std::test::Fail;
@@ -105,7 +104,7 @@ fn opening_with(alloc: Global, request: Request) -> Result<Opening, AllocError>
         request,
         body: shared(alloc, CREATION)?,
         at: Moment::from_millis(0),
-        limit: JOURNAL_BYTES,
+        limits: Limits::USUAL,
     })
 }
 

@@ -13,7 +13,6 @@ ghost use Rattle.session_table.specs.Replies.{MayOpen};
 
 use body_cutter::cut;
 use bosh_ports::{Bell, SteadyBell};
-use bosh_types::limits::JOURNAL_BYTES;
 use bosh_types::{Moment, Row, SharedText, Stanzas, Text, Ticket};
 use parked_gate::Gate;
 use server_ports::StillClock;
@@ -21,7 +20,7 @@ use session_attrs::{Kind, Request, read_request};
 use session_core::Arrived;
 use session_journal::{Answer, Call, Found, Question, Reply};
 use session_pump::{Host, Hosts, Pump};
-use session_table::{Directory, NewSession, Opening, Purse};
+use session_table::{Directory, Limits, NewSession, Opening, Purse};
 use std::alloc::{AllocError, Global};
 use std::sync::Wait;
 use std::test::Fail;
@@ -144,7 +143,7 @@ fn opening_with(alloc: Global, request: Request, host: &'static [u8]) -> Result<
         request,
         body: shared(alloc, CREATION)?,
         at: Moment::from_millis(0),
-        limit: JOURNAL_BYTES,
+        limits: Limits::USUAL,
     })
 }
 

@@ -4,12 +4,11 @@ ghost use Rattle.parked_gate.specs.Passes.{IsPassOf};
 
 use super::{link_over, one_host, serve_by};
 use bosh_ports::{ListedBell, MemoryLink, RealBell};
-use bosh_types::limits::JOURNAL_BYTES;
 use bosh_types::{HostNames, Moment};
 use parked_gate::{Gate, Pass};
 use serve_loop::Site;
 use server_ports::StillClock;
-use session_table::{Directory, Purse};
+use session_table::{Directory, Limits, Purse};
 use std::alloc::{AllocError, Global};
 use std::rt::Clock;
 use std::sync::Wait;
@@ -38,7 +37,7 @@ fn serve_one<R: Wait + Clock + Copy + Drop>(
     requires { IsPassOf directory.now pass }
 {
     let clock = still();
-    let Ok(Some(site)) = Site::new(alloc, directory, hosts, &clock, JOURNAL_BYTES) else {
+    let Ok(Some(site)) = Site::new(alloc, directory, hosts, &clock, Limits::USUAL) else {
         return link;
     };
     let Ok(bell) = RealBell::new(alloc, *rt) else {
@@ -84,7 +83,7 @@ fn serve_late<R: Wait + Clock>(
     requires { IsPassOf directory.now pass }
 {
     let clock = still();
-    let Ok(Some(site)) = Site::new(alloc, directory, hosts, &clock, JOURNAL_BYTES) else {
+    let Ok(Some(site)) = Site::new(alloc, directory, hosts, &clock, Limits::USUAL) else {
         return link;
     };
     let Ok(silent) = vec![in alloc; 1] else {

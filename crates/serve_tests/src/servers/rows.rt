@@ -2,7 +2,6 @@
 use super::ports::{Given, PausingBell, ShownLink, ShownNetwork};
 use bosh_ports::QuietSource;
 use bosh_server::{Outside, Ran, ServePlan, run_workers};
-use bosh_types::limits::JOURNAL_BYTES;
 use bosh_types::{Moment, Rid, Stanzas, Text};
 use connection_loops::StillPollers;
 use server_ports::{GivenNames, ListedSpawner, StillClock, ThreadSpawner};
@@ -104,6 +103,7 @@ fn served<R: Wait + Threads + Clock + Copy + Send + Sync + Drop + 'static>(
     let names = GivenNames::new(alloc, b"s", Rid::new(1000).ok_or("an id")?);
     let mut outside = Outside {
         net,
+        room: 65_536,
         clock: StillClock {
             moment: Moment::from_millis(0),
         },
@@ -115,6 +115,7 @@ fn served<R: Wait + Threads + Clock + Copy + Send + Sync + Drop + 'static>(
     let ran = run_workers(rt, alloc, &mut outside, plan, hosts);
     let Outside {
         net: _net,
+        room: _room,
         clock: _clock,
         bell: _bell,
         spawner,
@@ -143,7 +144,7 @@ fn a_request_elsewhere_frees<R: Wait + Threads + Clock + Copy + Send + Sync + Dr
     let plan = ServePlan {
         workers,
         connections: 2,
-        journal_limit: JOURNAL_BYTES,
+        ..ServePlan::USUAL
     };
     let end = Scripted::new(alloc, Vec::new(alloc), Vec::new(alloc));
     let hosts = one_host(alloc, InMemory::Scripted(end))?;
@@ -173,7 +174,7 @@ fn the_pump_brings_what_the_back_end_gives(rt: HostRuntime) -> Result<(), Fail> 
     let plan = ServePlan {
         workers: 1,
         connections: 1,
-        journal_limit: JOURNAL_BYTES,
+        ..ServePlan::USUAL
     };
     let hosts = one_host(alloc, InMemory::Echo(Echo::new(alloc)))?;
     let ran = served(&rt, alloc, net, &plan, Vec::new(alloc), hosts)?;
@@ -195,7 +196,7 @@ fn a_network_that_stops_ends_the_server(rt: HostRuntime) -> Result<(), Fail> {
     let plan = ServePlan {
         workers: 0,
         connections: 0,
-        journal_limit: JOURNAL_BYTES,
+        ..ServePlan::USUAL
     };
     let end = Scripted::new(alloc, Vec::new(alloc), Vec::new(alloc));
     let hosts = one_host(alloc, InMemory::Scripted(end))?;
@@ -219,7 +220,7 @@ fn a_refused_start_ends_the_server(rt: HostRuntime) -> Result<(), Fail> {
         let plan = ServePlan {
             workers: 2,
             connections: 1,
-            journal_limit: JOURNAL_BYTES,
+            ..ServePlan::USUAL
         };
         let hosts = one_host(alloc, InMemory::Echo(Echo::new(alloc)))?;
         let refused = vec![in alloc; number]?;
