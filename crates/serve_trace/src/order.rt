@@ -5,7 +5,7 @@ ghost use Rattle.std.specs.Prelude.{◌≡◌, ◌↔◌, ◌⊎◌, ◌<◌, �
 #[derive(Clone, Copy, Debug, PartialEq, Eq)]
 pub enum Place {
     /// It is below the first.
-    Below,
+    Low,
     /// One with it came without a gap.
     Again,
     /// It is the next one.
@@ -17,13 +17,13 @@ pub enum Place {
 /// Where an id stands: each from `first` on came that is below `next`, and this one didn't.
 pub fn place_of(first: u64, next: u64, rid: u64) -> Place
     requires { first ≤ next }
-    ensures below { (result ≡ Place.Below) ↔ (rid < first) }
+    ensures low { (result ≡ Place.Low) ↔ (rid < first) }
     ensures again { (result ≡ Place.Again) ↔ ((first ≤ rid) × (rid < next)) }
     ensures next { (result ≡ Place.Next) ↔ (rid ≡ next) }
     ensures beyond { (result ≡ Place.Beyond) ↔ (next < rid) }
 {
     if rid < first {
-        return Place::Below;
+        return Place::Low;
     }
     if rid < next {
         return Place::Again;

@@ -1,5 +1,5 @@
 // The lines of one session, in an order in which each keeps its rule where the server does.
-ghost use Rattle.std.specs.Prelude.{◌≡◌, ◌↔◌, ◌<◌, ◌≤◌, Contains, IfSome, length, slice_get, Some, true, ⊥};
+ghost use Rattle.std.specs.Prelude.{◌≡◌, ◌↔◌, ◌<◌, ◌≤◌, Contains, IfSome, length, slice_get, Some, true};
 
 use crate::noted::{Answer, Copy, Opening};
 use crate::order::{Place, is_due, place_of};
@@ -104,7 +104,7 @@ impl SessionTrace {
     /// A copy of a later request came. One beyond a gap is held, and told once those below it are.
     pub fn came(&mut self, out: &mut Vec<u8>, copy: Copy) -> Result<(), Remark> {
         match place_of(self.first, self.next, copy.rid) {
-            Place::Below => Err(Remark::LowId),
+            Place::Low => Err(Remark::LowId),
             Place::Again => self.line(out, &[b"came ", copy.body.as_slice()]),
             Place::Next => {
                 self.tell_next(out, copy.is_plain, copy.body.as_slice())?;
