@@ -50,6 +50,8 @@ where
         + Send
         + Drop
         + 'static,
+    R::File: Send,
+    R::Dir: Send,
     I: Read + Send + Drop + 'static,
     K: Sink,
     E: Sink,
@@ -107,6 +109,8 @@ where
         + Send
         + Drop
         + 'static,
+    R::File: Send,
+    R::Dir: Send,
     I: Ready,
     K: Sink,
     E: Sink,

@@ -18,6 +18,8 @@ pub fn start_tracing_to<R, E: Backend>(
 ) -> Result<Option<Tracing>, AllocError>
 where
     R: Wait + Threads + Clock + Files + Eprint + Copy + Send + Drop + 'static,
+    R::File: Send,
+    R::Dir: Send,
 {
     let Some(directory) = directory else {
         return Ok(None);

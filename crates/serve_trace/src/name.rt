@@ -1,7 +1,10 @@
 // The opening number at the end of a session's name.
+ghost use Rattle.serve_trace.specs.Names.{EndsInDigits};
 
 // All the digits at the end of a text.
-fn digits_at_end(text: &[u8]) -> &[u8] {
+fn digits_at_end(text: &[u8]) -> &[u8]
+    ensures { EndsInDigits text.now result.now }
+{
     let mut start = text.len();
     while start > 0 {
         if !text[start - 1].is_ascii_digit() {

@@ -22,6 +22,8 @@ pub struct Answer {
     pub rid: u64,
     /// It has a `type`.
     pub is_typed: bool,
+    /// It ends the session.
+    pub is_terminal: bool,
     pub body: Text,
 }
 

@@ -56,13 +56,13 @@ fn tell(trace: &mut SessionTrace, out: &mut Vec<u8>, seen: Seen) -> Result<(), R
     match seen {
         Seen::Opened(_) => Ok(()),
         Seen::Came(copy) => {
-            if copy.sid.as_slice() != trace.sid() {
+            if !trace.is_named(copy.sid.as_slice()) {
                 return Ok(());
             }
             trace.came(out, copy)
         }
         Seen::Answered(answer) => {
-            if answer.sid.as_slice() != trace.sid() {
+            if !trace.is_named(answer.sid.as_slice()) {
                 return Ok(());
             }
             trace.answered(out, answer)
@@ -72,6 +72,14 @@ fn tell(trace: &mut SessionTrace, out: &mut Vec<u8>, seen: Seen) -> Result<(), R
         Seen::Restarted => trace.passed(out, b"restart"),
         Seen::Untold(remark) => Err(remark),
         Seen::Closed => Ok(()),
+    }
+}
+
+// Whether it says that the session has ended: an answer to a request of this one.
+fn is_last(trace: &SessionTrace, seen: &Seen) -> bool {
+    match seen {
+        Seen::Answered(answer) => answer.is_terminal && trace.is_named(answer.sid.as_slice()),
+        _ => false,
     }
 }
 
@@ -166,6 +174,7 @@ fn tell_waiting<S: Drop>(
         sid: opening.sid,
         rid: opening.rid,
         is_typed: false,
+        is_terminal: false,
         body: opening.answer,
     };
     page.trace.answered(&mut page.out, answer)
@@ -200,10 +209,15 @@ impl<S: Drop> Record<S> {
             Stage::Waiting(waiting) => {
                 self.stage = hear_waiting(alloc, paper, greetings, number, seen, waiting);
             }
-            Stage::Written(mut page) => match tell(&mut page.trace, &mut page.out, seen) {
-                Ok(()) => self.stage = Stage::Written(page),
-                Err(remark) => page.end(paper, number, Some(remark)),
-            },
+            Stage::Written(mut page) => {
+                if is_last(&page.trace, &seen) {
+                    self.ended = Some(now);
+                }
+                match tell(&mut page.trace, &mut page.out, seen) {
+                    Ok(()) => self.stage = Stage::Written(page),
+                    Err(remark) => page.end(paper, number, Some(remark)),
+                }
+            }
             Stage::Over => {}
         }
     }

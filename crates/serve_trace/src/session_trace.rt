@@ -1,5 +1,6 @@
 // The lines of one session, in an order in which each keeps its rule where the server does.
-ghost use Rattle.std.specs.Prelude.{◌≡◌, ◌↔◌, ◌<◌, ◌≤◌, Contains, IfSome, length, slice_get, Some, true};
+ghost use Rattle.std.specs.Prelude.{◌≡◌, ◌↔◌, ◌<◌, ◌≤◌, Contains, true};
+ghost use Rattle.std.specs.Str.{bytes_eq};
 
 use crate::noted::{Answer, Copy, Opening};
 use crate::order::{Place, is_due, place_of};
@@ -50,14 +51,27 @@ fn is_one_line(text: &[u8]) -> bool
     !text.contains(&b'\n')
 }
 
-// The place of the first of these copies that may be written.
-fn ready_copy(copies: &[Copy], next: u64) -> Option<usize> {
-    copies.iter().position(|copy| copy.rid <= next)
+// Takes the first of these copies that may be written.
+fn take_copy(copies: &mut Vec<Copy>, next: u64) -> Option<Copy> {
+    let place = copies.iter().position(|copy| copy.rid <= next)?;
+    if place >= copies.len() {
+        return None;
+    }
+    Some(copies.remove(place))
 }
 
-// The place of the first of these answers that may be written.
-fn ready_answer(answers: &[Answer], next: u64, unanswered: u64) -> Option<usize> {
-    answers.iter().position(|answer| is_due(next, unanswered, answer.rid, answer.is_typed))
+// Takes the first of these answers that may be written.
+fn take_answer(answers: &mut Vec<Answer>, next: u64, unanswered: u64) -> Option<Answer> {
+    let place = answers.iter().position(|answer| is_due(
+        next,
+        unanswered,
+        answer.rid,
+        answer.is_typed,
+    ))?;
+    if place >= answers.len() {
+        return None;
+    }
+    Some(answers.remove(place))
 }
 
 impl SessionTrace {
@@ -86,9 +100,11 @@ impl SessionTrace {
         Ok(trace)
     }
 
-    /// The session's name.
-    pub fn sid(&self) -> &[u8] {
-        self.sid.as_slice()
+    /// Whether this is the session's name, byte for byte.
+    pub fn is_named(&self, sid: &[u8]) -> bool
+        ensures { result ≡ bytes_eq sid.now self.now.sid }
+    {
+        sid == self.sid.as_slice()
     }
 
     /// The server gave this stanza.
@@ -187,10 +203,9 @@ impl SessionTrace {
     // Tells all copies that are held for no longer.
     fn tell_copies(&mut self, out: &mut Vec<u8>) -> Result<(), Remark> {
         for _ in 0..self.copies.len() {
-            let Some(place) = ready_copy(self.copies.as_slice(), self.next) else {
+            let Some(copy) = take_copy(&mut self.copies, self.next) else {
                 return Ok(());
             };
-            let copy = self.copies.remove(place);
             self.held = self.held.saturating_sub(copy.body.len());
             match place_of(self.first, self.next, copy.rid) {
                 Place::Next => self.tell_next(out, copy.is_plain, copy.body.as_slice())?,
@@ -203,11 +218,10 @@ impl SessionTrace {
     // Tells all answers that are held for no longer.
     fn tell_answers(&mut self, out: &mut Vec<u8>) -> Result<(), Remark> {
         for _ in 0..self.answers.len() {
-            let found = ready_answer(self.answers.as_slice(), self.next, self.unanswered);
-            let Some(place) = found else {
+            let found = take_answer(&mut self.answers, self.next, self.unanswered);
+            let Some(answer) = found else {
                 return Ok(());
             };
-            let answer = self.answers.remove(place);
             self.held = self.held.saturating_sub(answer.body.len());
             self.tell_answer(out, &answer)?;
         }

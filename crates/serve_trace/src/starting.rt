@@ -36,6 +36,8 @@ pub fn start_tracing<R>(
 ) -> Result<Tracing, AllocError>
 where
     R: Wait + Threads + Clock + Files + Eprint + Copy + Send + Drop + 'static,
+    R::File: Send,
+    R::Dir: Send,
 {
     let _ = DirBuilder::new().mode(MODE).create(rt, directory.as_str());
     let queue = TraceQueue::new(alloc)?;

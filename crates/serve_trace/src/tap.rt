@@ -32,6 +32,16 @@ enum Asked {
     },
 }
 
+/// What the `type` of an answer says.
+#[derive(Clone, Copy, Debug, PartialEq, Eq)]
+enum Typed {
+    /// There is none.
+    Plain,
+    /// The session has ended.
+    Terminal,
+    Other,
+}
+
 /// Reads what a connection carries: its requests as they come, and its responses as they are given, which answer them in their order. What
 /// belongs to a session is noted.
 #[derive(Drop)]
@@ -123,11 +133,12 @@ impl Tap {
     fn hear_answer<R: Wait>(&mut self, rt: &R, body: Text) -> Result<(), AllocError> {
         match self.asked.pop_front() {
             Some(Asked::Later { number, sid, rid }) => {
-                let is_typed = is_typed(self.alloc, body.as_slice())?;
+                let typed = typed_as(self.alloc, body.as_slice())?;
                 let answer = Answer {
                     sid,
                     rid,
-                    is_typed,
+                    is_typed: typed != Typed::Plain,
+                    is_terminal: typed == Typed::Terminal,
                     body,
                 };
                 note(rt, &self.queue, number, Seen::Answered(answer));
@@ -177,10 +188,11 @@ fn asked_by<R: Wait>(
     body: Text,
 ) -> Result<Asked, AllocError> {
     let is_plain = is_plain(&request);
-    let rid = request.rid.value();
-    match request.kind {
+    let Request { rid, kind, to, .. } = request;
+    let rid = rid.value();
+    match kind {
         Kind::Creation(_) => Ok(Asked::Creation {
-            to: request.to.unwrap_or(Text::from_vec(Vec::new(alloc))),
+            to: to.unwrap_or(Text::from_vec(Vec::new(alloc))),
             rid,
             is_plain,
             body,
@@ -233,12 +245,22 @@ fn cut_in(alloc: Global, text: &[u8]) -> Result<Option<Cut>, AllocError> {
     }
 }
 
-// Whether an answer has a `type`.
-fn is_typed(alloc: Global, body: &[u8]) -> Result<bool, AllocError> {
+// What the `type` of an answer says.
+fn typed_as(alloc: Global, body: &[u8]) -> Result<Typed, AllocError> {
     let Some(parts) = cut_in(alloc, body)? else {
-        return Ok(false);
+        return Ok(Typed::Plain);
     };
-    Ok(value_of(&parts, body, b"type").is_some())
+    match value_of(&parts, body, b"type") {
+        Some(value) => Ok(type_of(value)),
+        None => Ok(Typed::Plain),
+    }
+}
+
+fn type_of(value: &[u8]) -> Typed {
+    if value == b"terminate".as_slice() {
+        return Typed::Terminal;
+    }
+    Typed::Other
 }
 
 // The name of the session that an answer tells, where it tells one.

@@ -6,7 +6,7 @@ const BEGUN: &[Step] = &[Step::Create(0, 7), Step::Created(0, "<hello/>")];
 
 #[test]
 fn what_cannot_be_told_ends_a_trace(rt: HostRuntime) -> Result<(), Fail> {
-    let rows: [(&[Step], &[u8]); 5] = [
+    let rows: [(&[Step], &[u8]); 6] = [
         (&[Step::Gave("<a>\n</a>")], b"line feed\n"),
         (&[Step::Post(0, 8, "<a>\n</a>")], b"line feed\n"),
         (&[Step::Post(0, 6, "")], b"lower id than the first\n"),
@@ -15,6 +15,7 @@ fn what_cannot_be_told_ends_a_trace(rt: HostRuntime) -> Result<(), Fail> {
             b"answer 7 <body sid='k-5' xmlns='http://jabber.org/protocol/httpbind'><hello/></body>\n",
         ),
         (&[Step::Closed], b"\nend\n"),
+        (&[Step::Post(0, 8, ""), Step::Ended(0)], b"\nend\n"),
     ];
     for (steps, wanted) in rows {
         let mut scene = Scene::new(rt.alloc())?;
