@@ -2,7 +2,7 @@
 use bosh_types::{Stanzas, Text};
 
 /// What the host of this name gives each new session, before its back end gives anything.
-#[derive(Debug, Drop)]
+#[derive(Drop)]
 pub struct Greeting {
     pub name: Text,
     pub stanzas: Stanzas,

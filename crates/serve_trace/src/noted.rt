@@ -3,7 +3,7 @@ use crate::remark::Remark;
 use bosh_types::{SharedText, Text};
 
 /// A copy of a later request that came.
-#[derive(Debug, Drop)]
+#[derive(Drop)]
 pub struct Copy {
     /// The name of the session that it is for.
     pub sid: Text,
@@ -14,7 +14,7 @@ pub struct Copy {
 }
 
 /// An answer that was given whole.
-#[derive(Debug, Drop)]
+#[derive(Drop)]
 pub struct Answer {
     /// The name of the session that the request was for.
     pub sid: Text,
@@ -28,7 +28,7 @@ pub struct Answer {
 }
 
 /// A creation, with the answer that tells the name of its session.
-#[derive(Debug, Drop)]
+#[derive(Drop)]
 pub struct Opening {
     pub sid: Text,
     pub rid: u64,
@@ -41,7 +41,7 @@ pub struct Opening {
 }
 
 /// What was seen.
-#[derive(Debug, Drop)]
+#[derive(Drop)]
 pub enum Seen {
     Opened(Opening),
     Came(Copy),
@@ -59,7 +59,7 @@ pub enum Seen {
 }
 
 /// What was seen, of the session with this opening number.
-#[derive(Debug, Drop)]
+#[derive(Drop)]
 pub struct Noted {
     pub number: u64,
     pub seen: Seen,

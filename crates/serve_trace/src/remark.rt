@@ -2,7 +2,7 @@
 use std::alloc::AllocError;
 
 /// Why no more of a session is written.
-#[derive(Clone, Copy, Debug, PartialEq, Eq)]
+#[derive(Clone, Copy, PartialEq, Eq)]
 pub enum Remark {
     /// A text has a line feed, and no line can hold it.
     LineFeed,

@@ -33,7 +33,7 @@ enum Asked {
 }
 
 /// What the `type` of an answer says.
-#[derive(Clone, Copy, Debug, PartialEq, Eq)]
+#[derive(Clone, Copy, PartialEq, Eq)]
 enum Typed {
     /// There is none.
     Plain,
