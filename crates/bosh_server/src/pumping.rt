@@ -121,8 +121,7 @@ fn short_turn<R: Wait, C: Clock, B: Bell, E: Backend>(
 {
     pump.take_due(rt, now, &mut agenda.numbers)?;
     agenda.put_in_order();
-    pump.turn_for(rt, directory, clock, bell, agenda.numbers.as_slice())?;
-    pump.note_for(rt, agenda.numbers.as_slice())
+    pump.turn_for(rt, directory, clock, bell, agenda.numbers.as_slice())
 }
 
 // A turn for every session. Where no more links come, every live session is ended before. Whether there was memory for all of it.

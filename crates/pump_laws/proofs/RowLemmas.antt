@@ -36,7 +36,7 @@ use Rattle.std.specs.List.{filter_map}
 use Rattle.pump_laws.proofs.NumberLemmas.{Has, IsGone, IsOpening, contains_has, has_first, has_last, live_apart, live_isnt_gone, live_opened}
 use Rattle.pump_laws.proofs.PollingLemmas.{polls_at_keeps, polls_at_starts}
 use Rattle.pump_laws.proofs.ServingLemmas.{finds_keeps, finds_starts, found_number, serves_held_keeps, serves_held_starts, serves_one_keeps, serves_one_starts, tells_one_keeps, tells_one_starts}
-use Rattle.pump_laws.proofs.StepLemmas.{called_starts, good_as, good_directory, good_session, good_sessions, session_starts, starts_same, starts_then}
+use Rattle.pump_laws.proofs.StepLemmas.{called_starts, good_as, good_directory, good_noted, good_session, good_sessions, session_starts, starts_same, starts_then}
 
 -- ---- each in turn
 
@@ -246,7 +246,8 @@ module _ (B : Type 0) (n : ℕ) (small : n < 2 ^ 32) (final : List Entry) (legal
   calls_keep a b (rows.turned {moment = moment} {result = result} turns) starts g = turn_keeps moment a b result turns starts g
   calls_keep a b (rows.turned_for {moment = moment} {numbers = numbers} {result = result} turns) starts g = turn_for_keeps moment numbers a b result turns starts g
   calls_keep a b (rows.shut_down {moment = moment} {result = result} shuts) starts g = shut_down_keeps moment a b result shuts starts g
-  calls_keep a b (rows.asked_dues {numbers = numbers} sessions asks) starts g = ask_dues_keep a numbers sessions asks g
+  calls_keep a b (rows.asked_dues {numbers = numbers} sessions later asks) starts g =
+      good_noted n (record a { sessions = sessions }) later (ask_dues_keep a numbers sessions asks g)
 
 turn_starts : (moment : Option ℕ) (a b : Pumping) (result : Result ℕ AllocError) → Turns moment a b result → StartsWith b.directory.seen a.directory.seen
 turn_starts moment a b result (not_asked error asks) = asks.learns.begins
@@ -274,7 +275,7 @@ calls_starts : (a b : Pumping) → rows.Calls a b → StartsWith b.directory.see
 calls_starts a b (rows.turned {moment = moment} {result = result} turns) = turn_starts moment a b result turns
 calls_starts a b (rows.turned_for {moment = moment} {numbers = numbers} {result = result} turns) = turn_for_starts moment numbers a b result turns
 calls_starts a b (rows.shut_down {moment = moment} {result = result} shuts) = shut_down_starts moment a b result shuts
-calls_starts a b (rows.asked_dues sessions asks) = starts_same a.directory.seen
+calls_starts a b (rows.asked_dues sessions later asks) = starts_same a.directory.seen
 
 -- ---- from the beginning
 

@@ -9,6 +9,7 @@ use Rattle.std.proofs.lemmas.Slice.Eq.{bytes_eq-Decides}
 use Rattle.std.specs.declared.alloc.AllocError.{AllocError}
 use Rattle.parked_gate.specs.Histories.{Appends, StartsWith}
 use Rattle.parked_gate.specs.Passes.{Known, known}
+use Rattle.session_journal.specs.declared.asking.State.{State}
 use Rattle.session_journal.specs.declared.call.Call.TheVariants as calls
 use Rattle.session_journal.specs.declared.call.Reply.TheVariants as journal_replies
 use Rattle.session_journal.specs.declared.entry.Entry as journal
@@ -24,7 +25,7 @@ use Rattle.session_table.specs.Replies.{RepliesTo, live_sessions}
 use Rattle.session_pump.specs.NumberedTurns.{ServesHeld}
 use Rattle.session_pump.specs.Pumping.{HostFacts, HasNoHost, OnLine, Pumping, Then, alone, line_of, on_host, stopped, went_on}
 use Rattle.session_pump.specs.Sides.{PassesAll, Serves}
-use Rattle.session_pump.specs.Turns.{ClosesWire, FindsSession, IsGoingOn, IsNewLine, IsOver, Meets, Removes, RemovesEnded, ServesAlone, ServesOne, Takes, TakesAll, TellsCut, TellsOne, found, goes_on, has_ended, live_no_longer, met, met_not, no_time, not_found, not_held, refused, removed, removed_not, taken_none, ticked, told_where_cut, too_large, took}
+use Rattle.session_pump.specs.Turns.{AnswersState, ClosesWire, FindsSession, IsNewLine, LeavesAlone, Meets, Notes, Removes, RemovesEnded, ServesAlone, ServesMet, ServesOne, Takes, TakesAll, TellsCut, TellsOne, found, goes_on, has_ended, left_alone, live_no_longer, met, met_not, no_time, not_found, not_held, noted, noted_not, refused, removed, removed_not, taken_none, ticked, told_where_cut, too_large, took, was_served}
 use Rattle.session_pump.specs.Turns as turns
 use Rattle.session_pump.specs.declared.line.Line.{Line}
 use Rattle.pump_laws.specs.CallsMade.{CallMade, MadeBy, made_none}
@@ -34,7 +35,7 @@ use Rattle.pump_laws.proofs.CallLemmas.{Carries, Goes, carries_same, carries_loo
 use Rattle.pump_laws.proofs.KeepsLemmas.{Good, IdleAt, IsUnmet, Keeps, LineKeeps, host_at, is_gone, keeps_as, keeps_follows, keeps_later, none_some, same_of, same_or_apart, unmet, was_met}
 use Rattle.pump_laws.proofs.NumberLemmas.{Has, IsGone, IsOpening, live_opened, name_tells, not_live_is_gone, one_name, opening_later, removed_is_gone}
 use Rattle.pump_laws.proofs.SideLemmas.{wire_of, closes_keep, passes_all_keep, serves_keep, tells_keep}
-use Rattle.pump_laws.proofs.StepLemmas.{HasLine, called_starts, good_as, good_directory, good_session, good_sessions, met_line, on_line_keeps, session_starts, starts_same, starts_then}
+use Rattle.pump_laws.proofs.StepLemmas.{HasLine, called_starts, good_as, good_directory, good_noted, good_session, good_sessions, met_line, on_line_keeps, session_starts, starts_same, starts_then}
 
 -- ---- a session without a host
 
@@ -206,13 +207,13 @@ gone_by n sid caller before later made (replies.Found x) o never appends = absur
 
 removes_keeps : {B G : Type 0} (n m : ℕ) (sid : List ℕ) (a b : Pumping) (result : Result ⊤ AllocError) → (m ≡ n → IsOpening n sid a.directory.seen) → Removes m sid a b result
     → Good B G n a → Good B (G ⊎ (m ≡ n)) n b
-removes_keeps {B} {G} n m sid a b result named (removed directory sessions lines reply c none beside nobody others) g = by (same_or_apart m n)
+removes_keeps {B} {G} n m sid a b result named (removed directory sessions lines dues reply c none beside nobody others forgotten) g = by (same_or_apart m n)
   where
     wires : (k : ℕ) (x : Line) → line_of lines k ≡ Some x → (k ≡ m) ⊎ (k ≢ m) → x.wire ≡ wire_of k
     wires k x there (inl same) = absurd (none_some (line_of lines m) x none (ap (line_of lines) (sym same) ∙ there))
     wires k x there (inr apart) = g.wires k x (sym (beside k apart) ∙ there)
 
-    by : (m ≡ n) ⊎ (m ≢ n) → Good B (G ⊎ (m ≡ n)) n (record a { directory = directory; sessions = sessions; lines = lines })
+    by : (m ≡ n) ⊎ (m ≢ n) → Good B (G ⊎ (m ≡ n)) n (record a { directory = directory; sessions = sessions; lines = lines; dues = dues })
     by (inl same) = record {
       keeps = is_gone (ap (line_of lines) (sym same) ∙ none) (ap (held sessions) (sym same) ∙ nobody)
           (gone_by n sid a.directory.number c.before directory.seen c.made reply (opening_later n sid a.directory.seen c.before c.begins (named same)) c.says c.seen) (inr same);
@@ -231,7 +232,7 @@ removes_keeps n m sid a b result named (removed_not error) g = good_as n a (λ g
 removes_keeps n m sid a b result named (refused error asks) g = good_as n b (λ gone why. inl why) (good_directory n a b (λ k l says. called_starts _ k l says) asks g)
 
 removes_starts : (m : ℕ) (sid : List ℕ) (a b : Pumping) (result : Result ⊤ AllocError) → Removes m sid a b result → StartsWith b.directory.seen a.directory.seen
-removes_starts m sid a b result (removed directory sessions lines reply c none beside nobody others) = called_starts _ a.directory directory c
+removes_starts m sid a b result (removed directory sessions lines dues reply c none beside nobody others forgotten) = called_starts _ a.directory directory c
 removes_starts m sid a b result (removed_not error) = starts_same a.directory.seen
 removes_starts m sid a b result (refused error asks) = called_starts _ a.directory b.directory asks.learns
 
@@ -299,12 +300,23 @@ module _ {B G : Type 0} (n m : ℕ) (sid : List ℕ) (a b : Pumping) (finds : Fi
 pub finds_starts : (m : ℕ) (sid : List ℕ) (a b : Pumping) → FindsSession sid m a b → StartsWith b.directory.seen a.directory.seen
 finds_starts m sid a b finds = finds.learns.begins
 
+-- ---- when it is due is noted
+
+notes_keep : {B G : Type 0} (n m : ℕ) (due : Option ℕ) (a b : Pumping) (result : Result ⊤ AllocError) → Notes m due a b result → Good B G n a → Good B G n b
+notes_keep n m due a b result (noted dues at) g = good_noted n a dues g
+notes_keep n m due a b result (noted_not error) g = g
+
+notes_start : (m : ℕ) (due : Option ℕ) (a b : Pumping) (result : Result ⊤ AllocError) → Notes m due a b result → StartsWith b.directory.seen a.directory.seen
+notes_start m due a b result (noted dues at) = starts_same a.directory.seen
+notes_start m due a b result (noted_not error) = starts_same a.directory.seen
+
 -- ---- and is removed where it has ended
 
 removes_ended_keeps : {B G : Type 0} (moment : Option ℕ) (n m : ℕ) (sid : List ℕ) (a b : Pumping) (result : Result ⊤ AllocError) → (m ≡ n → IsOpening n sid a.directory.seen)
     → (m ≡ n → HasLine n a) → RemovesEnded moment m sid a b result → Good B G n a → Good B (G ⊎ (m ≡ n)) n b
-removes_ended_keeps moment n m sid a b result named lined (goes_on asks) g = good_as n b (λ gone why. inl why) (good_session n m a b (λ k l says. carries_look k l says) asks g)
-removes_ended_keeps {B} {G} moment n m sid a c result named lined (has_ended {b = b} asks then_) g = by result then_
+removes_ended_keeps moment n m sid a c result named lined (goes_on {b = b} state asks on notes) g =
+    good_as n c (λ gone why. inl why) (notes_keep n m state.due b c result notes (good_session n m a b (λ k l says. carries_look k l says) asks g))
+removes_ended_keeps {B} {G} moment n m sid a c result named lined (has_ended {b = b} state asks over then_) g = by result then_
   where
     asked : Good B G n b
     asked = good_session n m a b (λ k l says. carries_look k l says) asks g
@@ -336,8 +348,9 @@ removes_ended_keeps {B} {G} moment n m sid a c result named lined (has_ended {b 
         third (closes d e (Ok tt) second (passes d (Ok tt) first))
 
 removes_ended_starts : (moment : Option ℕ) (m : ℕ) (sid : List ℕ) (a b : Pumping) (result : Result ⊤ AllocError) → RemovesEnded moment m sid a b result → StartsWith b.directory.seen a.directory.seen
-removes_ended_starts moment m sid a b result (goes_on asks) = session_starts m a b asks
-removes_ended_starts moment m sid a c result (has_ended {b = b} asks then_) = starts_then a.directory.seen b.directory.seen c.directory.seen (session_starts m a b asks) (by result then_)
+removes_ended_starts moment m sid a c result (goes_on {b = b} state asks on notes) =
+    starts_then a.directory.seen b.directory.seen c.directory.seen (session_starts m a b asks) (notes_start m state.due b c result notes)
+removes_ended_starts moment m sid a c result (has_ended {b = b} state asks over then_) = starts_then a.directory.seen b.directory.seen c.directory.seen (session_starts m a b asks) (by result then_)
   where
     by : (r : Result ⊤ AllocError) → Then (OnLine (PassesAll moment) TakesAll m) (Then (OnLine ClosesWire (λ k l done. (l ≡ k) × (done ≡ Ok tt)) m) (Removes m sid)) b c r → StartsWith c.directory.seen b.directory.seen
     by r (stopped error other first) = on_line_starts (PassesAll moment) TakesAll m b c (Err error) first
@@ -347,6 +360,17 @@ removes_ended_starts moment m sid a c result (has_ended {b = b} asks then_) = st
     by r (went_on {b = d} first (went_on {b = e} second third)) =
         starts_then b.directory.seen d.directory.seen c.directory.seen (on_line_starts (PassesAll moment) TakesAll m b d (Ok tt) first)
         (starts_then d.directory.seen e.directory.seen c.directory.seen (on_line_starts ClosesWire (λ k l done. (l ≡ k) × (done ≡ Ok tt)) m d e (Ok tt) second) (removes_starts m sid e c r third))
+
+-- ---- a session is left alone
+
+leaves_keep : {B G : Type 0} (moment : Option ℕ) (n m : ℕ) (a b : Pumping) (result : Result ⊤ AllocError) → LeavesAlone moment m a b result → Good B G n a → Good B G n b
+leaves_keep moment n m a b result leaves g =
+    notes_keep n m leaves.state.due leaves.asked b result leaves.notes (good_session n m a leaves.asked (λ k l says. carries_look k l says) leaves.answers g)
+
+leaves_start : (moment : Option ℕ) (m : ℕ) (a b : Pumping) (result : Result ⊤ AllocError) → LeavesAlone moment m a b result → StartsWith b.directory.seen a.directory.seen
+leaves_start moment m a b result leaves =
+    starts_then a.directory.seen leaves.asked.directory.seen b.directory.seen (session_starts m a leaves.asked leaves.answers)
+    (notes_start m leaves.state.due leaves.asked b result leaves.notes)
 
 -- ---- a session is served
 
@@ -362,27 +386,48 @@ serves_held_keeps {B} {G} moment n m sid a f result small named then_ g = by res
         on_line_keeps n moment (Serves moment) (λ P kept s t r says p. serves_keep moment P kept s t r says p) m b c (ServesAlone moment) r
         (λ sessions no_host t others good. alone_keeps n m b (λ k l. ServesAlone moment k l r) (λ k l says. makes_alone moment k l r says) line_there sessions no_host t others good) step good
 
-    named_at : (b c : Pumping) → Meets m a b (Ok tt) → OnLine (Serves moment) (ServesAlone moment) m b c (Ok tt) → m ≡ n → IsOpening n sid c.directory.seen
-    named_at b c first second same =
-        opening_later n sid a.directory.seen c.directory.seen (starts_then a.directory.seen b.directory.seen c.directory.seen (meets_starts m a b (Ok tt) first)
-        (on_line_starts (Serves moment) (ServesAlone moment) m b c (Ok tt) second)) (named same)
+    -- what was met is asked, and keeps its line
+    asked : (b d : Pumping) (state : State) → Meets m a b (Ok tt) → AnswersState state m b d → Good B G n d
+    asked b d state first asks = good_session n m b d (λ k l says. carries_look k l says) asks (meets_keeps n m a b (Ok tt) small first g)
 
-    by : (r : Result ⊤ AllocError) → Then (Meets m) (Then (OnLine (Serves moment) (ServesAlone moment) m) (RemovesEnded moment m sid)) a f r → Good B (G ⊎ (m ≡ n)) n f
+    line_there : (b d : Pumping) (state : State) → Meets m a b (Ok tt) → AnswersState state m b d → m ≡ n → HasLine n d
+    line_there b d state first asks same = ((lined b first same).0, ap (λ (p : Pumping). line_of p.lines n) asks.same ∙ (lined b first same).1)
+
+    named_at : (b d c : Pumping) (state : State) → Meets m a b (Ok tt) → AnswersState state m b d → OnLine (Serves moment) (ServesAlone moment) m d c (Ok tt) → m ≡ n
+        → IsOpening n sid c.directory.seen
+    named_at b d c state first asks second same =
+        opening_later n sid a.directory.seen c.directory.seen (starts_then a.directory.seen b.directory.seen c.directory.seen (meets_starts m a b (Ok tt) first)
+        (starts_then b.directory.seen d.directory.seen c.directory.seen (session_starts m b d asks)
+        (on_line_starts (Serves moment) (ServesAlone moment) m d c (Ok tt) second))) (named same)
+
+    by : (r : Result ⊤ AllocError) → Then (Meets m) (ServesMet moment m sid) a f r → Good B (G ⊎ (m ≡ n)) n f
     by r (stopped error other first) = good_as n f (λ gone why. inl why) (meets_keeps n m a f (Err error) small first g)
-    by r (went_on {b = b} first (stopped error other second)) =
-        good_as n f (λ gone why. inl why) (serves b f (Err error) (lined b first) second (meets_keeps n m a b (Ok tt) small first g))
-    by r (went_on {b = b} first (went_on {b = c} second third)) =
-        removes_ended_keeps moment n m sid c f r (named_at b c first second)
-        (λ same. on_line_line (Serves moment) (ServesAlone moment) n m b c (Ok tt) second (lined b first same)) third
-        (serves b c (Ok tt) (lined b first) second (meets_keeps n m a b (Ok tt) small first g))
+    by r (went_on {b = b} first (left_alone leaves)) =
+        good_as n f (λ gone why. inl why) (leaves_keep moment n m b f r leaves (meets_keeps n m a b (Ok tt) small first g))
+    by r (went_on {b = b} first (was_served {b = d} state asks (stopped error other second))) =
+        good_as n f (λ gone why. inl why) (serves d f (Err error) (line_there b d state first asks) second (asked b d state first asks))
+    by r (went_on {b = b} first (was_served {b = d} state asks (went_on {b = c} second third))) =
+        removes_ended_keeps moment n m sid c f r (named_at b d c state first asks second)
+        (λ same. on_line_line (Serves moment) (ServesAlone moment) n m d c (Ok tt) second (line_there b d state first asks same)) third
+        (serves d c (Ok tt) (line_there b d state first asks) second (asked b d state first asks))
+
+-- and then removed where it has ended
+then_starts : (moment : Option ℕ) (m : ℕ) (sid : List ℕ) (a b : Pumping) (result : Result ⊤ AllocError)
+    → Then (OnLine (Serves moment) (ServesAlone moment) m) (RemovesEnded moment m sid) a b result → StartsWith b.directory.seen a.directory.seen
+then_starts moment m sid a b result (stopped error other first) = on_line_starts (Serves moment) (ServesAlone moment) m a b (Err error) first
+then_starts moment m sid a b result (went_on {b = c} first second) =
+    starts_then a.directory.seen c.directory.seen b.directory.seen (on_line_starts (Serves moment) (ServesAlone moment) m a c (Ok tt) first)
+    (removes_ended_starts moment m sid c b result second)
+
+serves_met_starts : (moment : Option ℕ) (m : ℕ) (sid : List ℕ) (a b : Pumping) (result : Result ⊤ AllocError) → ServesMet moment m sid a b result → StartsWith b.directory.seen a.directory.seen
+serves_met_starts moment m sid a b result (left_alone leaves) = leaves_start moment m a b result leaves
+serves_met_starts moment m sid a b result (was_served {b = c} state asks then_) =
+    starts_then a.directory.seen c.directory.seen b.directory.seen (session_starts m a c asks) (then_starts moment m sid c b result then_)
 
 pub serves_held_starts : (moment : Option ℕ) (m : ℕ) (sid : List ℕ) (a b : Pumping) (result : Result ⊤ AllocError) → ServesHeld moment m sid a b result → StartsWith b.directory.seen a.directory.seen
 serves_held_starts moment m sid a b result (stopped error other first) = meets_starts m a b (Err error) first
-serves_held_starts moment m sid a b result (went_on {b = c} first (stopped error other second)) =
-    starts_then a.directory.seen c.directory.seen b.directory.seen (meets_starts m a c (Ok tt) first) (on_line_starts (Serves moment) (ServesAlone moment) m c b (Err error) second)
-serves_held_starts moment m sid a b result (went_on {b = c} first (went_on {b = d} second third)) =
-    starts_then a.directory.seen c.directory.seen b.directory.seen (meets_starts m a c (Ok tt) first)
-    (starts_then c.directory.seen d.directory.seen b.directory.seen (on_line_starts (Serves moment) (ServesAlone moment) m c d (Ok tt) second) (removes_ended_starts moment m sid d b result third))
+serves_held_starts moment m sid a b result (went_on {b = c} first second) =
+    starts_then a.directory.seen c.directory.seen b.directory.seen (meets_starts m a c (Ok tt) first) (serves_met_starts moment m sid c b result second)
 
 -- a live session of this history is found under its own number
 pub found_number : (log final : List Entry) (session : LiveSession) (m : ℕ) (a b : Pumping) → Has (live_sessions log) session → StartsWith final log → IsLegal final

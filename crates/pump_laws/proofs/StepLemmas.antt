@@ -11,6 +11,7 @@ use Rattle.session_journal.specs.declared.entry.Entry as journal
 use Rattle.session_table.specs.declared.entry.Entry.{Entry}
 use Rattle.session_table.specs.declared.handle.SessionHandle.{SessionHandle}
 use Rattle.session_table.specs.Purses.{OthersStay, Sessions, Turned, held}
+use Rattle.session_pump.specs.Dues.{Dues}
 use Rattle.session_pump.specs.Ends.{Ends}
 use Rattle.session_pump.specs.Pumping.{AsksDirectory, AsksSession, HasNoHost, HostFacts, HostTurns, LineTurns, Lines, OnLine, Pumping, alone, line_of, on_host, side}
 use Rattle.session_pump.specs.Sides.{Side}
@@ -67,6 +68,10 @@ good_sessions n m a sessions Says carries t others g = record {
   keeps = keeps_turned n m a.sessions sessions Says carries t others (line_of a.lines n) (host_at a.hosts) a.directory.seen g.keeps;
   wires = g.wires;
 }
+
+-- whatever is noted of when sessions are due
+pub good_noted : {B G : Type 0} (n : ℕ) (a : Pumping) (dues : Dues) → Good B G n a → Good B G n (record a { dues = dues })
+good_noted n a dues g = record { keeps = g.keeps; wires = g.wires }
 
 pub good_session : {B G : Type 0} {Says : Known journal.Entry → Known journal.Entry → Type 0} (n m : ℕ) (a b : Pumping)
     → ((k l : Known journal.Entry) → Says k l → Carries k l) → AsksSession Says m a b → Good B G n a → Good B G n b

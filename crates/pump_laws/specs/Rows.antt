@@ -4,7 +4,7 @@ use Rattle.std.specs.BTreeMap.{IsEmpty}
 use Rattle.std.specs.declared.alloc.AllocError.{AllocError}
 use Rattle.session_table.specs.Purses.{Sessions}
 use Rattle.xmpp_backend.specs.Told.{Told}
-use Rattle.session_pump.specs.Dues.{AskDues}
+use Rattle.session_pump.specs.Dues.{AskDues, Dues}
 use Rattle.session_pump.specs.Ends.{End}
 use Rattle.session_pump.specs.NumberedTurns.{TurnsFor}
 use Rattle.session_pump.specs.Pumping.{HostFacts, Pumping}
@@ -33,12 +33,13 @@ abbrev pub AllTell : Pumping → Type 0
 AllTell a = Every (λ (host : HostFacts). Every (λ (end : End). IsSome end.told) (host.ends.standing ∷ host.ends.spares)) a.hosts
 
 -- one call of a pump: a whole turn, one for some sessions, the end, each with its answer, whichever it is; or sessions were asked when
--- they are due
+-- they are due, and whatever is noted of that
 pub data Calls (a : Pumping) : Pumping → Type 0 where
   turned : {b : Pumping} {moment : Option ℕ} {result : Result ℕ AllocError} → Turns moment a b result → Calls a b
   turned_for : {b : Pumping} {moment : Option ℕ} {numbers : List ℕ} {result : Result ⊤ AllocError} → TurnsFor moment numbers a b result → Calls a b
   shut_down : {b : Pumping} {moment : Option ℕ} {result : Result ⊤ AllocError} → ShutsDown moment a b result → Calls a b
-  asked_dues : {numbers : List ℕ} (sessions : Sessions) → AskDues a.sessions numbers sessions → Calls a (record a { sessions = sessions })
+  asked_dues : {numbers : List ℕ} (sessions : Sessions) (dues : Dues) → AskDues a.sessions numbers sessions
+      → Calls a (record a { sessions = sessions; dues = dues })
 
 -- calls one after the other
 pub data Row (a : Pumping) : Pumping → Type 0 where

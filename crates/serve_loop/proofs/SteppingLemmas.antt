@@ -141,7 +141,8 @@ moves_up site now start (es, a) =
 -- what was given of a text from its beginning on is a front of it
 pub front_of : (text : List ℕ) (old mid new : Option (List ℕ)) (given : Given) → GivesFrom text 0 old mid given → Keeps mid new → AppendsFront old new text
 front_of text old mid new (given.Upto next) gives keeps =
-    (slice_range text 0 next, drop next text, sym (take-append-drop next text), Appends-kept old mid new (slice_range text 0 next) gives.2 keeps)
+    let all : next - 0 ≡ next = omega arith in
+    (slice_range text 0 next, drop next text, sym (take-append-drop next text) ∙ ap (λ n. take n text ++ drop next text) (sym all), Appends-kept old mid new (slice_range text 0 next) gives.2 keeps)
 front_of text old mid new given.All gave keeps = (text, [], sym (append-nil text), Appends-kept old mid new text gave keeps)
 front_of text old mid new given.NotYet same keeps = ([], text, refl, Appends-kept old old new [] (Appends-nil old) (Keeps-trans old mid new same keeps))
 front_of text old mid new given.Failed same keeps = ([], text, refl, Appends-kept old old new [] (Appends-nil old) (Keeps-trans old mid new same keeps))

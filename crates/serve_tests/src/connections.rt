@@ -114,3 +114,14 @@ fn is_served<R: Wait>(
     let seen = serve_alone(rt, alloc, link)?;
     Ok(seen == end && link.as_slice() == wanted)
 }
+
+/// What a worker gives to a link over these bytes, which it waits for.
+pub(crate) fn given_by_worker<R: Wait>(
+    rt: &R,
+    alloc: Global,
+    bytes: &[u8],
+) -> Result<Vec<u8>, Fail> {
+    let mut link = link_over(alloc, bytes, &[], &[])?;
+    serve_alone(rt, alloc, &mut link)?;
+    Ok(link.as_slice().to_vec(alloc)?)
+}

@@ -1,2 +1,3 @@
 mod ports;
 mod rows;
+mod same;

@@ -12,7 +12,7 @@ use Rattle.std.proofs.lemmas.Option.{none-some}
 use Rattle.std.specs.Bool.{⊤}
 use Rattle.std.specs.BTreeMap.{keys}
 use Rattle.std.specs.List.{Contains}
-use Rattle.std.specs.Result.{OnErr, OnOk}
+use Rattle.std.specs.Result.{OnOk}
 use Rattle.std.specs.declared.alloc.AllocError.{AllocError}
 use Rattle.std.specs.Map.{keys_of}
 use Rattle.std.specs.Map.Iter.{deref_pair}
@@ -21,9 +21,8 @@ use Rattle.std.specs.Ordering.{is_eq, nat_cmp}
 use Rattle.pause_rules.specs.NextDue.{IsByNumber, IsNextDue, moment_of}
 use Rattle.parked_gate.specs.Passes.{Looks, known}
 use Rattle.session_table.specs.declared.handle.SessionHandle.{SessionHandle}
-use Rattle.session_table.specs.Purses.{OthersStay, Sessions, Turned, held}
-use Rattle.session_table.specs.Timing.{IsFirstDue}
-use Rattle.session_pump.specs.Dues.{AskDues, AsksDue, Dues, IsDueOf, IsNoted, IsOver, IsTakenBy, asked, asked_none, asked_one, not_held, stays, was_due}
+use Rattle.session_table.specs.Purses.{Sessions, Turned, held}
+use Rattle.session_pump.specs.Dues.{AskDues, AsksDue, Dues, IsDueOf, IsFirstDue, IsNoted, IsNotedAs, IsOver, IsTakenBy, asked, asked_none, asked_one, not_held, stays, was_due}
 
 -- a pair of the index is the moment of its number
 moment_is : (dues : Dues) (number moment : ℕ) → IsByNumber dues → Contains dues (number, moment) → moment_of dues number ≡ Some moment
@@ -40,6 +39,9 @@ cleared_at old new number found = found number ∙ ap (λ (b : Bool). cond b Non
 pub cleared_else : (old new : Dues) (number : ℕ) → IsCleared old new number → (other : ℕ) → other ≢ number → moment_of new other ≡ moment_of old other
 cleared_else old new number found other apart =
     found other ∙ ap (λ (b : Bool). cond b None (moment_of old other)) (ne_eqb number other (λ e. apart (sym e)))
+
+pub forgotten : (old new : Dues) (number : ℕ) → IsCleared old new number → IsNotedAs number None old new
+forgotten old new number found = record { this = cleared_at old new number found; others = cleared_else old new number found }
 
 -- the number that is due first was taken too
 pub taken_more : (now : ℕ) (first old new : Dues) (numbers longer : List ℕ) (number : ℕ) → longer ≡ numbers ++ number ∷ [] → IsByNumber old → IsNextDue old now (Some number)

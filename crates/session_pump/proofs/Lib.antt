@@ -6,5 +6,6 @@ mod GivingLemmas
 mod PlaceLemmas
 mod EndsLemmas
 mod TurnLemmas
+mod LeavingLemmas
 mod NumberedLemmas
 mod DueLemmas

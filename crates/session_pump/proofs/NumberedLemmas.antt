@@ -1,5 +1,5 @@
 -- A turn over a list of numbers, step by step.
-use Rattle.std.proofs.Common.{◌≡◌, ◌==◌, ◌+◌, ◌<◌, ℕ, Bool, true, false, List, [], ◌∷◌, length, map, take, drop, get_or, Option, Some, None, IfSome, IfNone, IsSome, Result, Ok, Err, refl, sym, subst, ap, ◌∙◌, true≢false}
+use Rattle.std.proofs.Common.{◌≡◌, ◌+◌, ◌<◌, ℕ, Bool, false, List, [], ◌∷◌, length, map, take, get_or, Option, Some, None, IfSome, IfNone, IsSome, Result, Ok, Err, refl, sym, subst, ap, ◌∙◌, true≢false}
 use Rattle.std.proofs.lemmas.List.{take_more}
 use Rattle.std.proofs.lemmas.List.Elements.{Contains-get_or}
 use Rattle.std.proofs.lemmas.Option.{none-some}

@@ -13,8 +13,6 @@ use Rattle.std.specs.Result.{IsErr, OnErr, OnOk}
 use Rattle.std.specs.declared.alloc.AllocError.{AllocError}
 use Rattle.bosh_types.specs.declared.inward.Inward.{Inward}
 use Rattle.parked_gate.specs.Passes.{Calls, Known, Looks}
-use Rattle.bosh_types.specs.declared.ending.Ending.{Ending}
-use Rattle.session_core.specs.declared.replies.Waiting.{Waiting}
 use Rattle.session_journal.specs.declared.asking.Answer.{Answer}
 use Rattle.session_journal.specs.declared.asking.Answer.TheVariants as answers
 use Rattle.session_journal.specs.declared.asking.Question.TheVariants as questions
@@ -30,6 +28,7 @@ use Rattle.session_table.specs.History.{live_at}
 use Rattle.session_table.specs.Replies.{RepliesTo}
 use Rattle.session_table.specs.Purses.{IsFound, OthersStay, Sessions, Turned, held}
 use Rattle.xmpp_backend.specs.Told.{Told, closed_too}
+use Rattle.session_pump.specs.Dues.{Dues, IsNotedAs}
 use Rattle.session_pump.specs.Ends.{Changes, Ends, telling}
 use Rattle.session_pump.specs.Giving.{PollsHost}
 use Rattle.session_pump.specs.Places.{IsFirstPlace}
@@ -37,14 +36,14 @@ use Rattle.session_pump.specs.Calling.{Called, Ticks}
 use Rattle.session_pump.specs.Sides.{Moves, Side}
 use Rattle.session_pump.specs.declared.line.Stage.TheVariants as stages
 use Rattle.session_pump.specs.Pumping.{AsksDirectory, AsksSession, Each, EachPlace, HasOpened, HostFacts, HostTurns, LineTurns, Lines, OnLine, Pumping, Step, Then, alone, and_one, both, line_of, next_place, on_host, side, stopped}
-use Rattle.session_pump.specs.Turns.{AsksLive, ClosesWire, CountsLive, IsGoingOn, IsNewLine, IsOver, Meets, PollsAt, Removes, ServesAlone, ShutsDown, Takes, TakesAll, TellsCut, Turns, closes_it, counted, met, met_not, no_time, not_asked, refused, removed, removed_not, shuts_nobody, ticked, took, wants_memory, was_met}
+use Rattle.session_pump.specs.Turns.{AsksLive, ClosesWire, CountsLive, IsNewLine, Meets, PollsAt, Removes, ServesAlone, ShutsDown, Takes, TakesAll, TellsCut, Turns, closes_it, counted, met, met_not, no_time, not_asked, refused, removed, removed_not, shuts_nobody, ticked, took, wants_memory, was_met}
 use Rattle.session_pump.specs.declared.line.Line.{Line}
 use Rattle.session_pump.proofs.GivingLemmas.{looks_as}
 use Rattle.session_pump.proofs.MovesLemmas.{ends_are}
 use Rattle.session_pump.proofs.TurnedLemmas.{some_same, turned_as, turned_then}
 
-abbrev pub pumping : Known Entry → Sessions → Lines → List HostFacts → Pumping
-pumping directory sessions lines hosts = record { directory = directory; sessions = sessions; lines = lines; hosts = hosts }
+abbrev pub pumping : Dues → Known Entry → Sessions → Lines → List HostFacts → Pumping
+pumping dues directory sessions lines hosts = record { directory = directory; sessions = sessions; lines = lines; hosts = hosts; dues = dues }
 
 -- another number is not at this one
 pub at_other : (n k : ℕ) → n ≢ k → is_at (nat_cmp n) k ≡ false
@@ -74,14 +73,14 @@ same_but_ends h i kept = ap (λ k. record { kept = k; ends = i.ends }) kept
 
 module _ {OnHost : Side → Side → Result ⊤ AllocError → Type 0} {Alone : Known journal.Entry → Known journal.Entry → Result ⊤ AllocError → Type 0} where
   -- something was done to a session on its line
-  pub on_host_of : {X : Type 0} (facts : X → HostFacts) (number : ℕ) (d d' : Known Entry) (s s' : Sessions) (l l' : Lines) (stands : List X) (place : ℕ)
+  pub on_host_of : {dues : Dues} {X : Type 0} (facts : X → HostFacts) (number : ℕ) (d d' : Known Entry) (s s' : Sessions) (l l' : Lines) (stands : List X) (place : ℕ)
       (line later : Line) (was is : X) (result : Result ⊤ AllocError)
       → d' ≡ d → line_of l number ≡ Some line → WritesThrough nat_cmp (nat_cmp number) l later l' → line.host ≡ Some place → later.host ≡ line.host
       → place < length stands → was ≡ get_or stands place was → (facts is).kept ≡ (facts was).kept
       → Turned number s s' (λ old new. OnHost (side old line (facts was).ends) (side new later (facts is).ends) result) → OthersStay number s s'
-      → OnLine OnHost Alone number (pumping d s l (map facts stands)) (pumping d' s' l' (map facts (set stands place is))) result
-  on_host_of facts number d d' s s' l l' stands place line later was is result same before written host stays within read kept turned others =
-      subst (λ (k : Known Entry). OnLine OnHost Alone number (pumping d s l (map facts stands)) (pumping k s' l' (map facts (set stands place is))) result) (sym same)
+      → OnLine OnHost Alone number (pumping dues d s l (map facts stands)) (pumping dues d' s' l' (map facts (set stands place is))) result
+  on_host_of {dues} facts number d d' s s' l l' stands place line later was is result same before written host stays within read kept turned others =
+      subst (λ (k : Known Entry). OnLine OnHost Alone number (pumping dues d s l (map facts stands)) (pumping dues k s' l' (map facts (set stands place is))) result) (sym same)
       (on_host s' l' (map facts (set stands place is)) place line later (facts was) (facts is).ends
       (line_turns number l l' line later before written) host (stays ∙ host)
       (subst (λ (h : HostFacts). HostTurns place (map facts stands) (map facts (set stands place is)) (facts was) h)
@@ -89,12 +88,12 @@ module _ {OnHost : Side → Side → Result ⊤ AllocError → Type 0} {Alone : 
       turned others)
 
   -- or to it alone
-  pub alone_of : {X : Type 0} (facts : X → HostFacts) (number : ℕ) (d d' : Known Entry) (s s' : Sessions) (l : Lines) (stands : List X) (result : Result ⊤ AllocError)
+  pub alone_of : {dues : Dues} {X : Type 0} (facts : X → HostFacts) (number : ℕ) (d d' : Known Entry) (s s' : Sessions) (l : Lines) (stands : List X) (result : Result ⊤ AllocError)
       → d' ≡ d → IfSome (line_of l number) (λ line. IfSome line.host (λ place. length stands ≤ place))
       → Turned number s s' (λ old new. Alone old new result) → OthersStay number s s'
-      → OnLine OnHost Alone number (pumping d s l (map facts stands)) (pumping d' s' l (map facts stands)) result
-  alone_of facts number d d' s s' l stands result same nowhere turned others =
-      subst (λ (k : Known Entry). OnLine OnHost Alone number (pumping d s l (map facts stands)) (pumping k s' l (map facts stands)) result) (sym same)
+      → OnLine OnHost Alone number (pumping dues d s l (map facts stands)) (pumping dues d' s' l (map facts stands)) result
+  alone_of {dues} facts number d d' s s' l stands result same nowhere turned others =
+      subst (λ (k : Known Entry). OnLine OnHost Alone number (pumping dues d s l (map facts stands)) (pumping dues k s' l (map facts stands)) result) (sym same)
       (alone s' (subst (λ (n : ℕ). IfSome (line_of l number) (λ line. IfSome line.host (λ place. n ≤ place))) (sym (length-map stands facts)) nowhere) turned others)
 
 -- the line that was lent is the one to that host
@@ -165,22 +164,8 @@ each_place_more {Does} {a} {c = c} result place is each does = subst (λ (r : Re
 
 -- ---- what a session answers
 
-looked_as : (P Q : List journal.Entry → Type 0) (number : ℕ) (a b : Sessions) → ((log : List journal.Entry) → P log → Q log) → Turned number a b (Looks P) → Turned number a b (Looks Q)
+pub looked_as : (P Q : List journal.Entry → Type 0) (number : ℕ) (a b : Sessions) → ((log : List journal.Entry) → P log → Q log) → Turned number a b (Looks P) → Turned number a b (Looks Q)
 looked_as P Q number a b by turned = turned_as number a b (Looks P) (Looks Q) (λ k m looks. looks_as by looks) turned
-
--- it has ended
-pub over_so : (number : ℕ) (a b : Sessions) (answer : Answer) → (waiting : Waiting) × (ending : Ending) × (answer ≡ answers.Load waiting (Some ending))
-    → Turned number a b (Looks (λ log. seen.Answers log questions.Load (Ok answer))) → Turned number a b (Looks IsOver)
-over_so number a b answer found turned =
-    looked_as (λ log. seen.Answers log questions.Load (Ok answer)) IsOver number a b
-    (λ log says. (found.0, found.1, subst (λ (x : Answer). seen.Answers log questions.Load (Ok x)) found.2 says)) turned
-
--- it hasn't
-pub goes_on_so : (number : ℕ) (a b : Sessions) (answer : Answer) → (waiting : Waiting) × (answer ≡ answers.Load waiting None)
-    → Turned number a b (Looks (λ log. seen.Answers log questions.Load (Ok answer))) → Turned number a b (Looks IsGoingOn)
-goes_on_so number a b answer found turned =
-    looked_as (λ log. seen.Answers log questions.Load (Ok answer)) IsGoingOn number a b
-    (λ log says. (found.0, subst (λ (x : Answer). seen.Answers log questions.Load (Ok x)) found.1 says)) turned
 
 -- this is its host's name
 pub home_so : (number : ℕ) (a b : Sessions) (answer : Answer) (name : List ℕ) → answer ≡ answers.Home name
@@ -190,12 +175,12 @@ home_so number a b answer name is turned =
     (λ log says. subst (λ (x : Answer). seen.Answers log questions.Home (Ok x)) is says) turned
 
 -- a session was asked, and all else is as before
-pub asks_of : {Says : Known journal.Entry → Known journal.Entry → Type 0} (number : ℕ) (d d' : Known Entry) (s s' : Sessions) (l : Lines) (h : List HostFacts) → d' ≡ d
-    → Turned number s s' Says → OthersStay number s s' → AsksSession Says number (pumping d s l h) (pumping d' s' l h)
-asks_of number d d' s s' l h same turned others = record {
+pub asks_of : {dues : Dues} {Says : Known journal.Entry → Known journal.Entry → Type 0} (number : ℕ) (d d' : Known Entry) (s s' : Sessions) (l : Lines) (h : List HostFacts) → d' ≡ d
+    → Turned number s s' Says → OthersStay number s s' → AsksSession Says number (pumping dues d s l h) (pumping dues d' s' l h)
+asks_of {dues} number d d' s s' l h same turned others = record {
   turned = turned;
   others = others;
-  same = ap (λ (k : Known Entry). pumping k s' l h) same;
+  same = ap (λ (k : Known Entry). pumping dues k s' l h) same;
 }
 
 line_in : (o : Option Line) → IsSome o → (line : Line) × (o ≡ Some line)
@@ -222,19 +207,19 @@ pub each_all : {A : Type 0} {Does : A → Step} {a b : Pumping} {result : Result
 each_all {A} {Does} {a} {b} {result} xs i whole each = subst (λ (ys : List A). Each Does a ys b result) (take_all i xs whole) each
 
 -- a host was polled
-pub polls_of : {X : Type 0} (facts : X → HostFacts) (moment : Option ℕ) (place : ℕ) (d d' : Known Entry) (s s' : Sessions) (l l' : Lines) (stands : List X) (was is : X) (result : Result ⊤ AllocError)
+pub polls_of : {dues : Dues} {X : Type 0} (facts : X → HostFacts) (moment : Option ℕ) (place : ℕ) (d d' : Known Entry) (s s' : Sessions) (l l' : Lines) (stands : List X) (was is : X) (result : Result ⊤ AllocError)
     → d' ≡ d → place < length stands → was ≡ get_or stands place was → (facts is).ends.name ≡ (facts was).ends.name
     → PollsHost moment (record { place = place; kept = (facts was).kept; ends = (facts was).ends; sessions = s; lines = l })
     (record { place = place; kept = (facts is).kept; ends = (facts is).ends; sessions = s'; lines = l' }) result
-    → PollsAt moment place (pumping d s l (map facts stands)) (pumping d' s' l' (map facts (set stands place is))) result
-polls_of facts moment place d d' s s' l l' stands was is result same within read name polls =
+    → PollsAt moment place (pumping dues d s l (map facts stands)) (pumping dues d' s' l' (map facts (set stands place is))) result
+polls_of {dues} facts moment place d d' s s' l l' stands was is result same within read name polls =
     record {
       host = facts was;
       later = facts is;
       name = name;
       turned = host_turns facts stands place was is within read;
       polls = polls;
-      same = ap (λ (k : Known Entry). pumping k s' l' (map facts (set stands place is))) same;
+      same = ap (λ (k : Known Entry). pumping dues k s' l' (map facts (set stands place is))) same;
     }
 
 -- a session was told, and its wire isn't cut
@@ -270,19 +255,19 @@ wire_not known line e f error changes =
 -- ---- the directory
 
 -- the directory was asked, and all else is as before
-pub directory_asked : {Says : Known Entry → Known Entry → Type 0} (d d' : Known Entry) (s s' : Sessions) (l : Lines) (h : List HostFacts) → Says d d' → IsUnchanged s s'
-    → AsksDirectory Says (pumping d s l h) (pumping d' s' l h)
-directory_asked d d' s s' l h says unchanged = record { learns = says; sessions = unchanged; same = refl }
+pub directory_asked : {dues : Dues} {Says : Known Entry → Known Entry → Type 0} (d d' : Known Entry) (s s' : Sessions) (l : Lines) (h : List HostFacts) → Says d d' → IsUnchanged s s'
+    → AsksDirectory Says (pumping dues d s l h) (pumping dues d' s' l h)
+directory_asked {dues} d d' s s' l h says unchanged = record { learns = says; sessions = unchanged; same = refl }
 
 pub removes_not : (number : ℕ) (sid : List ℕ) (a : Pumping) (result : Result ⊤ AllocError) → IsErr result → Removes number sid a a result
 removes_not number sid a (Ok done) err = absurd (true≢false (sym err))
 removes_not number sid a (Err error) err = removed_not error
 
 -- there was no memory for the name of its host
-pub meets_not : (number : ℕ) (d d' : Known Entry) (s s' : Sessions) (l : Lines) (h : List HostFacts) (result : Result ⊤ AllocError) → IsErr result → d' ≡ d
-    → Turned number s s' (Looks (λ log. Unit {0})) → OthersStay number s s' → Meets number (pumping d s l h) (pumping d' s' l h) result
-meets_not number d d' s s' l h (Ok done) err same asked others = absurd (true≢false (sym err))
-meets_not number d d' s s' l h (Err error) err same asked others = met_not error l (asks_of number d d' s s' l h same asked others) refl
+pub meets_not : {dues : Dues} (number : ℕ) (d d' : Known Entry) (s s' : Sessions) (l : Lines) (h : List HostFacts) (result : Result ⊤ AllocError) → IsErr result → d' ≡ d
+    → Turned number s s' (Looks (λ log. Unit {0})) → OthersStay number s s' → Meets number (pumping dues d s l h) (pumping dues d' s' l h) result
+meets_not {dues} number d d' s s' l h (Ok done) err same asked others = absurd (true≢false (sym err))
+meets_not {dues} number d d' s s' l h (Err error) err same asked others = met_not error l (asks_of number d d' s s' l h same asked others) refl
 
 -- the first that passes the test, where each is known by something else
 first_of_map : {A B : Type 0} (test : B → Bool) (f : A → B) (xs : List A) (place : ℕ) → IsFirstPlace (λ x. test (f x)) xs place → IsFirstPlace test (map f xs) place
@@ -322,13 +307,13 @@ new_line facts number opening text name stands found line same small first none 
     missing (Some place) is told = absurd (none-some place (sym is))
 
 -- the line of a session was made and kept, or there was no memory for that
-pub meets_so : (number : ℕ) (name : List ℕ) (d d' : Known Entry) (s s' : Sessions) (l l' : Lines) (h : List HostFacts) (line : Line) (result : Result ⊤ AllocError) → line_of l number ≡ None → d' ≡ d
+pub meets_so : {dues : Dues} (number : ℕ) (name : List ℕ) (d d' : Known Entry) (s s' : Sessions) (l l' : Lines) (h : List HostFacts) (line : Line) (result : Result ⊤ AllocError) → line_of l number ≡ None → d' ≡ d
     → Turned number s s' (Looks (λ log. seen.Answers log questions.Home (Ok (answers.Home name)))) → OthersStay number s s' → IsNewLine number name h line
     → OnOk result (line_of l' number ≡ Some line) → OnOk result ((other : ℕ) → other ≢ number → line_of l' other ≡ line_of l other)
-    → OnErr result (IsUnchanged l l') → Meets number (pumping d s l h) (pumping d' s' l' h) result
-meets_so number name d d' s s' l l' h line (Ok done) unmet same asked others new kept beside unchanged =
+    → OnErr result (IsUnchanged l l') → Meets number (pumping dues d s l h) (pumping dues d' s' l' h) result
+meets_so {dues} number name d d' s s' l l' h line (Ok done) unmet same asked others new kept beside unchanged =
     met name l' line unmet (asks_of number d d' s s' l h same asked others) new kept beside
-meets_so number name d d' s s' l l' h line (Err error) unmet same asked others new kept beside unchanged =
+meets_so {dues} number name d d' s s' l l' h line (Err error) unmet same asked others new kept beside unchanged =
     met_not error l' (asks_of number d d' s s' l h same (looked_as (λ log. seen.Answers log questions.Home (Ok (answers.Home name))) (λ log. Unit {0}) number s s' (λ log says. tt) asked) others) unchanged
 
 -- ---- a wire that was opened
@@ -371,22 +356,23 @@ was_opened {o} {count} {place} line opened is host less =
 
 -- ---- a removal
 
-pub removes_refused : (number : ℕ) (sid name : List ℕ) (d d' : Known Entry) (s : Sessions) (l : Lines) (h : List HostFacts) (error : AllocError) (result : Result ⊤ AllocError)
+pub removes_refused : {dues : Dues} (number : ℕ) (sid name : List ℕ) (d d' : Known Entry) (s : Sessions) (l : Lines) (h : List HostFacts) (error : AllocError) (result : Result ⊤ AllocError)
     → IsErr result → name ≡ sid
     → Calls (λ e. e.caller) (λ before made. RepliesTo before (directory_calls.Remove name) (Err error) made) d d'
-    → Removes number sid (pumping d s l h) (pumping d' s l h) result
-removes_refused number sid name d d' s l h error (Ok done) err is called = absurd (true≢false (sym err))
-removes_refused number sid name d d' s l h error (Err other) err is called =
+    → Removes number sid (pumping dues d s l h) (pumping dues d' s l h) result
+removes_refused {dues} number sid name d d' s l h error (Ok done) err is called = absurd (true≢false (sym err))
+removes_refused {dues} number sid name d d' s l h error (Err other) err is called =
     refused other (record { learns = subst (λ (n : List ℕ). Calls (λ e. e.caller) (λ before made. RepliesTo before (directory_calls.Remove n) (Err other) made) d d') is called; sessions = refl; same = refl })
 
-pub removes_so : (number : ℕ) (sid name : List ℕ) (d d' k : Known Entry) (s s' : Sessions) (l l' : Lines) (h : List HostFacts) (reply : DirectoryReply)
+pub removes_so : {dues dues' : Dues} (number : ℕ) (sid name : List ℕ) (d d' k : Known Entry) (s s' : Sessions) (l l' : Lines) (h : List HostFacts) (reply : DirectoryReply)
     → name ≡ sid → k ≡ d'
     → Calls (λ e. e.caller) (λ before made. RepliesTo before (directory_calls.Remove name) (Ok reply) made) d d'
     → line_of l' number ≡ None → ((other : ℕ) → other ≢ number → line_of l' other ≡ line_of l other) → held s' number ≡ None → OthersStay number s s'
-    → Removes number sid (pumping d s l h) (pumping k s' l' h) (Ok tt)
-removes_so number sid name d d' k s s' l l' h reply is same called line lines gone others =
-    subst (λ (x : Known Entry). Removes number sid (pumping d s l h) (pumping x s' l' h) (Ok tt)) (sym same)
-    (removed d' s' l' reply (subst (λ (n : List ℕ). Calls (λ e. e.caller) (λ before made. RepliesTo before (directory_calls.Remove n) (Ok reply) made) d d') is called) line lines gone others)
+    → IsNotedAs number None dues dues' → Removes number sid (pumping dues d s l h) (pumping dues' k s' l' h) (Ok tt)
+removes_so {dues} {dues'} number sid name d d' k s s' l l' h reply is same called line lines gone others forgotten =
+    subst (λ (x : Known Entry). Removes number sid (pumping dues d s l h) (pumping dues' x s' l' h) (Ok tt)) (sym same)
+    (removed d' s' l' dues' reply (subst (λ (n : List ℕ). Calls (λ e. e.caller) (λ before made. RepliesTo before (directory_calls.Remove n) (Ok reply) made) d d') is called)
+    line lines gone others forgotten)
 
 -- ---- a session is found
 
@@ -402,11 +388,11 @@ missing_named : (d d' : Known Entry) (text sid : List ℕ) → text ≡ sid
 missing_named d d' text sid same called = subst (λ (s : List ℕ). Calls (λ e. e.caller) (λ before made. (made ≡ None) × (live_at before s ≡ None)) d d') same called
 
 -- the directory was asked for a session, and none of that name is live
-pub asks_missing : (d d' : Known Entry) (s s' : Sessions) (l : Lines) (h : List HostFacts) (text sid : List ℕ) (found : Option ℕ) → found ≡ None → text ≡ sid
+pub asks_missing : {dues : Dues} (d d' : Known Entry) (s s' : Sessions) (l : Lines) (h : List HostFacts) (text sid : List ℕ) (found : Option ℕ) → found ≡ None → text ≡ sid
     → IfNone found (IsUnchanged s s' × Calls (λ e. e.caller) (λ before made. (made ≡ None) × (live_at before text ≡ None)) d d')
-    → AsksDirectory (Calls (λ e. e.caller) (λ before made. (made ≡ None) × (live_at before sid ≡ None))) (pumping d s l h) (pumping d' s' l h)
-asks_missing d d' s s' l h text sid None is same told = directory_asked d d' s s' l h (missing_named d d' text sid same told.1) told.0
-asks_missing d d' s s' l h text sid (Some number) is same told = absurd (none-some number (sym is))
+    → AsksDirectory (Calls (λ e. e.caller) (λ before made. (made ≡ None) × (live_at before sid ≡ None))) (pumping dues d s l h) (pumping dues d' s' l h)
+asks_missing {dues} d d' s s' l h text sid None is same told = directory_asked d d' s s' l h (missing_named d d' text sid same told.1) told.0
+asks_missing {dues} d d' s s' l h text sid (Some number) is same told = absurd (none-some number (sym is))
 
 pub found_held : (old new : Sessions) (number : ℕ) (sid : List ℕ) → IsFound old new number sid → IsSome (held new number)
 found_held old new number sid found = subst IsSome (sym found.holds.is) refl

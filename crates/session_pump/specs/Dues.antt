@@ -1,15 +1,27 @@
 -- When time next has something to do for the sessions of a pump.
-use Rattle.std.specs.Prelude.{◌≡◌, ◌≤◌, ◌++◌, ◌∷◌, ℕ, List, [], IsSome, Option, Some, None}
+use Rattle.std.specs.Prelude.{◌≡◌, ◌≢◌, ◌≤◌, ◌++◌, ◌∷◌, ℕ, List, [], IsSome, Option, Some, None}
 use Rattle.std.specs.List.{Contains}
+use Rattle.pause_rules.specs.Due.{IsFirstMoment}
 use Rattle.pause_rules.specs.NextDue.{moment_of}
 use Rattle.parked_gate.specs.Passes.{Looks, known}
+use Rattle.session_core.specs.Time.{is_due}
+use Rattle.session_journal.specs.declared.entry.Entry.{Entry}
+use Rattle.session_journal.specs.Stored.{After}
 use Rattle.session_table.specs.declared.handle.SessionHandle.{SessionHandle}
 use Rattle.session_table.specs.Purses.{OthersStay, Sessions, Turned, held}
-use Rattle.session_table.specs.Timing.{IsFirstDue}
 
 -- numbers with the moments at which they are due
 abbrev pub Dues : Type 0
 Dues = List (ℕ × ℕ)
+
+-- this moment is noted of the number, or that it has none, and what is noted of others stays
+pub record IsNotedAs (number : ℕ) (due : Option ℕ) (old new : Dues) : Type 0 where
+  pub this : moment_of new number ≡ due
+  pub others : (other : ℕ) → other ≢ number → moment_of new other ≡ moment_of old other
+
+-- after these entries this is the first moment at which time has something to do for the session; none where it never has
+abbrev pub IsFirstDue : List Entry → Option ℕ → Type 0
+IsFirstDue log due = After log (λ plain. IsFirstMoment (is_due plain) due)
 
 -- the first moment at which time has something to do for the session of this handle, by what its pass has seen; none without a session
 abbrev pub IsDueOf : Option SessionHandle → Option ℕ → Type 0

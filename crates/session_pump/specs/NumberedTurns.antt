@@ -5,13 +5,12 @@ use Rattle.std.specs.declared.alloc.AllocError.{AllocError}
 use Rattle.parked_gate.specs.Passes.{Looks}
 use Rattle.session_table.specs.declared.calls.LiveSession.{LiveSession}
 use Rattle.session_table.specs.Purses.{Holds, held}
-use Rattle.session_pump.specs.Pumping.{AsksDirectory, Each, EachPlace, HostFacts, OnLine, Pumping, Step, Then, both}
-use Rattle.session_pump.specs.Sides.{Serves}
-use Rattle.session_pump.specs.Turns.{AsksLive, Meets, PollsAt, RemovesEnded, ServesAlone, ServesOne, TellsOne}
+use Rattle.session_pump.specs.Pumping.{AsksDirectory, Each, EachPlace, HostFacts, Pumping, Step, Then, both}
+use Rattle.session_pump.specs.Turns.{AsksLive, Meets, PollsAt, ServesMet, ServesOne, TellsOne}
 
 -- a session that is held under this number was served as in a whole turn
 abbrev pub ServesHeld : Option ℕ → ℕ → List ℕ → Step
-ServesHeld moment number sid = Then (Meets number) (Then (OnLine (Serves moment) (ServesAlone moment) number) (RemovesEnded moment number sid))
+ServesHeld moment number sid = Then (Meets number) (ServesMet moment number sid)
 
 -- The live session under this number was served as in a whole turn: one that isn't held yet by the name that the directory, asked
 -- now, has for it. Where the directory has none, nothing was done

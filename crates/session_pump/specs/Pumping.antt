@@ -9,6 +9,7 @@ use Rattle.session_table.specs.declared.entry.Entry.{Entry}
 use Rattle.session_table.specs.Purses.{OthersStay, Sessions, Turned}
 use Rattle.xmpp_backend.specs.Counts.{Counts}
 use Rattle.xmpp_backend.specs.Told.{Told}
+use Rattle.session_pump.specs.Dues.{Dues}
 use Rattle.session_pump.specs.Ends.{Ends, ends_of}
 use Rattle.session_pump.specs.Sides.{Side}
 use Rattle.session_pump.specs.declared.hosts.Stand.{Stand}
@@ -33,12 +34,14 @@ Lines = BTreeMap ℕ Line
 abbrev pub line_of : Lines → ℕ → Option Line
 line_of lines number = get nat_cmp lines number
 
--- all that a pump has: what its pass of the directory knows, the sessions that it holds, their lines, and the hosts
+-- all that a pump has: what its pass of the directory knows, the sessions that it holds, their lines, the hosts, and what is noted of
+-- when the sessions are due
 pub record Pumping : Type 0 where
   pub directory : Known Entry
   pub sessions : Sessions
   pub lines : Lines
   pub hosts : List HostFacts
+  pub dues : Dues
 
 -- by what its back ends tell and count
 abbrev pub pumping_of : {E : Type 0} → (E → Option Told) → (E → Counts) → Pump E → Pumping
@@ -47,6 +50,7 @@ pumping_of told counts pump = record {
   sessions = pump.purse.sessions;
   lines = pump.lines;
   hosts = map (facts_of told counts) pump.hosts.stands.items;
+  dues = pump.dues;
 }
 
 -- something that a pump does, and whether there was memory for it

@@ -1,16 +1,15 @@
 -- A turn of the pump: what it does for each session and for each host, one after the other.
-use Rattle.std.specs.Prelude.{◌≡◌, ◌≢◌, ◌≤◌, ◌*◌, ◌^◌, ℕ, ⊤, false, List, length, Option, Some, None, IfSome, Result, Ok, Err, bytes_eq}
+use Rattle.std.specs.Prelude.{◌≡◌, ◌≢◌, ◌≤◌, ◌*◌, ◌^◌, ℕ, ⊤, false, List, length, Option, Some, None, IfSome, IsSome, Result, Ok, Err, bytes_eq}
 use Rattle.std.specs.BTreeMap.{IsUnchanged}
 use Rattle.std.specs.List.{list_any}
 use Rattle.std.specs.declared.alloc.AllocError.{AllocError}
 use Rattle.bosh_types.specs.Limits.{most_streams}
 use Rattle.bosh_types.specs.declared.ending.Closing.TheVariants.{SystemShutdown}
-use Rattle.bosh_types.specs.declared.ending.Ending.{Ending}
 use Rattle.bosh_types.specs.declared.inward.Inward.{Inward}
 use Rattle.parked_gate.specs.Passes.{Calls, Grows, Known, Looks}
-use Rattle.session_core.specs.declared.replies.Waiting.{Waiting}
 use Rattle.session_journal.specs.declared.asking.Answer.TheVariants as answers
 use Rattle.session_journal.specs.declared.asking.Question.TheVariants as questions
+use Rattle.session_journal.specs.declared.asking.State.{State}
 use Rattle.session_journal.specs.declared.call.Call.TheVariants as calls
 use Rattle.session_journal.specs.declared.call.Reply.TheVariants as replies
 use Rattle.session_journal.specs.declared.entry.Entry as journal
@@ -23,11 +22,13 @@ use Rattle.session_table.specs.History.{live_at}
 use Rattle.session_table.specs.Purses.{IsFound, OthersStay, Sessions, held}
 use Rattle.session_table.specs.Replies.{RepliesTo, live_sessions}
 use Rattle.xmpp_backend.specs.Told.{Told, Becomes, closed_too}
+use Rattle.session_pump.specs.Dues.{Dues, IsNotedAs}
 use Rattle.session_pump.specs.Ends.{Ends, HasFailed, StaysAs, telling}
 use Rattle.session_pump.specs.Giving.{PollsHost, at_host}
+use Rattle.session_pump.specs.Leaving.{HasNothing, IsAtRest}
 use Rattle.session_pump.specs.Places.{IsFirstPlace}
 use Rattle.session_pump.specs.Pumping.{AsksDirectory, AsksSession, Each, EachPlace, HostFacts, HostTurns, Lines, OnLine, Pumping, Then, both, line_of}
-use Rattle.session_pump.specs.Calling.{Called, ClosesStream, Ticks}
+use Rattle.session_pump.specs.Calling.{Called, ClosesStream, IsAt, Ticks}
 use Rattle.session_pump.specs.Sides.{IsCut, IsOpen, Moves, PassesAll, Serves, Side}
 use Rattle.session_pump.specs.declared.line.Line.{Line}
 use Rattle.session_pump.specs.declared.line.Stage.TheVariants as stages
@@ -60,17 +61,18 @@ abbrev pub TellsCut : Option ℕ → Side → Side → Result ⊤ AllocError →
 TellsCut moment s t (Ok done) = Moves moment s t × (IsCut t → ⊥)
 TellsCut moment s t (Err error) = Moves moment s t
 
--- the session has ended, by what it answers
-abbrev pub IsOver : List journal.Entry → Type 0
-IsOver log = (waiting : Waiting) × (ending : Ending) × seen.Answers log questions.Load (Ok (answers.Load waiting (Some ending)))
-
--- it hasn't
-abbrev pub IsGoingOn : List journal.Entry → Type 0
-IsGoingOn log = (waiting : Waiting) × seen.Answers log questions.Load (Ok (answers.Load waiting None))
-
 -- these are the live sessions, by the directory, which was asked for them now
 abbrev pub AsksLive : List LiveSession → Pumping → Pumping → Type 0
 AsksLive live a b = AsksDirectory (Looks (λ log. live ≡ live_sessions log)) a b
+
+-- the session under this number was asked what there is to do for it, and answered so
+abbrev pub AnswersState : State → ℕ → Pumping → Pumping → Type 0
+AnswersState state number a b = AsksSession (Looks (λ log. seen.IsStateAfter log state)) number a b
+
+-- this is noted as when the session under the number is due, or there was no memory for it, and nothing else changed
+pub data Notes (number : ℕ) (due : Option ℕ) (a : Pumping) : Pumping → Result ⊤ AllocError → Type 0 where
+  noted : (dues : Dues) → IsNotedAs number due a.dues dues → Notes number due a (record a { dues = dues }) (Ok tt)
+  noted_not : (error : AllocError) → Notes number due a a (Err error)
 
 -- a new line for the session under this number, to the first host of the name that the session gave, where there is one
 pub record IsNewLine (number : ℕ) (name : List ℕ) (hosts : List HostFacts) (line : Line) : Type 0 where
@@ -94,26 +96,46 @@ pub data Meets (number : ℕ) (a : Pumping) : Pumping → Result ⊤ AllocError 
   met_not : {b : Pumping} (error : AllocError) (lines : Lines) → AsksSession (Looks (λ log. Unit {0})) number a b → IsUnchanged b.lines lines
       → Meets number a (record b { lines = lines }) (Err error)
 
--- the session was removed from the directory, and its line and its handle were let go
+-- the session was removed from the directory, and its line, its handle and when it is due were let go
 pub data Removes (number : ℕ) (sid : List ℕ) (a : Pumping) : Pumping → Result ⊤ AllocError → Type 0 where
-  removed : (directory : Known Entry) (sessions : Sessions) (lines : Lines) (reply : DirectoryReply)
+  removed : (directory : Known Entry) (sessions : Sessions) (lines : Lines) (dues : Dues) (reply : DirectoryReply)
       → Calls (λ e. e.caller) (λ before made. RepliesTo before (directory_calls.Remove sid) (Ok reply) made) a.directory directory
       → line_of lines number ≡ None → ((other : ℕ) → other ≢ number → line_of lines other ≡ line_of a.lines other)
-      → held sessions number ≡ None → OthersStay number a.sessions sessions
-      → Removes number sid a (record a { directory = directory; sessions = sessions; lines = lines }) (Ok tt)
+      → held sessions number ≡ None → OthersStay number a.sessions sessions → IsNotedAs number None a.dues dues
+      → Removes number sid a (record a { directory = directory; sessions = sessions; lines = lines; dues = dues }) (Ok tt)
   removed_not : (error : AllocError) → Removes number sid a a (Err error)
   refused : {b : Pumping} (error : AllocError)
       → AsksDirectory (Calls (λ e. e.caller) (λ before made. RepliesTo before (directory_calls.Remove sid) (Err error) made)) a b
       → Removes number sid a b (Err error)
 
--- Whether the session under this number has ended was asked; where it has, then all that was left inward of it was passed on, its
--- wire was closed, and it was removed
+-- The session under this number was asked what there is to do for it. Where it goes on, it was noted when it is due; where it has ended,
+-- all that was left inward of it was passed on, its wire was closed, and it was removed
 pub data RemovesEnded (moment : Option ℕ) (number : ℕ) (sid : List ℕ) (a : Pumping) : Pumping → Result ⊤ AllocError → Type 0 where
-  goes_on : {b : Pumping} → AsksSession (Looks IsGoingOn) number a b → RemovesEnded moment number sid a b (Ok tt)
-  has_ended : {b c : Pumping} {result : Result ⊤ AllocError} → AsksSession (Looks IsOver) number a b
+  goes_on : {b c : Pumping} {result : Result ⊤ AllocError} (state : State) → AnswersState state number a b → state.ending ≡ None
+      → Notes number state.due b c result → RemovesEnded moment number sid a c result
+  has_ended : {b c : Pumping} {result : Result ⊤ AllocError} (state : State) → AnswersState state number a b → IsSome state.ending
       → Then (OnLine (PassesAll moment) TakesAll number)
       (Then (OnLine ClosesWire (λ k m done. (m ≡ k) × (done ≡ Ok tt)) number) (Removes number sid)) b c result
       → RemovesEnded moment number sid a c result
+
+-- A session that was met was left alone: it was asked what there is to do for it, and that was nothing; its line was at rest; and it was
+-- noted when it is due
+pub record LeavesAlone (moment : Option ℕ) (number : ℕ) (a b : Pumping) (result : Result ⊤ AllocError) : Type 0 where
+  pub state : State
+  pub asked : Pumping
+  pub answers : AnswersState state number a asked
+  pub now : ℕ
+  pub at : IsAt moment now
+  pub nothing : HasNothing now state
+  pub rests : IsAtRest number asked
+  pub notes : Notes number state.due asked b result
+
+-- A session that was met was left alone, or else, once it was asked what there is to do for it, it was served: its wire was opened, time
+-- passed for it, and what is inward of it was passed on until nothing was left; and it was removed where it has ended
+pub data ServesMet (moment : Option ℕ) (number : ℕ) (sid : List ℕ) (a : Pumping) : Pumping → Result ⊤ AllocError → Type 0 where
+  left_alone : {b : Pumping} {result : Result ⊤ AllocError} → LeavesAlone moment number a b result → ServesMet moment number sid a b result
+  was_served : {b c : Pumping} {result : Result ⊤ AllocError} (state : State) → AnswersState state number a b
+      → Then (OnLine (Serves moment) (ServesAlone moment) number) (RemovesEnded moment number sid) b c result → ServesMet moment number sid a c result
 
 -- the session of this name is held under this number
 pub record FindsSession (sid : List ℕ) (number : ℕ) (a b : Pumping) : Type 0 where
@@ -121,16 +143,14 @@ pub record FindsSession (sid : List ℕ) (number : ℕ) (a b : Pumping) : Type 0
   pub found : IsFound a.sessions b.sessions number sid
   pub same : b ≡ record a { directory = b.directory; sessions = b.sessions }
 
--- A session was served: it was looked up and met; its wire was opened, time passed for it, and what is inward of it was passed on
--- until nothing was left; and it was removed where it has ended. Or it was live no longer
+-- A session was served, or there was nothing to do for it: it was looked up and met, and served or left alone. Or it was live no longer
 pub data ServesOne (moment : Option ℕ) (session : LiveSession) (a : Pumping) : Pumping → Result ⊤ AllocError → Type 0 where
   live_no_longer : {b : Pumping}
       → AsksDirectory (Calls (λ e. e.caller) (λ before made. (made ≡ None) × (live_at before session.sid ≡ None))) a b
       → ServesOne moment session a b (Ok tt)
   not_found : {b : Pumping} (error : AllocError) → AsksDirectory Grows a b → ServesOne moment session a b (Err error)
   found : {b c : Pumping} {result : Result ⊤ AllocError} (number : ℕ) → FindsSession session.sid number a b
-      → Then (Meets number) (Then (OnLine (Serves moment) (ServesAlone moment) number) (RemovesEnded moment number session.sid)) b c result
-      → ServesOne moment session a c result
+      → Then (Meets number) (ServesMet moment number session.sid) b c result → ServesOne moment session a c result
 
 -- the host at this place was polled until that came to its end, or there was no memory
 pub record PollsAt (moment : Option ℕ) (place : ℕ) (a b : Pumping) (result : Result ⊤ AllocError) : Type 0 where

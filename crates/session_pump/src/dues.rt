@@ -4,7 +4,9 @@ ghost use Rattle.std.specs.BTreeMap.{keys};
 ghost use Rattle.std.specs.List.{All, Contains};
 ghost use Rattle.pause_rules.specs.NextDue.{IsLeastMoment, moment_of};
 ghost use Rattle.session_table.specs.Purses.{held};
-ghost use Rattle.session_pump.specs.Dues.{AskDues, AsksDue, IsNoted, IsOver, IsTakenBy};
+ghost use Rattle.session_pump.specs.Dues.{AskDues, AsksDue, IsNoted, IsNotedAs, IsOver, IsTakenBy};
+ghost use Rattle.session_pump.specs.Pumping.{pumping_of};
+ghost use Rattle.session_pump.specs.Turns.{Notes};
 
 use crate::pump::Pump;
 use bosh_types::Moment;
@@ -127,6 +129,19 @@ impl<E: Backend> Pump<E> {
         Ok(())
     }
 
+    /// Notes when the session under this number is due, as it answered. The only error is want of memory, and then all is as it was.
+    pub(crate) fn note_answer(&mut self, number: u64, due: Option<Moment>) -> Result<(), AllocError>
+        ensures notes { Notes number due
+            (pumping_of E.told E.counts self.old) (pumping_of E.told E.counts self.new)
+            result }
+        ensures purse { self.new.purse ≡ self.old.purse }
+    {
+        match put_due(&mut self.dues, number, due) {
+            Ok(_) => Ok(()),
+            Err(AllocError) => Err(AllocError),
+        }
+    }
+
     // Asks the session under this number when it is due, and notes that. The moment that is noted then, if there is one.
     fn note<R: Wait>(&mut self, rt: &R, number: u64) -> Result<Option<Moment>, AllocError>
         ensures noted { OnOk result (IsNoted number self.new.purse.sessions self.new.dues) }
@@ -141,8 +156,8 @@ impl<E: Backend> Pump<E> {
             self.dues.clear(number);
             return Ok(None);
         }
-        let due = self.purse.due(rt, number);
-        put_due(&mut self.dues, number, due)
+        let state = self.purse.state(rt, number);
+        put_due(&mut self.dues, number, state.due)
     }
 }
 
@@ -165,6 +180,13 @@ fn take_due<R: Wait>(
         dues.clear(number);
     }
     unreachable!()
+}
+
+/// When the session under this number is due is noted no longer.
+pub(crate) fn forget_due(dues: &mut DueIndex, number: u64)
+    ensures { IsNotedAs number None dues.old dues.new }
+{
+    dues.clear(number);
 }
 
 // Notes the moment of a number, or that it has none; that is handed back. The only error is want of memory, and then all is as it was.

@@ -83,6 +83,21 @@ impl Line {
         }
     }
 
+    /// Whether the wire is open on the back end before which so many of the host failed, and nothing is kept for either side.
+    pub(crate) fn is_at_rest_on(&self, failures: u64) -> bool
+        ensures open { result ≡ true → self.now.stage ≡ Stage.Opened failures }
+        ensures taken { result ≡ true → self.now.kept ≡ None }
+        ensures given { result ≡ true → self.now.owed ≡ None }
+    {
+        if self.kept.is_some() {
+            return false;
+        }
+        if self.owed.is_some() {
+            return false;
+        }
+        self.is_open_on(failures)
+    }
+
     /// Whether the wire is open on the back end before which so many of the host failed.
     pub(crate) fn is_open_on(&self, failures: u64) -> bool
         ensures open { result ≡ true → self.now.stage ≡ Stage.Opened failures }

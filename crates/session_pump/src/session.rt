@@ -1,30 +1,30 @@
 // One session in a turn.
 ghost use Rattle.std.specs.Prelude.{◌≡◌, ◌≢◌, ◌^◌, ◌<◌, ◌≤◌, ℕ, IfNone, IfOk, IfSome, IsOk, IsSome, List, None, Ok, OnErr, OnOk, Option, Some, false, length, true};
 ghost use Rattle.std.specs.BTreeMap.{IsUnchanged};
-ghost use Rattle.bosh_types.specs.declared.ending.Ending.{Ending};
 ghost use Rattle.parked_gate.specs.Passes.{IsPassOf, Known, Looks, known};
-ghost use Rattle.session_core.specs.declared.replies.Waiting.{Waiting};
 ghost use Rattle.session_journal.specs.declared.asking.Answer.TheVariants as answers;
 ghost use Rattle.session_journal.specs.declared.asking.Question.TheVariants as questions;
 ghost use Rattle.session_journal.specs.declared.entry.Entry.{Entry};
 ghost use Rattle.session_journal.specs.Seen.{Answers};
+ghost use Rattle.session_pump.specs.Leaving.{HasNothing, IsAtRest};
 ghost use Rattle.session_table.specs.Purses.{OthersStay, Turned, held};
 ghost use Rattle.session_pump.specs.Ends.{ends_of};
 ghost use Rattle.session_pump.specs.Sides.{PassesAll, Serves};
 ghost use Rattle.session_pump.specs.declared.line.Line.{Line};
 ghost use Rattle.session_pump.specs.Pumping.{HasOpened, OnLine, Then, line_of, pumping_of, side};
-ghost use Rattle.session_pump.specs.Turns.{ClosesWire, IsGoingOn, IsOver, Meets, Removes, RemovesEnded, ServesAlone, ServesOne, TakesAll, TellsCut, TellsOne};
+ghost use Rattle.session_pump.specs.Turns.{ClosesWire, Meets, Removes, RemovesEnded, ServesAlone, ServesMet, ServesOne, TakesAll, TellsCut, TellsOne};
 
+use crate::dues::forget_due;
 use crate::hosts::Stand;
 use crate::line::{Line, Stage};
 use crate::passing::{drop_all, pass_all};
 use crate::pump::Pump;
 use crate::serving::{serve_line, tell_cut, tick};
 use bosh_ports::Bell;
-use bosh_types::{SharedText, Text};
+use bosh_types::{Moment, SharedText, Text};
 use parked_gate::Gate;
 use server_ports::Clock;
-use session_journal::{Answer, Question};
+use session_journal::{Answer, Question, State};
 use session_table::{Directory, DirectoryCall, LiveSession, Purse};
 use std::alloc::AllocError;
 use std::collections::BTreeMap;
@@ -74,14 +74,67 @@ impl<E: Backend> Pump<E> {
         requires pass { IsPassOf directory.now self.old.purse.directory }
         requires held { IsSome (held self.old.purse.sessions number) }
         ensures pass { IsPassOf directory.now self.new.purse.directory }
-        ensures serves { Then (Meets number) (Then (OnLine (Serves (C.moment clock.now)) (ServesAlone (C.moment clock.now)) number) (RemovesEnded (C.moment clock.now) number sid.now))
+        ensures serves { Then (Meets number) (ServesMet (C.moment clock.now) number sid.now)
             (pumping_of E.told E.counts self.old) (pumping_of E.told E.counts self.new)
             result }
         ensures silences { B.silences bell.new ≡ B.silences bell.old }
     {
         self.meet(rt, number)?;
+        self.serve_met(rt, directory, clock, bell, number, sid)
+    }
+
+    // Asks a session that was met what there is to do for it, and leaves it alone where that is nothing. Otherwise it is served, and
+    // removed where it has ended.
+    fn serve_met<R: Wait, C: Clock, B: Bell>(
+        &mut self,
+        rt: &R,
+        directory: &Gate<Directory>,
+        clock: &C,
+        bell: &mut B,
+        number: u64,
+        sid: &SharedText,
+    ) -> Result<(), AllocError>
+        requires pass { IsPassOf directory.now self.old.purse.directory }
+        requires held { IsSome (held self.old.purse.sessions number) }
+        ensures pass { IsPassOf directory.now self.new.purse.directory }
+        ensures serves { ServesMet (C.moment clock.now) number sid.now
+            (pumping_of E.told E.counts self.old) (pumping_of E.told E.counts self.new)
+            result }
+        ensures silences { B.silences bell.new ≡ B.silences bell.old }
+    {
+        let state = self.purse.state(rt, number);
+        if self.leaves(number, &state, clock.now()) {
+            return self.note_answer(number, state.due);
+        }
         self.serve_held(rt, clock, bell, number)?;
         self.remove_ended(rt, directory, number, sid)
+    }
+
+    // Whether a session that answered so is left alone at this moment.
+    fn leaves(&self, number: u64, state: &State, now: Moment) -> bool
+        ensures nothing { result ≡ true → HasNothing now state.now }
+        ensures rests { result ≡ true → IsAtRest number (pumping_of E.told E.counts self.now) }
+    {
+        if !has_nothing(state, now) {
+            return false;
+        }
+        self.is_at_rest(number)
+    }
+
+    // Whether the wire of a session is open on the back end that stands behind its host, and nothing is kept with its line.
+    fn is_at_rest(&self, number: u64) -> bool
+        ensures { result ≡ true → IsAtRest number (pumping_of E.told E.counts self.now) }
+    {
+        let Some(line) = self.lines.get(&number) else {
+            return false;
+        };
+        let Some(place) = line.host else {
+            return false;
+        };
+        let Some(stand) = self.hosts.stands.get(place) else {
+            return false;
+        };
+        line.is_at_rest_on(stand.failures)
     }
 
     // Makes the line of a session that wasn't met before.
@@ -151,7 +204,7 @@ impl<E: Backend> Pump<E> {
         serve_line(rt, &mut self.purse, number, line, stand, clock, bell)
     }
 
-    // Removes a session that has ended, once what is inward of it was passed on.
+    // Removes a session that has ended, once what is inward of it was passed on. One that goes on is noted when it is due.
     fn remove_ended<R: Wait>(
         &mut self,
         rt: &R,
@@ -167,8 +220,9 @@ impl<E: Backend> Pump<E> {
             (pumping_of E.told E.counts self.old) (pumping_of E.told E.counts self.new)
             result }
     {
-        if !has_ended(rt, &mut self.purse, number)? {
-            return Ok(());
+        let state = self.purse.state(rt, number);
+        if state.ending.is_none() {
+            return self.note_answer(number, state.due);
         }
         self.pass_rest(rt, number)?;
         self.close_wire(number)?;
@@ -234,6 +288,7 @@ impl<E: Backend> Pump<E> {
         let sid = Text::from_vec(Vec::from_slice(self.alloc, sid.as_slice())?);
         directory.call(rt, &mut self.purse.directory, DirectoryCall::Remove { sid })?;
         forget_line(&mut self.lines, number);
+        forget_due(&mut self.dues, number);
         self.purse.let_go(number);
         Ok(())
     }
@@ -356,31 +411,19 @@ fn serve_alone<R: Wait, C: Clock, B: Bell>(
     drop_all(rt, purse, number)
 }
 
-// Whether the session has ended.
-fn has_ended<R: Wait>(rt: &R, purse: &mut Purse, number: u64) -> Result<bool, AllocError>
-    requires { IsSome (held purse.old.sessions number) }
-    ensures ended { result ≡ Ok true → Turned number purse.old.sessions purse.new.sessions (Looks IsOver) }
-    ensures open { result ≡ Ok false → Turned number purse.old.sessions purse.new.sessions (Looks IsGoingOn) }
-    ensures asked { IsOk result }
-    ensures held { IsSome (held purse.new.sessions number) }
-    ensures others { OthersStay number purse.old.sessions purse.new.sessions }
-    ensures directory { purse.new.directory ≡ purse.old.directory }
+// Whether there is nothing to do at this moment for a session that answers so.
+fn has_nothing(state: &State, now: Moment) -> bool
+    ensures { result ≡ true → HasNothing now state.now }
 {
-    match purse.look(rt, number, &Question::Load) {
-        Ok(answer) => Ok(is_ending(&answer)),
-        Err(AllocError) => unreachable!(),
+    if state.ending.is_some() {
+        return false;
     }
-}
-
-fn is_ending(answer: &Answer) -> bool
-    requires { (waiting : Waiting) × (ending : Option Ending) × (answer.now ≡ answers.Load waiting ending) }
-    ensures ended { result ≡ true → (waiting : Waiting) × (ending : Ending) × (answer.now ≡ answers.Load waiting (Some ending)) }
-    ensures open { result ≡ false → (waiting : Waiting) × (answer.now ≡ answers.Load waiting None) }
-{
-    match answer {
-        Answer::Load { ending, .. } => ending.is_some(),
-        Answer::Home(_) => unreachable!(),
-        Answer::State(_) => unreachable!(),
+    if state.is_inward {
+        return false;
+    }
+    match state.due {
+        Some(due) => now < due,
+        None => true,
     }
 }
 

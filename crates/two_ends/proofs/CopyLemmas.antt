@@ -11,6 +11,7 @@ use Rattle.session_attrs.specs.declared.request.Creation.{Creation}
 use Rattle.session_attrs.specs.declared.request.Kind.{Kind}
 use Rattle.session_attrs.specs.declared.request.Kind.TheVariants as kinds
 use Rattle.session_attrs.specs.declared.request.Request.{Request}
+use Rattle.session_attrs.specs.Admission.{admitted_of}
 use Rattle.session_journal.specs.Entries.{request_in}
 use Rattle.bosh_client.specs.declared.client.Client.{Client}
 use Rattle.bosh_client.specs.PlainClient.{Made, PlainClient, bytes_of, id_of}
@@ -18,9 +19,9 @@ use Rattle.bosh_client.specs.StandsFor.{AreFrom, StandsFor}
 use Rattle.world_laws.specs.declared.seen.SeenItem.{SeenItem}
 use Rattle.world_laws.specs.declared.seen.SeenItem.TheVariants as seen
 use Rattle.world_laws.specs.declared.told.Told.{Told}
-use Rattle.world_laws.specs.Manager.{PlainManager, Turn, arrives, opens}
+use Rattle.world_laws.specs.Manager.{PlainManager, Turn, arrives}
 use Rattle.world_laws.specs.Sound.{sent_of}
-use Rattle.world_laws.specs.Steps.{carried, carries, carries_to, comes, opening, turns}
+use Rattle.world_laws.specs.Steps.{admits, carried, carries, carries_to, comes, host_of, turns}
 use Rattle.world_laws.specs.World.{PlainWorld}
 use Rattle.world_laws.proofs.InwardLemmas.{id_at}
 use Rattle.world_laws.proofs.PlaceLemmas.{AreNumbered, at_place, past_place}
@@ -88,14 +89,14 @@ pub kept_step : (world : World) (w : PlainWorld) → IsPlain world w → (items 
 kept_step world w is items news it = record { seen_is = it; world_is = is }
 
 pub carry_some : (world : World) (w : PlainWorld) → IsPlain world w → (rid place : ℕ) (body : List ℕ) → rid ≡ world.first + place → slice_get world.sent.items place ≡ Some body
-    → (news : List SeenItem) (next : World) → IsPlainStep news next (carried w body (request_in body)) → IsPlainStep news next (carries w rid)
+    → (news : List SeenItem) (next : World) → IsPlainStep news next (carried w rid body (request_in body)) → IsPlainStep news next (carries w rid)
 carry_some world w is rid place body there found news next step =
-    subst (λ o. IsPlainStep news next (carries_to w o)) (sym (sent_at world w is.rest rid place there ∙ found)) step
+    subst (λ o. IsPlainStep news next (carries_to w rid o)) (sym (sent_at world w is.rest rid place there ∙ found)) step
 
 pub carry_none : (world : World) (w : PlainWorld) → IsPlain world w → (rid : ℕ) → (world.first ≤ rid → world.first + length world.sent.items ≤ rid)
     → (news : List SeenItem) → news ≡ seen.NoCopy ∷ [] → IsPlainStep news world (carries w rid)
 carry_none world w is rid past news it =
-    subst (λ o. IsPlainStep news world (carries_to w o)) (sym (none_sent world w is.rest rid past)) (kept_step world w is (seen.NoCopy ∷ []) news it)
+    subst (λ o. IsPlainStep news world (carries_to w rid o)) (sym (none_sent world w is.rest rid past)) (kept_step world w is (seen.NoCopy ∷ []) news it)
 
 pub creation_is : (kind : Kind) (creation : Creation) → creation_in kind ≡ Some creation → kind ≡ kinds.Creation creation
 creation_is (kinds.Creation other) creation is = cc
@@ -115,13 +116,19 @@ dup_step world w is body request creation some news it = by world.manager w.mana
     by (Some manager) (Some m) some is_end = kept_step world w is (seen.Dup request.rid ∷ []) news it
 
 pub first_step : (world : World) (w : PlainWorld) → IsPlain world w → (body : List ℕ) (request : Request) (creation : Creation) → is_some world.manager ≡ false
-    → (news : List SeenItem) (next : World) → IsPlainStep news next (turns w [] (opens (opening w request body creation))) → IsPlainStep news next (comes w body request (kinds.Creation creation) w.manager)
+    → (news : List SeenItem) (next : World) → IsPlainStep news next (admits w body request creation (admitted_of request.to (host_of w ∷ []))) → IsPlainStep news next (comes w body request (kinds.Creation creation) w.manager)
 first_step world w is body request creation none news next step = by world.manager w.manager none is.end
   where
     by : (end : Option Manager) (o : Option PlainManager) → is_some end ≡ false → IsEnd end o → IsPlainStep news next (comes w body request (kinds.Creation creation) o)
     by None None none is_end = step
     by None (Some m) none is_end = absurd is_end
     by (Some manager) o none is_end = absurd (cc)
+
+-- the host is the one that the world serves
+pub admitted_as : (world : World) (w : PlainWorld) → IsPlain world w → (to : Option (List ℕ)) → admitted_of to (record { name = world.site.host; greeting = world.site.greeting } ∷ []) ≡ admitted_of to (host_of w ∷ [])
+admitted_as world w is to =
+    ap (λ (name : List ℕ). admitted_of to (record { name = name; greeting = world.site.greeting } ∷ [])) is.rest.host_is
+    ∙ ap (λ (greeting : List (List ℕ)). admitted_of to (record { name = w.host; greeting = greeting } ∷ [])) is.rest.greeting_is
 
 -- before the creation came a copy is lost
 pub lost_step : (world : World) (w : PlainWorld) → IsPlain world w → (body sid : List ℕ) (request : Request) → request.kind ≡ kinds.Later sid → world.manager ≡ None

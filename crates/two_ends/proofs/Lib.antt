@@ -14,5 +14,6 @@ pub mod ServeLemmas
 pub mod SumLemmas
 pub mod TakingLemmas
 pub mod TellLemmas
+pub mod TimingLemmas
 pub mod TurnLemmas
 pub mod TurnSums

@@ -5,10 +5,16 @@ use Rattle.std.specs.List.{count_by}
 use Rattle.std.proofs.lemmas.List.{length-drop}
 use Rattle.std.proofs.lemmas.List.Sums.{sum_by-append, sum_by-cons}
 use Rattle.bosh_types.specs.ById.{at_id}
+use Rattle.bosh_types.specs.declared.condition.Condition.{Condition}
+use Rattle.bosh_types.specs.declared.condition.Condition.TheVariants.{BadRequest, HostUnknown, ImproperAddressing}
 use Rattle.bosh_types.specs.declared.ending.Closing.{Closing}
+use Rattle.session_attrs.specs.declared.admission.Admitted.{Admitted}
+use Rattle.session_attrs.specs.declared.admission.Admitted.TheVariants as admitted
+use Rattle.session_attrs.specs.declared.request.Creation.{Creation}
 use Rattle.session_attrs.specs.declared.request.Kind.{Kind}
 use Rattle.session_attrs.specs.declared.request.Kind.TheVariants as kinds
 use Rattle.session_attrs.specs.declared.request.Request.{Request}
+use Rattle.session_attrs.specs.Admission.{admitted_of}
 use Rattle.session_core.specs.declared.replies.Taken.{Taken}
 use Rattle.session_core.specs.declared.replies.Taken.TheVariants as takings
 use Rattle.session_core.specs.Copy.{unnamed}
@@ -34,9 +40,9 @@ use Rattle.world_laws.specs.declared.seen.Word.{Word}
 use Rattle.world_laws.specs.declared.seen.Word.TheVariants as words
 use Rattle.world_laws.specs.declared.told.Told.{Told}
 use Rattle.world_laws.specs.declared.told.Told.TheVariants as tells
-use Rattle.world_laws.specs.Manager.{PlainManager, Turn, arrives, gives, opens, passes, session, shuts}
+use Rattle.world_laws.specs.Manager.{PlainManager, Turn, arrives, gives, opens, passes, refusal_to, session, shuts}
 use Rattle.world_laws.specs.Setup.{IsAllowed}
-use Rattle.world_laws.specs.Steps.{Step, all_handed, at, carried, carries_to, comes, ended_seen, gives_to, left_of, numbered, opening, passes_to, queues, refusals, returned, returns, returns_to, sends, shuts_to, step, taken_refusals, turns}
+use Rattle.world_laws.specs.Steps.{Step, admits, all_handed, at, carried, carries_to, comes, ended_seen, gives_to, host_of, left_of, numbered, opening, passes_to, queues, refusals, refuses, returned, returns, returns_to, sends, shuts_to, step, taken_refusals, turns}
 use Rattle.world_laws.specs.Sums.{given_sum, is_inward_stanza}
 use Rattle.world_laws.specs.World.{PlainWorld}
 use Rattle.world_laws.proofs.Below.{Below}
@@ -275,14 +281,27 @@ module _ (below : Below) (w : PlainWorld) where
       let taken = (back_closed (session m) unnamed closing w.moment).1 in
       by_turn w (Some m) (taken_refusals words.Shut taken) (shuts m closing w.moment) 0 _ (taken_quiet words.Shut taken) (shuts_grows below m made passed closing w.moment) (same_sum m _)
 
-  comes_grows : IsTrue (serves w.host w.greeting) → (body : List ℕ) (request : Request) → request_in body ≡ Some request → (kind : Kind) → request.kind ≡ kind
-      → (o : Option PlainManager) → w.manager ≡ o → IsMadeEnd o → IsPassedOn o → Grows w.client o w.greeting 0 0 (comes w body request kind o)
-  comes_grows served body request read (kinds.Creation creation) kind None is made passed =
+  refuses_grow : (o : Option PlainManager) → w.manager ≡ o → IsPassedOn o → (rid : ℕ) (condition : Condition) → Grows w.client o w.greeting 0 0 (refuses w rid condition)
+  refuses_grow o is passed rid condition =
+      subst (λ (m : Option PlainManager). Grows w.client m w.greeting 0 0 (refuses w rid condition)) is
+      (let items = numbered (length w.written) (refusal_to rid condition ∷ []) in
+      let k = kept w (subst IsPassedOn (sym is) passed) items 0 (record { passed = refl; got = refl }) refl in
+      record { put_is = k.put_is; inward_is = k.inward_is; given_is = k.given_is; got_is = k.got_is; passed_is = k.passed_is })
+
+  admits_grow : IsTrue (serves w.host w.greeting) → (body : List ℕ) (request : Request) (creation : Creation) → request_in body ≡ Some request → request.kind ≡ kinds.Creation creation → w.manager ≡ None
+      → (a : Admitted) → Grows w.client None w.greeting 0 0 (admits w body request creation a)
+  admits_grow served body request creation read kind is (admitted.Host place) =
       let opens_at = opening w request body creation in
       let turn = opens opens_at in
       by_turn w None [] turn 0 (length w.greeting) quiet_none
       (opens_grows below opens_at (may_open w.host w.greeting request creation body body _ _ w.moment served read kind refl refl refl))
       (omega (arith, not_refused (length w.written) turn.told (length w.greeting)))
+  admits_grow served body request creation read kind is admitted.Improper = refuses_grow None is tt request.rid ImproperAddressing
+  admits_grow served body request creation read kind is admitted.Unknown = refuses_grow None is tt request.rid HostUnknown
+
+  comes_grows : IsTrue (serves w.host w.greeting) → (body : List ℕ) (request : Request) → request_in body ≡ Some request → (kind : Kind) → request.kind ≡ kind
+      → (o : Option PlainManager) → w.manager ≡ o → IsMadeEnd o → IsPassedOn o → Grows w.client o w.greeting 0 0 (comes w body request kind o)
+  comes_grows served body request read (kinds.Creation creation) kind None is made passed = admits_grow served body request creation read kind is (admitted_of request.to (host_of w ∷ []))
   comes_grows served body request read (kinds.Creation creation) kind (Some m) is made passed =
       subst (λ (o : Option PlainManager). Grows w.client o w.greeting 0 0 (record { seen = seen.Dup request.rid ∷ []; after = w })) is
       (kept w (subst IsPassedOn (sym is) passed) (seen.Dup request.rid ∷ []) 0 (record { passed = refl; got = refl }) refl)
@@ -292,13 +311,13 @@ module _ (below : Below) (w : PlainWorld) where
       by_turn w (Some m) [] (arrives m request body w.moment) 0 _ quiet_none (arrives_grows below m made passed request body w.moment (given_read body request read, (sid, kind))) (same_sum m _)
 
   module _ (served : IsTrue (serves w.host w.greeting)) (made : IsMadeEnd w.manager) (passed : IsPassedOn w.manager) (within : w.client.handed_out ≤ length (deliverable w.client)) where
-    carried_grows : (body : List ℕ) (o : Option Request) → request_in body ≡ o → Grows w.client w.manager w.greeting 0 0 (carried w body o)
-    carried_grows body None gives = kept w passed [] 0 quiet_none refl
-    carried_grows body (Some request) gives = comes_grows served body request gives request.kind refl w.manager refl made passed
+    carried_grows : (rid : ℕ) (body : List ℕ) (o : Option Request) → request_in body ≡ o → Grows w.client w.manager w.greeting 0 0 (carried w rid body o)
+    carried_grows rid body None gives = refuses_grow w.manager refl passed rid BadRequest
+    carried_grows rid body (Some request) gives = comes_grows served body request gives request.kind refl w.manager refl made passed
 
-    carries_to_grow : (o : Option (List ℕ)) → Grows w.client w.manager w.greeting 0 0 (carries_to w o)
-    carries_to_grow None = kept w passed (seen.NoCopy ∷ []) 0 (record { passed = refl; got = refl }) refl
-    carries_to_grow (Some body) = carried_grows body (request_in body) refl
+    carries_to_grow : (rid : ℕ) (o : Option (List ℕ)) → Grows w.client w.manager w.greeting 0 0 (carries_to w rid o)
+    carries_to_grow rid None = kept w passed (seen.NoCopy ∷ []) 0 (record { passed = refl; got = refl }) refl
+    carries_to_grow rid (Some body) = carried_grows rid body (request_in body) refl
 
 -- an event
 pub step_grows : (below : Below) (w : PlainWorld) → IsTrue (serves w.host w.greeting) → IsMadeEnd w.manager → IsPassedOn w.manager → w.client.handed_out ≤ length (deliverable w.client)
@@ -309,7 +328,7 @@ step_grows below w served made passed within events.Restart allowed = restart_gr
 step_grows below w served made passed within (events.Pause seconds) allowed = pause_grows w passed seconds
 step_grows below w served made passed within events.Stop allowed = stop_grows w passed
 step_grows below w served made passed within events.Send allowed = send_grows w passed
-step_grows below w served made passed within (events.Carry rid) allowed = carries_to_grow below w served made passed within (at_id w.sent rid)
+step_grows below w served made passed within (events.Carry rid) allowed = carries_to_grow below w served made passed within rid (at_id w.sent rid)
 step_grows below w served made passed within (events.Give stanza) allowed = gives_to_grow below w stanza allowed w.manager refl made passed
 step_grows below w served made passed within (events.Shut closing) allowed = shuts_to_grow below w closing w.manager refl made passed
 step_grows below w served made passed within (events.Return number) allowed = returns_grow w passed below within number

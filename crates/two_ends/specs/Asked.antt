@@ -1,5 +1,5 @@
 -- What can be asked of a world.
-use Rattle.std.specs.Prelude.{ℕ, ◌+◌, ◌==◌, ◌&&◌, nat_le, Bool, List, [], ◌∷◌, map, Option, None, Some, is_some, if◌then◌else◌}
+use Rattle.std.specs.Prelude.{ℕ, ◌+◌, ◌≤◌, ◌==◌, ◌&&◌, nat_le, All, Bool, List, [], ◌∷◌, map, Option, None, Some, is_some, if◌then◌else◌}
 use Rattle.std.specs.List.{find}
 use Rattle.bosh_types.specs.Rid.{greatest_rid}
 use Rattle.bosh_types.specs.declared.ending.Ending.{Ending}
@@ -45,3 +45,7 @@ last_answer rid answers = last_after rid None 0 answers
 abbrev pub ending_in : Option PlainManager → Option Ending
 ending_in None = None
 ending_in (Some m) = (session m).ending
+
+-- each answer that the client took is of its first id or a later one
+abbrev pub AreFromFirst : PlainClient → Type 0
+AreFromFirst c = All (λ answer. c.setup.first ≤ answer.0) c.answers

@@ -10,12 +10,17 @@ mod laws;
 mod manager;
 mod manager_side;
 mod reading;
+mod refusing;
 mod running;
 mod site;
 mod sums;
 mod telling;
+mod timing;
 mod world;
 
 pub use sums::Sums;
 pub use world::World;
-pub use world_laws::{Report, Seen, SeenItem, Word, WorldEvent, every_world_keeps_both_prefixes};
+pub use world_laws::{
+    Report, Seen, SeenItem, Word, WorldEvent, every_world_keeps_both_prefixes,
+    timely_worlds_are_complete,
+};

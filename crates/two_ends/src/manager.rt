@@ -1,10 +1,8 @@
 // The manager's end: what comes to its session, and what is then told of it.
 ghost use Rattle.std.specs.Prelude.{◌≡◌, ◌++◌, ◌∷◌, [], map, IfOk, OnOk, IsTrue, Some};
-ghost use Rattle.bosh_types.specs.declared.condition.Condition.TheVariants.{ItemNotFound};
 ghost use Rattle.body_cutter.specs.Cutting.{is_stanza};
 ghost use Rattle.body_writer.specs.Answer.{answer_text};
 ghost use Rattle.session_core.specs.Copy.{unnamed};
-ghost use Rattle.session_core.specs.Endings.{terminal};
 ghost use Rattle.session_core.specs.Journal.{Arrive, IsAllowed, Journal, state_of};
 ghost use Rattle.session_core.specs.Machine.{back, back_closed, created_parts};
 ghost use Rattle.session_core.specs.declared.opening.Opening.{Opening};
@@ -15,8 +13,8 @@ ghost use Rattle.session_calls.specs.After.{all_taken, untaken};
 ghost use Rattle.world_laws.specs.Manager.{PlainManager, all_collected, arrived, arrives, collected_told, ending_told, gives, opens, passes, session, shuts, still, still_parked, told_in, told_of, turned};
 ghost use Rattle.two_ends.specs.Stands.{IsManager, IsTurn};
 
-use body_writer::{AnswerKind, AnswerParts, write_answer};
-use bosh_types::{Closing, Condition, Ending, Moment, Rid, SharedText, Stanzas};
+use crate::refusing::refusal;
+use bosh_types::{Closing, Condition, Ending, Moment, Rid, SharedText};
 use session_attrs::Request;
 use session_calls::{arrive, back, back_closed, collect, take_inward, tick};
 use session_core::{Arrived, Collected, Taken, Ticked};
@@ -84,7 +82,7 @@ impl Manager {
                 self.turned(alloc, was_over, None)
             }
             Arrived::Over => {
-                let body = not_found(alloc)?;
+                let body = refusal(alloc, Condition::ItemNotFound)?;
                 self.turned(alloc, was_over, Some(Told::Answer { rid, body }))
             }
         }
@@ -244,22 +242,4 @@ fn tell_fate(
         }
         Collected::UnknownTicket => Ok(()),
     }
-}
-
-// What a copy is told after the ending.
-fn not_found(alloc: Global) -> Result<SharedText, AllocError>
-    ensures { IfOk result (λ body. body ≡ answer_text (terminal (Some ItemNotFound))) }
-{
-    let text = write_answer(
-        alloc,
-        &AnswerParts {
-            created: None,
-            kind: AnswerKind::Terminate,
-            condition: Some(Condition::ItemNotFound),
-            ack: None,
-            report: None,
-            payloads: Stanzas::from_vec(Vec::new(alloc)),
-        },
-    )?;
-    SharedText::new(alloc, text)
 }

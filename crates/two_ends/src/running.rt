@@ -3,9 +3,11 @@ ghost use Rattle.std.specs.Prelude.{◌≡◌, All, IfOk, List, ℕ};
 ghost use Rattle.bosh_client.specs.declared.setup.ClientSetup.{ClientSetup};
 ghost use Rattle.two_ends.specs.Summed.{given_now};
 ghost use Rattle.two_ends.specs.Worlds.{IsPlain, IsPlainStep, IsRun, IsStep, IsWorld, ShowsBothPrefixes};
+ghost use Rattle.world_laws.specs.Complete.{IsComplete};
 ghost use Rattle.world_laws.specs.Promises.{all_seen};
 ghost use Rattle.world_laws.specs.Setup.{IsAllowed, IsWorldSetup};
 ghost use Rattle.world_laws.specs.Steps.{after, step};
+ghost use Rattle.world_laws.specs.Timely.{IsTimely};
 ghost use Rattle.world_laws.specs.World.{PlainWorld, new_world};
 
 use crate::laws::events_are_counted;
@@ -13,19 +15,26 @@ use crate::sums::{given_by, put_by};
 use crate::world::World;
 use bosh_types::Row;
 use std::alloc::{AllocError, Global};
-use world_laws::{Report, Seen, WorldEvent, every_world_keeps_both_prefixes};
+use world_laws::{
+    Report, Seen, WorldEvent, every_world_keeps_both_prefixes, timely_worlds_are_complete,
+};
 
 impl World {
     /// Events happen one after the other. Where the world was new, what was seen to be passed on to the server is a beginning
-    /// of what the client made, and what was seen to be handed out a beginning of what the server gave. The only error is want
-    /// of memory, after which nothing is said of the world.
+    /// of what the client made, and what was seen to be handed out a beginning of what the server gave; and where no copy of a
+    /// request came after its answer was taken, nothing went wrong by itself between the two. The only error is want of memory,
+    /// after which nothing is said of the world.
     pub fn run(&mut self, alloc: Global, events: Vec<WorldEvent>) -> Result<Report, AllocError>
         requires { All IsAllowed events.items }
         ensures run { IfOk result (λ report. (w : PlainWorld) → IsWorld self.old w → IsRun report self.new w events.items) }
         ensures prefixes { IfOk result (λ report. (host : List ℕ) (greeting : List (List ℕ)) (setup : ClientSetup) → IsWorldSetup host greeting setup
             → IsWorld self.old (new_world host greeting setup) → ShowsBothPrefixes (after (new_world host greeting setup) events.items) (all_seen report)) }
+        ensures complete { IfOk result (λ report. (host : List ℕ) (greeting : List (List ℕ)) (setup : ClientSetup) → IsWorldSetup host greeting setup
+            → IsWorld self.old (new_world host greeting setup) → IsTimely (new_world host greeting setup) events.items
+            → IsComplete (after (new_world host greeting setup) events.items)) }
     {
         every_world_keeps_both_prefixes();
+        timely_worlds_are_complete();
         let mut report = Vec::new(alloc);
         for event in events {
             let seen = self.step(alloc, event)?;

@@ -11,10 +11,13 @@ use Rattle.body_cutter.specs.declared.parts.Span.{Span}
 use Rattle.body_cutter.proofs.Rows.{cuts_compute}
 use Rattle.body_writer.specs.declared.request.RequestParts.{RequestParts}
 use Rattle.body_writer.specs.Answer.{answer_text}
+use Rattle.session_attrs.specs.declared.admission.Admitted.{Admitted}
+use Rattle.session_attrs.specs.declared.admission.Admitted.TheVariants as admitted
 use Rattle.session_attrs.specs.declared.request.Creation.{Creation}
 use Rattle.session_attrs.specs.declared.request.Kind.{Kind}
 use Rattle.session_attrs.specs.declared.request.Kind.TheVariants as kinds
 use Rattle.session_attrs.specs.declared.request.Request.{Request}
+use Rattle.session_attrs.specs.Admission.{admitted_of}
 use Rattle.session_core.specs.Copy.{unnamed}
 use Rattle.session_core.specs.Copy as copies
 use Rattle.session_core.specs.Journal.{IsOpening, IsReadFrom, Journal, none as nothing_entered}
@@ -25,6 +28,7 @@ use Rattle.session_core.specs.Run.{arrivals_of}
 use Rattle.session_journal.specs.Entries.{request_in}
 use Rattle.session_laws.proofs.Carried.{one_reading}
 use Rattle.session_laws.proofs.Lists.{at_id-push_still}
+use Rattle.session_laws.proofs.Tests.{none_some}
 use Rattle.bosh_client.specs.declared.replies.Queued.{Queued}
 use Rattle.bosh_client.specs.declared.setup.ClientSetup.{ClientSetup}
 use Rattle.bosh_client.specs.Machine.{answer, next_made, next_request, pause, put, restart, terminate, with_answer}
@@ -42,8 +46,9 @@ use Rattle.world_laws.specs.declared.told.Told.TheVariants as tells
 use Rattle.world_laws.specs.Manager.{PlainManager, Turn, arrives, gives, opens, passes, session, shuts}
 use Rattle.world_laws.specs.Setup.{IsAllowed, IsWorldSetup}
 use Rattle.world_laws.specs.Sound.{IsAnswerTo, IsOpenedBy, IsParkedAt, IsRunClient, IsSent, IsSound, IsSoundEnd, body_taken, sent_of}
-use Rattle.world_laws.specs.Steps.{after, at, carried, carries_to, comes, gives_to, name, opening, passes_to, queues, returned, returns, returns_to, sends, shuts_to, step, taken_refusals, turns}
+use Rattle.world_laws.specs.Steps.{admits, after, at, carried, carries_to, comes, gives_to, host_of, name, opening, passes_to, queues, returned, returns, returns_to, sends, shuts_to, step, taken_refusals, turns}
 use Rattle.world_laws.specs.World.{PlainWorld, new_world}
+use Rattle.world_laws.proofs.AdmittedLemmas.{admitted_here, read_given}
 use Rattle.world_laws.proofs.Below.{Below}
 use Rattle.world_laws.proofs.ClientLemmas.{Queues, answer_by, called_client, handed_client, next_by, pause_queues, put_queues, restart_queues, terminate_queues}
 use Rattle.world_laws.proofs.NameLemmas.{created_bytes, is_named, unnamed_yet}
@@ -232,21 +237,34 @@ module _ (below : Below) (setup : ClientSetup) where
         → (kind : Kind) → request.kind ≡ kind → (o : Option PlainManager) → w.manager ≡ o → IsSound setup (comes w body request kind o).after
     comes_sound body request read sent creates (kinds.Creation creation) kind None is =
         let asked = creates creation kind in
+        let to : request.to ≡ Some setup.to = ap (λ (r : Request). r.to) asked.1 in
+        let named : 1 ≤ length setup.to = subst (λ (l : List ℕ). 1 ≤ length l) (sym h.begins.to) (h.begins.host_is).1 in
+        let here : admitted_of request.to (host_of w ∷ []) ≡ admitted.Host 0 =
+        ap (λ (o : Option (List ℕ)). admitted_of o (host_of w ∷ [])) to ∙ admitted_here setup.to w.host w.greeting named (sym h.begins.to) in
         let o : Opening = opening w request body creation in
         let by_client : IsOpenedBy setup o = record { children = asked.0; request_is = asked.1; sid_is = refl; host_is = sym h.begins.to } in
         let none = manager_of w h None is in
         let turn = opens_sound w.sent w.moment o (omega arith) (opening_allowed body request creation read kind) by_client sent in
-        turns_sound w h [] (opens o)
+        subst (λ (a : Admitted). IsSound setup (admits w body request creation a).after) (sym here)
+        (turns_sound w h [] (opens o)
         (subst (λ (answers : List (ℕ × Taken)). IsSoundTurn setup w.sent w.written answers w.moment (opens o)) (sym none.1)
-        (subst (λ (written : List (ℕ × List ℕ)). IsSoundTurn setup w.sent written [] w.moment (opens o)) (sym none.0) turn))
+        (subst (λ (written : List (ℕ × List ℕ)). IsSoundTurn setup w.sent written [] w.moment (opens o)) (sym none.0) turn)))
     comes_sound body request read sent creates (kinds.Creation creation) kind (Some m) is = h
     comes_sound body request read sent creates (kinds.Later sid) kind None is = h
     comes_sound body request read sent creates (kinds.Later sid) kind (Some m) is =
         turns_sound w h [] (arrives m request body w.moment) (arrives_sound below setup w.sent w.written w.client.answers w.moment m request body w.moment (read, (sid, kind)) (manager_of w h (Some m) is) (sent, omega arith))
 
+    -- a body of the network gives a request
+    pub gives_request : (rid : ℕ) (body : List ℕ) → IsOf w.client.requests rid body → request_in body ≡ None → ⊥
+    gives_request rid body found gives =
+        let parts = found.request.parts in
+        let form = all_at (λ (r : Made). HasForm setup r.parts) w.client.requests found.place found.request formed found.here in
+        let back = reads_back below setup parts h.begins.client form in
+        none_some (request_in body) (asked_by parts back.children) gives (read_given body (asked_by parts back.children) (subst (λ (b : List ℕ). IsReadFrom b (asked_by parts back.children)) found.body_is back.read))
+
     -- what is read from a body of the network is the request whose body it is
-    carried_sound : (rid : ℕ) (body : List ℕ) → at_id w.sent rid ≡ Some body → IsOf w.client.requests rid body → (o : Option Request) → request_in body ≡ o → IsSound setup (carried w body o).after
-    carried_sound rid body there found None gives = h
+    carried_sound : (rid : ℕ) (body : List ℕ) → at_id w.sent rid ≡ Some body → IsOf w.client.requests rid body → (o : Option Request) → request_in body ≡ o → IsSound setup (carried w rid body o).after
+    carried_sound rid body there found None gives = absurd (gives_request rid body found gives)
     carried_sound rid body there found (Some request) gives =
         let parts = found.request.parts in
         let form = all_at (λ (r : Made). HasForm setup r.parts) w.client.requests found.place found.request formed found.here in
@@ -261,7 +279,7 @@ module _ (below : Below) (setup : ClientSetup) where
         (back.children, same ∙ ap (λ (p : RequestParts). asked_by p back.children) creates))
         request.kind refl w.manager refl
 
-    carries_to_sound : (rid : ℕ) (o : Option (List ℕ)) → at_id w.sent rid ≡ o → IsSound setup (carries_to w o).after
+    carries_to_sound : (rid : ℕ) (o : Option (List ℕ)) → at_id w.sent rid ≡ o → IsSound setup (carries_to w rid o).after
     carries_to_sound rid None there = h
     carries_to_sound rid (Some body) there =
         carried_sound rid body there (sent_is_of w.client.requests rid body (ap (λ (l : List (ℕ × List ℕ)). at_id l rid) (sym h.sent_is) ∙ there)) (request_in body) refl

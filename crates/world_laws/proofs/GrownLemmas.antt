@@ -1,11 +1,14 @@
 -- A journal that calls made longer: what its ids were given, its tickets and what arrived stay.
-use Rattle.std.proofs.Common.{◌≡◌, ℕ, zero, suc, ◌≤◌, List, [], ◌∷◌, Option, Some, None, length, refl, sym, ◌∙◌, ap, subst}
+use Rattle.std.proofs.Common.{◌≡◌, ℕ, zero, suc, ◌≤◌, List, [], ◌∷◌, ◌++◌, Option, Some, None, length, refl, sym, ◌∙◌, ap, subst, append_assoc}
 use Rattle.std.specs.Prelude.{All}
-use Rattle.session_core.specs.Journal.{Call, Collect, Entered, Journal, IsAllowed, IsJournal, TakeInward, entered_by, state_of, step}
+use Rattle.bosh_types.specs.declared.ending.Ending.{Ending}
+use Rattle.session_core.specs.Journal.{Call, Collect, Entered, Journal, IsAllowed, IsJournal, TakeInward, entered_by, none, state_of, step}
 use Rattle.session_core.specs.Machine.{bytes_for}
 use Rattle.session_core.specs.Run.{arrivals_of}
 use Rattle.session_core.specs.State.{PlainSession}
+use Rattle.session_laws.specs.Growing.{Begins, Grows}
 use Rattle.session_laws.proofs.Followed.{every_tells, moment_of}
+use Rattle.session_laws.proofs.Grows.{begins_same, grows_all}
 use Rattle.world_laws.specs.declared.told.Parked.{Parked}
 use Rattle.session_calls.specs.After.{after_call, all_taken, untaken, with_entered, with_taken}
 use Rattle.world_laws.specs.Manager.{all_collected}
@@ -21,10 +24,16 @@ pub record Grown (sent : List (ℕ × List ℕ)) (moment : ℕ) (j k : Journal) 
   pub tickets : (number rid : ℕ) → IsTicketOf (state_of j).tickets number rid → IsTicketOf (state_of k).tickets number rid
   pub arrivals : All (IsSent sent) (arrivals_of j) → All (IsSent sent) (arrivals_of k)
   pub early : (state_of j).now ≤ moment → (state_of k).now ≤ moment
+  pub ending : (ending : Ending) → (state_of j).ending ≡ Some ending → (state_of k).ending ≡ Some ending
+  pub processed : Begins (state_of j).processed (state_of k).processed
+  pub answered : Begins (state_of j).answered (state_of k).answered
+
+begins_later : {X : Type 0} (xs ys zs : List X) → Begins xs ys → Begins ys zs → Begins xs zs
+begins_later xs ys zs one two = (one.0 ++ two.0, two.1 ∙ ap (λ l. l ++ two.0) one.1 ∙ append_assoc xs one.0 two.0)
 
 pub grown_none : (sent : List (ℕ × List ℕ)) (moment : ℕ) (j : Journal) → IsJournal j → Grown sent moment j j
 grown_none sent moment j made =
-    record { made = made; opening_is = refl; bytes = λ rid bytes is. is; tickets = λ number rid is. is; arrivals = λ all. all; early = λ is. is }
+    record { made = made; opening_is = refl; bytes = λ rid bytes is. is; tickets = λ number rid is. is; arrivals = λ all. all; early = λ is. is; ending = λ ending is. is; processed = begins_same (state_of j).processed; answered = begins_same (state_of j).answered }
 
 pub grown_then : (sent : List (ℕ × List ℕ)) (moment : ℕ) (j k l : Journal) → Grown sent moment j k → Grown sent moment k l → Grown sent moment j l
 grown_then sent moment j k l one two = record {
@@ -34,6 +43,9 @@ grown_then sent moment j k l one two = record {
   tickets = λ number rid is. two.tickets number rid (one.tickets number rid is);
   arrivals = λ all. two.arrivals (one.arrivals all);
   early = λ is. two.early (one.early is);
+  ending = λ ending is. two.ending ending (one.ending ending is);
+  processed = begins_later (state_of j).processed (state_of k).processed (state_of l).processed one.processed two.processed;
+  answered = begins_later (state_of j).answered (state_of k).answered (state_of l).answered one.answered two.answered;
 }
 
 module _ (below : Below) where
@@ -61,6 +73,13 @@ module _ (below : Below) where
         by None is = given
         by (Some entered) is = (below.journals j made).same_bytes (told_by entered ∷ []) (below.longer j call (told_by entered) made allowed is) rid bytes given
 
+    call_keeps : (j : Journal) (call : Call) → IsAllowed call → IsJournal j → Grows (state_of j) (state_of (after_call j call))
+    call_keeps j call allowed made = by (entered_by (state_of j) call) refl
+      where
+        by : (e : Option Entered) → entered_by (state_of j) call ≡ e → Grows (state_of j) (state_of (with_entered j e))
+        by None is = grows_all (state_of j) [] none
+        by (Some entered) is = (below.journals j made).grows (told_by entered ∷ []) (below.longer j call (told_by entered) made allowed is)
+
     call_opening : (j : Journal) (e : Option Entered) → (with_entered j e).opening ≡ j.opening
     call_opening j None = refl
     call_opening j (Some entered) = refl
@@ -78,6 +97,9 @@ module _ (below : Below) where
           let before : moment_of j.opening.at j.entries ≤ moment = subst (λ (n : ℕ). n ≤ moment) (every_tells j made).now is in
           let later = call_made j call allowed made in
           subst (λ (n : ℕ). n ≤ moment) (sym (every_tells (after_call j call) later).now) (moment_later sent moment j call brings before);
+      ending = (call_keeps j call allowed made).ending;
+      processed = (call_keeps j call allowed made).processed;
+      answered = (call_keeps j call allowed made).answered;
     }
 
     passed_grows : (count : ℕ) (j : Journal) → IsJournal j → Grown sent moment j (with_taken count j)

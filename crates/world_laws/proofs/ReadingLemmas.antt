@@ -1,5 +1,5 @@
 -- What the client reads in the answers of a session: the stanzas that they took, or nothing.
-use Rattle.std.proofs.Common.{◌≡◌, ℕ, ◌+◌, ◌<◌, ◌≤◌, ◌^◌, ◌==◌, true, not, List, [], ◌∷◌, length, map, inl, inr, ◌⊎◌, refl, sym, ◌∙◌, ap, arith, length-append}
+use Rattle.std.proofs.Common.{◌≡◌, ℕ, ◌+◌, ◌<◌, ◌≤◌, ◌^◌, ◌==◌, true, not, List, [], ◌∷◌, length, map, inl, inr, ◌⊎◌, refl, sym, ◌∙◌, ap, arith, length-append, false, subst}
 use Rattle.std.specs.Prelude.{None, Some, Option, Ok, IfSome, All, nat_le}
 use Rattle.std.specs.List.{list_any}
 use Rattle.std.proofs.lemmas.Bool.{leb-true}
@@ -13,6 +13,7 @@ use Rattle.bosh_types.specs.declared.ending.Closing.TheVariants as closings
 use Rattle.bosh_types.specs.declared.ending.Ending.{Ending}
 use Rattle.bosh_types.specs.declared.ending.Ending.TheVariants as endings
 use Rattle.body_cutter.specs.Built.{IsElementWithin}
+use Rattle.body_writer.specs.declared.answer.AnswerKind.{AnswerKind}
 use Rattle.body_writer.specs.declared.answer.AnswerKind.TheVariants.{Usual, Terminate}
 use Rattle.body_writer.specs.declared.answer.AnswerParts.{AnswerParts}
 use Rattle.body_writer.specs.Answer.{answer_text}
@@ -31,11 +32,13 @@ use Rattle.session_core.specs.Journal.{IsOpening}
 use Rattle.session_core.specs.Outward.{is_close, items_in, size_of, size_of_all, stanzas_in}
 use Rattle.session_core.specs.State.{Answered}
 use Rattle.session_laws.proofs.Tests.{both_true, split}
+use Rattle.bosh_client.specs.declared.replies.ClientEnd.{ClientEnd}
 use Rattle.bosh_client.specs.declared.setup.ClientSetup.{ClientSetup}
 use Rattle.bosh_client.specs.declared.told.Told.{Told}
 use Rattle.bosh_client.specs.AnswerReading.{answer_of}
 use Rattle.bosh_client.specs.ReadBack.{IsInForm, end_in, told_of}
 use Rattle.bosh_client.specs.Setup.{is_setup}
+use Rattle.world_laws.specs.Complete.{IsNoRefusal, TellsNoRefusal, is_refusal}
 use Rattle.world_laws.specs.Sound.{IsOpenedBy}
 use Rattle.world_laws.proofs.AnswerSizes.{answer_fits}
 use Rattle.world_laws.proofs.Below.{Below}
@@ -50,6 +53,18 @@ pub record IsRead (bytes : List ℕ) (items : List Outward) : Type 0 where
   pub is : IsAnswer parts
   pub form : IsInForm parts
   pub payloads_are : end_in parts.kind parts.condition ≡ None → parts.payloads ≡ stanzas_in items
+  pub no_refusal : IsNoRefusal parts.condition
+
+-- a closing is no refusal
+closing_tells : (closing : Closing) → IsNoRefusal (closing_condition closing)
+closing_tells closings.Plain = tt
+closing_tells closings.RemoteConnectionFailed = refl
+closing_tells closings.RemoteStreamError = refl
+closing_tells closings.SystemShutdown = refl
+
+end_tells : (kind : AnswerKind) (condition : Option Condition) → IsNoRefusal condition → IfSome (end_in kind condition) (λ (e : ClientEnd). IsNoRefusal e.condition)
+end_tells Usual condition none = tt
+end_tells Terminate condition none = none
 
 -- What an answer carries.
 
@@ -96,6 +111,7 @@ module _ (below : Below) where
         };
         form = record { requests = tt; polling = tt; maxpause = tt; ack = ack_rid c.ack c.acks };
         payloads_are = λ goes_on. refl;
+        no_refusal = tt;
       }
     where
       ack_word : (ack : Option ℕ) → IfSome ack (λ rid. (first ≤ rid) × (rid ≤ last)) → IfSome ack IsWord
@@ -125,6 +141,7 @@ module _ (below : Below) where
         is = terminal_is (closing_condition closing);
         form = terminal_form (closing_condition closing);
         payloads_are = λ goes_on. absurd (no_end (closing_condition closing) goes_on);
+        no_refusal = closing_tells closing;
       }
 
   greeting_stanzas : (greeting : List (List ℕ)) → greeting ≡ stanzas_in (map (Stanza unnamed) greeting)
@@ -140,6 +157,7 @@ module _ (below : Below) where
     is = created_is below setup valid first o is by_client;
     form = created_form below setup valid first o is by_client;
     payloads_are = λ goes_on. greeting_stanzas o.greeting;
+    no_refusal = tt;
   }
 
   -- what the client reads there
@@ -151,28 +169,28 @@ module _ (below : Below) where
   -- Last words carry nothing.
 
   abbrev IsWordOnly : AnswerParts → Type 0
-  IsWordOnly parts = (parts ≡ nothing) ⊎ ((condition : Option Condition) × (parts ≡ terminal condition))
+  IsWordOnly parts = (parts ≡ nothing) ⊎ ((condition : Option Condition) × (parts ≡ terminal condition) × IsNoRefusal condition)
 
   closing_word : (closing : Closing) → IsWordOnly (word_at_closing closing)
   closing_word closings.Plain = inl refl
-  closing_word closings.RemoteConnectionFailed = inr (_, refl)
-  closing_word closings.RemoteStreamError = inr (_, refl)
-  closing_word closings.SystemShutdown = inr (_, refl)
+  closing_word closings.RemoteConnectionFailed = inr (_, refl, refl)
+  closing_word closings.RemoteStreamError = inr (_, refl, refl)
+  closing_word closings.SystemShutdown = inr (_, refl, refl)
 
-  breaker_word : (breaker id : ℕ) (condition : Condition) → IsWordOnly (word_if_breaker breaker id condition)
-  breaker_word breaker id condition = split IsWordOnly (id == breaker) (terminal (Some condition)) other_request (λ _. inr (Some condition, refl)) (λ _. inr (_, refl))
+  breaker_word : (breaker id : ℕ) (condition : Condition) → is_refusal condition ≡ false → IsWordOnly (word_if_breaker breaker id condition)
+  breaker_word breaker id condition none = split IsWordOnly (id == breaker) (terminal (Some condition)) other_request (λ _. inr (Some condition, refl, none)) (λ _. inr (_, refl, refl))
 
   word_only : (answered : ℕ) (ending : Ending) (id : ℕ) → IsWordOnly (word_for answered ending id)
-  word_only answered (endings.Terminated rid) id = split IsWordOnly (id == answered + 1) (terminal None) nothing (λ _. inr (None, refl)) (λ _. inl refl)
-  word_only answered (endings.Stale rid lowest) id = inr (_, refl)
-  word_only answered (endings.Above rid last requests) id = inr (_, refl)
-  word_only answered (endings.WrongKey rid) id = breaker_word rid id _
-  word_only answered (endings.UnknownStream rid) id = breaker_word rid id _
-  word_only answered (endings.PauseTooLong rid pause maxpause) id = breaker_word rid id _
-  word_only answered (endings.Overactive rid apart) id = breaker_word rid id _
-  word_only answered (endings.Silent since now) id = inr (_, refl)
+  word_only answered (endings.Terminated rid) id = split IsWordOnly (id == answered + 1) (terminal None) nothing (λ _. inr (None, refl, tt)) (λ _. inl refl)
+  word_only answered (endings.Stale rid lowest) id = inr (_, refl, refl)
+  word_only answered (endings.Above rid last requests) id = inr (_, refl, refl)
+  word_only answered (endings.WrongKey rid) id = breaker_word rid id _ refl
+  word_only answered (endings.UnknownStream rid) id = breaker_word rid id _ refl
+  word_only answered (endings.PauseTooLong rid pause maxpause) id = breaker_word rid id _ refl
+  word_only answered (endings.Overactive rid apart) id = breaker_word rid id _ refl
+  word_only answered (endings.Silent since now) id = inr (_, refl, refl)
   word_only answered (endings.Closed closing rid) id = closing_word closing
-  word_only answered (endings.JournalFull counted cost) id = inr (_, refl)
+  word_only answered (endings.JournalFull counted cost) id = inr (_, refl, refl)
 
   nothing_is : IsAnswer nothing
   nothing_is = record {
@@ -191,6 +209,21 @@ module _ (below : Below) where
     | inl is ↦ ap (λ (t : Told). t.payloads) (tells_same (last_word answered ending id) nothing tells reads (ap answer_text is) (below.answer_read nothing nothing_is nothing_form))
     | inr is ↦ ap (λ (t : Told). t.payloads)
         (tells_same (last_word answered ending id) (terminal is.0) tells reads (ap answer_text is.1) (below.answer_read (terminal is.0) (terminal_is is.0) (terminal_form is.0)))
+  ]
+
+  -- nothing that a session writes refuses a request
+  pub read_refuses_not : (bytes : List ℕ) (items : List Outward) → IsRead bytes items → (tells : Told) → answer_of bytes ≡ Ok tells → TellsNoRefusal tells
+  read_refuses_not bytes items r tells reads =
+      subst TellsNoRefusal (sym (tells_same bytes r.parts tells reads r.bytes_are (below.answer_read r.parts r.is r.form))) (end_tells r.parts.kind r.parts.condition r.no_refusal)
+
+  pub terminal_refuses_not : (condition : Option Condition) → IsNoRefusal condition → (body : List ℕ) → body ≡ answer_text (terminal condition) → (tells : Told) → answer_of body ≡ Ok tells → TellsNoRefusal tells
+  terminal_refuses_not condition none body is tells reads =
+      subst TellsNoRefusal (sym (tells_same body (terminal condition) tells reads is (below.answer_read (terminal condition) (terminal_is condition) (terminal_form condition)))) none
+
+  pub word_refuses_not : (answered : ℕ) (ending : Ending) (id : ℕ) (tells : Told) → answer_of (last_word answered ending id) ≡ Ok tells → TellsNoRefusal tells
+  word_refuses_not answered ending id tells reads = elim (word_only answered ending id) [
+    | inl is ↦ subst TellsNoRefusal (sym (tells_same (last_word answered ending id) nothing tells reads (ap answer_text is) (below.answer_read nothing nothing_is nothing_form))) tt
+    | inr is ↦ terminal_refuses_not is.0 is.2 (last_word answered ending id) (ap answer_text is.1) tells reads
   ]
 
   -- a terminal answer ends the client

@@ -1,7 +1,7 @@
 -- The definitions of a world compute: events with what is seen of them.
-use Rattle.std.proofs.Common.{◌≡◌, ℕ, ◌∷◌, [], ◌++◌, List, refl, true, false}
+use Rattle.std.proofs.Common.{◌≡◌, ℕ, ◌∷◌, [], ◌++◌, List, refl, take, true, false}
 use Rattle.std.specs.Prelude.{Some, codes, ⊤}
-use Rattle.bosh_types.specs.declared.condition.Condition.TheVariants.{ItemNotFound}
+use Rattle.bosh_types.specs.declared.condition.Condition.TheVariants.{HostUnknown, ImproperAddressing, ItemNotFound}
 use Rattle.bosh_types.specs.declared.ending.Closing.TheVariants.{Plain}
 use Rattle.bosh_types.specs.declared.ending.Ending.TheVariants.{Stale}
 use Rattle.bosh_types.specs.declared.inward.Inward.TheVariants as inwards
@@ -18,6 +18,7 @@ use Rattle.world_laws.specs.declared.seen.SeenItem.TheVariants as seen
 use Rattle.world_laws.specs.declared.seen.Word.TheVariants as words
 use Rattle.world_laws.specs.Steps.{after, report}
 use Rattle.world_laws.specs.Sums.{sums_of}
+use Rattle.world_laws.specs.Timely.{is_timely}
 use Rattle.world_laws.specs.World.{PlainWorld, new_world}
 
 unfoldable worlds_compute : ⊤
@@ -116,3 +117,55 @@ before_the_creation :
     ∷ [] ∷ (seen.RefusedOver words.Put ∷ []) ∷ []
 unfolding worlds_compute
 before_the_creation = refl
+
+-- a creation that names another host is refused, and the client ends; no session is opened, and its copy is refused again
+abbrev other_host : PlainWorld
+other_host = new_world (codes "other.example") (codes "<stream:features/>" ∷ []) (record { first = 1000; to = host; wait = 60; hold = 1; ack = true; seed = codes "seed"; keys = 0 })
+
+abbrev host_unknown : List ℕ
+host_unknown = body (codes " type='terminate' condition='host-unknown'/>")
+
+unknown_host :
+    report other_host (events.Send ∷ events.Carry 1000 ∷ events.Carry 1000 ∷ events.Give (codes "<a/>") ∷ events.Return 2 ∷ events.Put (codes "<a/>") ∷ [])
+    ≡ (seen.Req 1000 (body (codes " xmlns:xmpp='urn:xmpp:xbosh' rid='1000' to='example.org' xml:lang='en' wait='60' hold='1' ver='1.11' content='text/xml; charset=utf-8' ack='1' xmpp:version='1.0'/>")) ∷ [])
+    ∷ (seen.Ans 1 1000 host_unknown ∷ []) ∷ (seen.Ans 2 1000 host_unknown ∷ []) ∷ (seen.RefusedOver words.Give ∷ [])
+    ∷ (seen.Ended (Some HostUnknown) ∷ []) ∷ (seen.RefusedOver words.Put ∷ []) ∷ []
+unfolding worlds_compute
+unknown_host = refl
+
+-- one that names no host is improper
+improper_host :
+    report (new_world host (codes "<stream:features/>" ∷ []) (record { first = 7; to = []; wait = 60; hold = 1; ack = false; seed = codes "seed"; keys = 0 }))
+    (events.Send ∷ events.Carry 7 ∷ events.Return 1 ∷ [])
+    ≡ (seen.Req 7 (body (codes " xmlns:xmpp='urn:xmpp:xbosh' rid='7' to='' xml:lang='en' wait='60' hold='1' ver='1.11' content='text/xml; charset=utf-8' xmpp:version='1.0'/>")) ∷ [])
+    ∷ (seen.Ans 1 7 (body (codes " type='terminate' condition='improper-addressing'/>")) ∷ []) ∷ (seen.Ended (Some ImproperAddressing) ∷ []) ∷ []
+unfolding worlds_compute
+improper_host = refl
+
+-- a body that gives no request is refused, before the creation came and after it
+no_request :
+    report (record (world_of 5) { sent = (4, codes "<a/>") ∷ [] }) (events.Carry 4 ∷ events.Send ∷ events.Carry 5 ∷ events.Carry 4 ∷ events.Return 1 ∷ events.Return 2 ∷ [])
+    ≡ (seen.Ans 1 4 (body (codes " type='terminate' condition='bad-request'/>")) ∷ [])
+    ∷ (seen.Req 5 (body (codes " xmlns:xmpp='urn:xmpp:xbosh' rid='5' to='example.org' xml:lang='en' wait='60' hold='1' ver='1.11' content='text/xml; charset=utf-8' ack='1' xmpp:version='1.0'/>")) ∷ [])
+    ∷ (seen.Ans 2 5 (body (codes " xmlns:xmpp='urn:xmpp:xbosh' xmlns:stream='http://etherx.jabber.org/streams' sid='s1' wait='60' requests='2' inactivity='30' polling='5' maxpause='120' hold='1' ver='1.11' from='example.org' ack='5' xmpp:version='1.0' xmpp:restartlogic='true'><stream:features/></body>")) ∷ [])
+    ∷ (seen.Ans 3 4 (body (codes " type='terminate' condition='bad-request'/>")) ∷ []) ∷ [] ∷ (seen.Got (codes "<stream:features/>") ∷ []) ∷ []
+unfolding worlds_compute
+no_request = refl
+
+-- the events of that login are timely but for the last, which brings a copy whose answer was taken
+login_in_time : is_timely (world_of 1000) (take 28 login) ≡ true
+unfolding worlds_compute
+login_in_time = refl
+
+login_late : is_timely (world_of 1000) login ≡ false
+unfolding worlds_compute
+login_late = refl
+
+-- copies are timely that were never made, or have an answer that was not taken; and a copy is late whose answer was
+copies_in_time : is_timely (world_of 5) (events.Carry 9 ∷ events.Send ∷ events.Carry 5 ∷ events.Carry 5 ∷ events.Return 1 ∷ events.Carry 6 ∷ []) ≡ true
+unfolding worlds_compute
+copies_in_time = refl
+
+creation_late : is_timely (world_of 5) (events.Send ∷ events.Carry 5 ∷ events.Return 1 ∷ events.Carry 5 ∷ []) ≡ false
+unfolding worlds_compute
+creation_late = refl

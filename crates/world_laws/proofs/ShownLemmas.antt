@@ -5,12 +5,18 @@ use Rattle.std.specs.List.{flat_map}
 use Rattle.std.proofs.lemmas.List.{take-append-drop, take-append-le}
 use Rattle.std.proofs.lemmas.List.Elements.{All-head, All-tail}
 use Rattle.bosh_types.specs.ById.{at_id}
+use Rattle.bosh_types.specs.declared.condition.Condition.{Condition}
+use Rattle.bosh_types.specs.declared.condition.Condition.TheVariants.{BadRequest, HostUnknown, ImproperAddressing}
 use Rattle.bosh_types.specs.declared.ending.Closing.{Closing}
 use Rattle.bosh_types.specs.declared.inward.Inward.{Inward}
 use Rattle.body_writer.specs.Answer.{answer_text}
+use Rattle.session_attrs.specs.declared.admission.Admitted.{Admitted}
+use Rattle.session_attrs.specs.declared.admission.Admitted.TheVariants as admitted
+use Rattle.session_attrs.specs.declared.request.Creation.{Creation}
 use Rattle.session_attrs.specs.declared.request.Kind.{Kind}
 use Rattle.session_attrs.specs.declared.request.Kind.TheVariants as kinds
 use Rattle.session_attrs.specs.declared.request.Request.{Request}
+use Rattle.session_attrs.specs.Admission.{admitted_of}
 use Rattle.session_core.specs.declared.replies.Taken.{Taken}
 use Rattle.session_core.specs.declared.replies.Taken.TheVariants as takings
 use Rattle.session_core.specs.Copy.{unnamed}
@@ -38,7 +44,7 @@ use Rattle.world_laws.specs.Manager.{PlainManager, Turn, arrives, gives, opens, 
 use Rattle.world_laws.specs.Promises.{ShowsAll, handed_in, inward_at, passed_in, seen_handed, seen_inward}
 use Rattle.world_laws.specs.Setup.{IsAllowed}
 use Rattle.world_laws.specs.Sound.{IsSound, IsSoundManager}
-use Rattle.world_laws.specs.Steps.{Step, after, all_handed, at, carried, carries_to, comes, ended_seen, gives_to, left_of, numbered, opening, passes_to, queues, refusals, report, returned, returns, returns_to, sends, shuts_to, step, taken_refusals}
+use Rattle.world_laws.specs.Steps.{Step, admits, after, all_handed, at, carried, carries_to, comes, ended_seen, gives_to, host_of, left_of, numbered, opening, passes_to, queues, refusals, refuses, report, returned, returns, returns_to, sends, shuts_to, step, taken_refusals}
 use Rattle.world_laws.specs.World.{PlainWorld}
 use Rattle.world_laws.proofs.Below.{Below}
 use Rattle.world_laws.proofs.ClientLemmas.{Queues, answer_by, next_by, pause_queues, put_queues, restart_queues, terminate_queues}
@@ -233,25 +239,34 @@ module _ (below : Below) (setup : ClientSetup) where
         subst (λ (l : List Inward). IsPassedTurn l (opens o)) (sym none)
         (turned_passed below false m (tells.Answer o.request.rid (answer_text (created_parts o)) ∷ []) [] refl (is, nothing_entered) (record { are = refl; within = omega arith }))
 
-    comes_shown : (body : List ℕ) (request : Request) → IsReadFrom body request → (kind : Kind) → request.kind ≡ kind → (o : Option PlainManager) → w.manager ≡ o
-        → ShowsStep items (comes w body request kind o)
-    comes_shown body request read (kinds.Creation creation) kind None is =
+    refuses_shown : (rid : ℕ) (condition : Condition) → ShowsStep items (refuses w rid condition)
+    refuses_shown rid condition = quietly w.client w.client w.manager items _ (record { handed = refl; inward = refl }) refl shown
+
+    admits_shown : (body : List ℕ) (request : Request) (creation : Creation) → IsReadFrom body request → request.kind ≡ kinds.Creation creation → w.manager ≡ None → (a : Admitted)
+        → ShowsStep items (admits w body request creation a)
+    admits_shown body request creation read kind is (admitted.Host place) =
         let o : Opening = opening w request body creation in
         turn_shown w.client None items [] (length w.written) (opens o) nothing_first (shown_at None is)
         (opens_passed o (opening_allowed below setup w h body request creation read kind) (shown_at None is).inward)
+    admits_shown body request creation read kind is admitted.Improper = refuses_shown request.rid ImproperAddressing
+    admits_shown body request creation read kind is admitted.Unknown = refuses_shown request.rid HostUnknown
+
+    comes_shown : (body : List ℕ) (request : Request) → IsReadFrom body request → (kind : Kind) → request.kind ≡ kind → (o : Option PlainManager) → w.manager ≡ o
+        → ShowsStep items (comes w body request kind o)
+    comes_shown body request read (kinds.Creation creation) kind None is = admits_shown body request creation read kind is (admitted_of request.to (host_of w ∷ []))
     comes_shown body request read (kinds.Creation creation) kind (Some m) is = quietly w.client w.client w.manager items _ (record { handed = refl; inward = refl }) refl shown
     comes_shown body request read (kinds.Later sid) kind None is = unseen_is w.client w.manager items shown
     comes_shown body request read (kinds.Later sid) kind (Some m) is =
         turn_shown w.client (Some m) items [] (length w.written) (arrives m request body w.moment) nothing_first (shown_at (Some m) is)
         (arrives_passed below m (seen_inward items) (journal_made m is).made (shown_at (Some m) is).inward request body w.moment (read, (sid, kind)))
 
-    carried_shown : (body : List ℕ) (o : Option Request) → request_in body ≡ o → ShowsStep items (carried w body o)
-    carried_shown body None gives = unseen_is w.client w.manager items shown
-    carried_shown body (Some request) gives = comes_shown body request (given_read body request gives) request.kind refl w.manager refl
+    carried_shown : (rid : ℕ) (body : List ℕ) (o : Option Request) → request_in body ≡ o → ShowsStep items (carried w rid body o)
+    carried_shown rid body None gives = refuses_shown rid BadRequest
+    carried_shown rid body (Some request) gives = comes_shown body request (given_read body request gives) request.kind refl w.manager refl
 
-    carries_to_shown : (o : Option (List ℕ)) → ShowsStep items (carries_to w o)
-    carries_to_shown None = no_copy
-    carries_to_shown (Some body) = carried_shown body (request_in body) refl
+    carries_to_shown : (rid : ℕ) (o : Option (List ℕ)) → ShowsStep items (carries_to w rid o)
+    carries_to_shown rid None = no_copy
+    carries_to_shown rid (Some body) = carried_shown rid body (request_in body) refl
 
   -- an event
   step_shown : (w : PlainWorld) (h : IsSound setup w) (items : List SeenItem) → Shown w.client w.manager items → (event : WorldEvent) → IsAllowed event → ShowsStep items (step w event)
@@ -261,7 +276,7 @@ module _ (below : Below) (setup : ClientSetup) where
   step_shown w h items shown (events.Pause seconds) allowed = queue_shown w h items shown words.Pause (calls.Pause seconds) (pause w.client seconds) refl (pause_queues w.client seconds)
   step_shown w h items shown events.Stop allowed = queue_shown w h items shown words.Stop calls.Terminate (terminate w.client) refl (terminate_queues w.client)
   step_shown w h items shown events.Send allowed = send_shown w h items shown
-  step_shown w h items shown (events.Carry rid) allowed = carries_to_shown w h items shown (at_id w.sent rid)
+  step_shown w h items shown (events.Carry rid) allowed = carries_to_shown w h items shown rid (at_id w.sent rid)
   step_shown w h items shown (events.Give stanza) allowed = gives_to_shown w h items shown stanza allowed w.manager refl
   step_shown w h items shown (events.Shut closing) allowed = shuts_to_shown w h items shown closing w.manager refl
   step_shown w h items shown (events.Return number) allowed = returns_shown w h items shown number

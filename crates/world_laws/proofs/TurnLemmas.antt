@@ -1,6 +1,6 @@
 -- What comes to a manager leaves it sound, and what it then answers are answers to their ids.
 use Rattle.std.proofs.Common.{◌≡◌, ℕ, suc, ◌+◌, ◌≤◌, Bool, true, false, List, [], ◌∷◌, ◌++◌, Option, Some, None, length, map, inl, inr, refl, sym, ◌∙◌, ap, subst, arith, append-nil}
-use Rattle.std.specs.Prelude.{All}
+use Rattle.std.specs.Prelude.{All, is_some}
 use Rattle.std.proofs.lemmas.List.Elements.{All-append, All-cons, All-head, All-nil, All-tail}
 use Rattle.bosh_types.specs.declared.condition.Condition.TheVariants.{ItemNotFound, UndefinedCondition}
 use Rattle.bosh_types.specs.declared.ending.Closing.{Closing}
@@ -19,7 +19,7 @@ use Rattle.session_core.specs.Machine.{arrive, bytes_for, collect, tick}
 use Rattle.session_core.specs.State.{Issued, PlainSession, is_over}
 use Rattle.session_laws.specs.Replies.{IsToldTo}
 use Rattle.session_laws.specs.Tickets.{after_arrival}
-use Rattle.session_laws.proofs.Tests.{is_or_not, some_is}
+use Rattle.session_laws.proofs.Tests.{if_true, is_or_not, some_is}
 use Rattle.bosh_client.specs.declared.setup.ClientSetup.{ClientSetup}
 use Rattle.bosh_client.specs.PlainClient.{Taken}
 use Rattle.world_laws.specs.declared.told.Parked.{Parked}
@@ -67,11 +67,19 @@ turned_answers was_over m answer =
     ∙ answers-append answer (collected ++ ended)
     ∙ ap (λ l. answers_in answer ++ l) (answers-append collected ended ∙ ap (λ l. answers_in collected ++ l) (none_ended was_over (session (settled m)).ending) ∙ append-nil (answers_in collected))
 
+-- an ending stays
+pub still_over : (sent : List (ℕ × List ℕ)) (moment : ℕ) (j k : Journal) → Grown sent moment j k → is_over (state_of j) ≡ true → is_over (state_of k) ≡ true
+still_over sent moment j k g over = by (state_of j).ending refl over
+  where
+    by : (o : Option Ending) → (state_of j).ending ≡ o → is_some o ≡ true → is_over (state_of k) ≡ true
+    by None is over = absurd (cc)
+    by (Some ending) is over = ap is_some (g.ending ending is)
+
 -- what is an answer to its id stays one
 pub still_answers : (sent : List (ℕ × List ℕ)) (moment : ℕ) (j k : Journal) → Grown sent moment j k → (answer : ℕ × List ℕ) → IsAnswerTo (state_of j) answer → IsAnswerTo (state_of k) answer
 still_answers sent moment j k g answer is = elim is [
   | inl given ↦ inl (g.bytes answer.0 answer.1 given)
-  | inr terminal ↦ inr terminal
+  | inr word ↦ inr (word.0, word.1, still_over sent moment j k g word.2, word.3)
 ]
 
 module _ (below : Below) (sent : List (ℕ × List ℕ)) (moment : ℕ) where
@@ -210,12 +218,17 @@ module _ (below : Below) (setup : ClientSetup) (sent written : List (ℕ × List
         let told : ToArrive (arrive (session m) request body now).1 ≡ ToArrive arrivals.Over = ((below.journals m.journal h.made).over request body now allowed).1 over in
         cc
 
+    over_after : is_over (session m) ≡ true → is_over (session after) ≡ true
+    over_after over =
+        subst (λ (s : PlainSession). is_over s ≡ true) (sym (state_after below m.journal call h.made))
+        (subst (λ (r : PlainSession × Arrived). is_over r.0 ≡ true) (sym (if_true (is_over (session m)) (session m, arrivals.Over) _ over)) over)
+
     told_answers : (rid : ℕ) (bytes : List ℕ) (s : PlainSession) → IsToldTo s rid bytes → IsAnswerTo s (rid, bytes)
     told_answers rid bytes s is = elim is [
       | inl given ↦ inl given
       | inr refused ↦ elim refused.1 [
-        | inl found ↦ inr (Some ItemNotFound, found)
-        | inr limit ↦ inr (Some UndefinedCondition, limit)
+        | inl found ↦ inr (Some ItemNotFound, found, refused.0, inl refl)
+        | inr limit ↦ inr (Some UndefinedCondition, limit, refused.0, inr refl)
       ]
     ]
 
@@ -266,7 +279,7 @@ module _ (below : Below) (setup : ClientSetup) (sent written : List (ℕ × List
         turned_sound (is_over (session m)) parked [] (All-nil (IsAnswerTo (session parked))) (parked_sound ticket (waits ticket is) later)
     arrived_sound arrivals.Over is later =
         turned_sound (is_over (session m)) after (not_found request.rid ∷ [])
-        (one_answer (session after) request.rid _ (inr (Some ItemNotFound, refl))) later
+        (one_answer (session after) request.rid _ (inr (Some ItemNotFound, refl, over_after (((below.journals m.journal h.made).over request body now allowed).0 (ap ToArrive is)), inl refl))) later
 
     pub arrives_sound : Brings sent moment call → IsSoundTurn setup sent written answers moment (arrives m request body now)
     arrives_sound brings = arrived_sound (arrive (session m) request body now).1 refl (called_sound m call allowed brings h)

@@ -1,3 +1,4 @@
+pub mod Complete
 pub mod Manager
 pub mod Promises
 pub mod Setup

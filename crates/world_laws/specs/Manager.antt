@@ -1,5 +1,6 @@
 -- The manager's end: what comes to its session, and what is then seen of it.
 use Rattle.std.specs.Prelude.{ℕ, Bool, true, false, List, [], ◌∷◌, ◌++◌, map, Option, Some, None}
+use Rattle.bosh_types.specs.declared.condition.Condition.{Condition}
 use Rattle.bosh_types.specs.declared.condition.Condition.TheVariants.{ItemNotFound}
 use Rattle.bosh_types.specs.declared.ending.Closing.{Closing}
 use Rattle.bosh_types.specs.declared.ending.Ending.{Ending}
@@ -97,9 +98,13 @@ with_journal m journal = record m { journal = journal }
 abbrev pub with_parked : PlainManager → ℕ → ℕ → PlainManager
 with_parked m ticket rid = record m { parked = m.parked ++ record { ticket = ticket; rid = rid } ∷ [] }
 
+-- a request with this id is refused with this condition
+abbrev pub refusal_to : ℕ → Condition → Told
+refusal_to rid condition = tells.Answer rid (answer_text (terminal (Some condition)))
+
 -- after the ending a copy is told that there is no such session
 abbrev pub not_found : ℕ → Told
-not_found rid = tells.Answer rid (answer_text (terminal (Some ItemNotFound)))
+not_found rid = refusal_to rid ItemNotFound
 
 -- the copy of this id was replied this
 abbrev pub arrived : Bool → PlainManager → ℕ → Arrived → Turn

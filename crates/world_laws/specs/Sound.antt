@@ -1,7 +1,8 @@
 -- What every event keeps, from which both promises follow.
-use Rattle.std.specs.Prelude.{◌≡◌, ℕ, ◌<◌, ◌≤◌, ◌^◌, ◌⊎◌, All, List, [], map, Option, Some, None}
+use Rattle.std.specs.Prelude.{◌≡◌, ℕ, ◌<◌, ◌≤◌, ◌^◌, ◌⊎◌, true, All, List, [], map, Option, Some, None}
 use Rattle.bosh_types.specs.ById.{at_id}
 use Rattle.bosh_types.specs.declared.condition.Condition.{Condition}
+use Rattle.bosh_types.specs.declared.condition.Condition.TheVariants.{ItemNotFound, UndefinedCondition}
 use Rattle.body_cutter.specs.declared.parts.Span.{Span}
 use Rattle.body_writer.specs.Answer.{answer_text}
 use Rattle.session_core.specs.declared.copy.RequestCopy.{RequestCopy}
@@ -12,7 +13,7 @@ use Rattle.session_core.specs.Machine.{bytes_for}
 use Rattle.session_core.specs.declared.opening.Opening.{Opening}
 use Rattle.session_core.specs.ReadBack.{asked_by}
 use Rattle.session_core.specs.Run.{arrivals_of}
-use Rattle.session_core.specs.State.{Issued, PlainSession}
+use Rattle.session_core.specs.State.{Issued, PlainSession, is_over}
 use Rattle.session_core.specs.TicketsOut.{issued_at}
 use Rattle.bosh_client.specs.declared.setup.ClientSetup.{ClientSetup}
 use Rattle.bosh_client.specs.PlainClient.{Made, PlainClient, Taken, bytes_of, id_of}
@@ -49,10 +50,16 @@ pub record IsOpenedBy (setup : ClientSetup) (o : Opening) : Type 0 where
 abbrev pub IsSent : List (ℕ × List ℕ) → RequestCopy → Type 0
 IsSent sent copy = at_id sent (copies.id_of copy) ≡ Some copy.body
 
--- the body is what its id was given, as its one answer or as its last word; or it is a terminal body
+-- what a copy is told that finds no place in its session
+abbrev pub TellsNoPlace : Option Condition → Type 0
+TellsNoPlace condition = (condition ≡ Some ItemNotFound) ⊎ (condition ≡ Some UndefinedCondition)
+
+-- the body is what its id was given, as its one answer or as its last word; or the session is over, and it tells a copy that found
+-- no place there
 abbrev pub IsAnswerTo : PlainSession → ℕ × List ℕ → Type 0
 IsAnswerTo s answer =
-    (bytes_for s answer.0 ≡ Some answer.1) ⊎ ((condition : Option Condition) × (answer.1 ≡ answer_text (terminal condition)))
+    (bytes_for s answer.0 ≡ Some answer.1)
+    ⊎ ((condition : Option Condition) × (answer.1 ≡ answer_text (terminal condition)) × (is_over s ≡ true) × TellsNoPlace condition)
 
 -- the body of an answer that the client took, with its id
 abbrev pub body_taken : ℕ × Taken → ℕ × List ℕ

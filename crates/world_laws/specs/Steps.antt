@@ -1,11 +1,17 @@
 -- The events of a world: what each does to it, and what is seen of it.
 use Rattle.std.specs.Prelude.{ℕ, zero, suc, ◌+◌, max, List, [], ◌∷◌, ◌++◌, map, drop, length, slice_get, Option, Some, None, codes}
 use Rattle.bosh_types.specs.ById.{at_id}
+use Rattle.bosh_types.specs.declared.condition.Condition.{Condition}
+use Rattle.bosh_types.specs.declared.condition.Condition.TheVariants.{BadRequest, HostUnknown, ImproperAddressing}
 use Rattle.bosh_types.specs.declared.ending.Closing.{Closing}
+use Rattle.bosh_types.specs.declared.hosts.HostName.{HostName}
+use Rattle.session_attrs.specs.declared.admission.Admitted.{Admitted}
+use Rattle.session_attrs.specs.declared.admission.Admitted.TheVariants as admitted
 use Rattle.session_attrs.specs.declared.request.Creation.{Creation}
 use Rattle.session_attrs.specs.declared.request.Kind.{Kind}
 use Rattle.session_attrs.specs.declared.request.Kind.TheVariants as kinds
 use Rattle.session_attrs.specs.declared.request.Request.{Request}
+use Rattle.session_attrs.specs.Admission.{admitted_of}
 use Rattle.session_attrs.specs.Terms.{terms_of}
 use Rattle.session_core.specs.declared.replies.Taken.{Taken}
 use Rattle.session_core.specs.declared.replies.Taken.TheVariants as takings
@@ -31,7 +37,7 @@ use Rattle.world_laws.specs.declared.seen.Word.{Word}
 use Rattle.world_laws.specs.declared.seen.Word.TheVariants as words
 use Rattle.world_laws.specs.declared.told.Told.{Told}
 use Rattle.world_laws.specs.declared.told.Told.TheVariants as tells
-use Rattle.world_laws.specs.Manager.{PlainManager, Turn, arrives, gives, opens, passes, session, shuts}
+use Rattle.world_laws.specs.Manager.{PlainManager, Turn, arrives, gives, opens, passes, refusal_to, session, shuts}
 use Rattle.world_laws.specs.World.{PlainWorld}
 
 -- what is seen of an event, and the world after it
@@ -125,24 +131,41 @@ name = codes "s1"
 abbrev pub opening : PlainWorld → Request → List ℕ → Creation → Opening
 opening w request body creation = opening_of request body (terms_of creation) name w.host w.greeting w.moment
 
+-- a request with this id is refused: no session is touched, and the refusal is in the network like every answer
+abbrev pub refuses : PlainWorld → ℕ → Condition → Step
+refuses w rid condition = record {
+  seen = numbered (length w.written) (refusal_to rid condition ∷ []);
+  after = record w { written = w.written ++ answers_in (refusal_to rid condition ∷ []) };
+}
+
+-- the one host that the manager serves
+abbrev pub host_of : PlainWorld → HostName
+host_of w = record { name = w.host; greeting = w.greeting }
+
+-- a creation opens the session where it names that host, and is refused otherwise
+abbrev pub admits : PlainWorld → List ℕ → Request → Creation → Admitted → Step
+admits w body request creation (admitted.Host place) = turns w [] (opens (opening w request body creation))
+admits w body request creation admitted.Improper = refuses w request.rid ImproperAddressing
+admits w body request creation admitted.Unknown = refuses w request.rid HostUnknown
+
 -- a copy comes: the first creation opens the session, and changes nothing again; before it every other copy is lost
 abbrev pub comes : PlainWorld → List ℕ → Request → Kind → Option PlainManager → Step
-comes w body request (kinds.Creation creation) None = turns w [] (opens (opening w request body creation))
+comes w body request (kinds.Creation creation) None = admits w body request creation (admitted_of request.to (host_of w ∷ []))
 comes w body request (kinds.Creation creation) (Some m) = only w (seen.Dup request.rid)
 comes w body request (kinds.Later sid) None = unseen w
 comes w body request (kinds.Later sid) (Some m) = turns w [] (arrives m request body w.moment)
 
--- each copy is a request, by the laws of the client; another text would be lost
-abbrev pub carried : PlainWorld → List ℕ → Option Request → Step
-carried w body None = unseen w
-carried w body (Some request) = comes w body request request.kind w.manager
+-- a body that gives no request is refused
+abbrev pub carried : PlainWorld → ℕ → List ℕ → Option Request → Step
+carried w rid body None = refuses w rid BadRequest
+carried w rid body (Some request) = comes w body request request.kind w.manager
 
-abbrev pub carries_to : PlainWorld → Option (List ℕ) → Step
-carries_to w None = only w seen.NoCopy
-carries_to w (Some body) = carried w body (request_in body)
+abbrev pub carries_to : PlainWorld → ℕ → Option (List ℕ) → Step
+carries_to w rid None = only w seen.NoCopy
+carries_to w rid (Some body) = carried w rid body (request_in body)
 
 abbrev pub carries : PlainWorld → ℕ → Step
-carries w rid = carries_to w (at_id w.sent rid)
+carries w rid = carries_to w rid (at_id w.sent rid)
 
 abbrev pub taken_refusals : Word → Taken → List SeenItem
 taken_refusals word takings.Done = []

@@ -1,11 +1,13 @@
-ghost use Rattle.std.specs.Prelude.{All, ℕ, List};
+ghost use Rattle.std.specs.Prelude.{◌≡◌, ◌↔◌, All, ℕ, List, true};
 ghost use Rattle.bosh_client.specs.declared.setup.ClientSetup.{ClientSetup};
 ghost use Rattle.world_laws.specs.declared.event.WorldEvent.{WorldEvent};
+ghost use Rattle.world_laws.specs.Complete.{IsComplete};
 ghost use Rattle.world_laws.specs.Promises.{IsUnbroken, KeepsBothPrefixes, ShowsAll, all_seen};
 ghost use Rattle.world_laws.specs.Setup.{IsAllowed, IsWorldSetup};
 ghost use Rattle.world_laws.specs.Sound.{IsSound};
 ghost use Rattle.world_laws.specs.Steps.{after, report};
-ghost use Rattle.world_laws.specs.World.{new_world};
+ghost use Rattle.world_laws.specs.Timely.{IsTimely, is_timely};
+ghost use Rattle.world_laws.specs.World.{PlainWorld, new_world};
 
 use body_cutter::texts_are_cut_by_the_grammar;
 use bosh_client::{
@@ -31,6 +33,29 @@ pub fn every_world_keeps_both_prefixes()
     ensures unbroken { (host : List ℕ) (greeting : List (List ℕ)) (setup : ClientSetup) (events : List WorldEvent)
         → IsWorldSetup host greeting setup → All IsAllowed events
         → All (IsUnbroken (after (new_world host greeting setup) events).client) (after (new_world host greeting setup) events).written }
+{
+    every_journal_keeps_the_laws();
+    calls_make_longer_journals();
+    texts_are_cut_by_the_grammar();
+    written_requests_read_back();
+    written_answers_read_back();
+    what_is_put_is_made_once();
+    requests_have_the_form_that_reads_back();
+    requests_carry_what_they_took();
+    answers_tell_their_bodies();
+    payloads_are_handed_out_in_order();
+}
+
+/// Where no copy of a request comes after the client took its answer, nothing goes wrong by itself between the two ends,
+/// whatever else the network loses, repeats and reorders: no request is stale, beyond the window, of a wrong key, for an
+/// unknown stream, a pause too long or sent too soon, and none is refused; and the client takes each answer for one. So the
+/// session goes on until the client ends it or is silent for too long, the server closes the stream, or the journal is full.
+/// Whether events are timely is a test.
+pub fn timely_worlds_are_complete()
+    ensures complete { (host : List ℕ) (greeting : List (List ℕ)) (setup : ClientSetup) (events : List WorldEvent)
+        → IsWorldSetup host greeting setup → All IsAllowed events → IsTimely (new_world host greeting setup) events
+        → IsComplete (after (new_world host greeting setup) events) }
+    ensures test { (w : PlainWorld) (events : List WorldEvent) → (is_timely w events ≡ true) ↔ IsTimely w events }
 {
     every_journal_keeps_the_laws();
     calls_make_longer_journals();

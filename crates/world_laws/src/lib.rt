@@ -8,6 +8,6 @@ mod seen;
 mod told;
 
 pub use event::WorldEvent;
-pub use laws::every_world_keeps_both_prefixes;
+pub use laws::{every_world_keeps_both_prefixes, timely_worlds_are_complete};
 pub use seen::{Report, Seen, SeenItem, Word};
 pub use told::{Parked, Told};

@@ -16,20 +16,26 @@ pub(crate) type Given = Arc<Mutex<Vec<u8>>>;
 /// How often the bell pauses, at most.
 const PAUSES: u32 = 1000;
 
-/// A link that gives its bytes and shows what it is given. Where it comes after another one, it has nothing until that one was given
-/// something.
+/// A link that gives its bytes and shows what it is given. Where it comes after another one, it has nothing but a lead until that one was
+/// given something.
 #[derive(Drop)]
 pub(crate) struct ShownLink<R: Wait + Clock + Copy + Drop> {
     pub(crate) rt: R,
     pub(crate) source: QuietSource,
     pub(crate) given: Given,
     pub(crate) after: Option<Given>,
+    /// How many of its bytes come before.
+    pub(crate) lead: usize,
+    /// Its peer leaves once its requests were read.
+    pub(crate) is_left: bool,
     pub(crate) faults: u64,
     pub(crate) waits: u64,
+    pub(crate) leaves: u64,
 }
 
 impl<R: Wait + Clock + Copy + Drop> ShownLink<R> {
-    fn has_nothing(&self) -> bool {
+    // Whether the one that it comes after was given nothing yet.
+    fn is_early(&self) -> bool {
         match &self.after {
             Some(first) => first.lock(&self.rt).is_empty(),
             None => false,
@@ -77,14 +83,18 @@ impl<R: Wait + Clock + Copy + Drop> Polled for ShownLink<R> {
 
     ghost waits = { λ l. l.waits };
 
-    ghost leaves = { λ _. 0 };
+    ghost leaves = { λ l. l.leaves };
 
     fn poll_take(&mut self, into: &mut [u8]) -> Option<Got> {
-        if self.has_nothing() {
+        if !self.is_early() {
+            return Some(self.source.take(into));
+        }
+        if self.lead == 0 {
             self.waits = self.waits.saturating_add(1);
             return None;
         }
-        Some(self.source.take(into))
+        self.lead = self.lead.saturating_sub(1);
+        Some(self.source.take(&mut into[..1]))
     }
 
     fn poll_give(&mut self, bytes: &[u8]) -> Option<Gave> {
@@ -96,7 +106,10 @@ impl<R: Wait + Clock + Copy + Drop> Polled for ShownLink<R> {
     }
 
     fn has_left(&mut self) -> bool {
-        false
+        if self.is_left {
+            self.leaves = self.leaves.saturating_add(1);
+        }
+        self.is_left
     }
 
     fn close(&mut self) {}

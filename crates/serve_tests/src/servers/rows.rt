@@ -19,7 +19,7 @@ const CREATION: &str =
     "<body rid='1000' to='example.org' wait='60' hold='1' ver='1.6' xmlns='http://jabber.org/protocol/httpbind'/>";
 
 // A request with this content.
-fn post(alloc: Global, body: &str) -> Result<String, AllocError> {
+pub(crate) fn post(alloc: Global, body: &str) -> Result<String, AllocError> {
     let length = body.len();
     format!(in alloc;
         "POST /http-bind HTTP/1.1\r\nHost: localhost\r\nContent-Length: {length}\r\n\r\n{body}"
@@ -35,7 +35,7 @@ fn answer(alloc: Global, body: &str) -> Result<String, AllocError> {
 }
 
 // A later request of the session with this content.
-fn later(alloc: Global, rid: u64, content: &str) -> Result<String, AllocError> {
+pub(crate) fn later(alloc: Global, rid: u64, content: &str) -> Result<String, AllocError> {
     let body = format!(in alloc; "<body rid='{rid}' sid='s1' {NAMESPACE}>{content}</body>")?;
     post(alloc, body.as_str())
 }
@@ -64,8 +64,11 @@ fn link<R: Wait + Clock + Copy + Drop>(
         source: QuietSource::new(text.as_bytes().to_vec(*text.allocator())?),
         given: Arc::try_clone(given)?,
         after,
+        lead: 0,
+        is_left: false,
         faults: 0,
         waits: 0,
+        leaves: 0,
     })
 }
 
@@ -124,6 +127,26 @@ fn served<R: Wait + Threads + Clock + Copy + Send + Sync + Drop + 'static>(
     } = outside;
     spawner.into_inner().join_all(rt);
     Ok(ran?)
+}
+
+/// What a loop gives to a link over these bytes, behind which stands a back end that gives nothing.
+pub(crate) fn given_by_loop<R: Wait + Threads + Clock + Copy + Send + Sync + Drop + 'static>(
+    rt: &R,
+    alloc: Global,
+    text: &String,
+) -> Result<Vec<u8>, Fail> {
+    let given = given_nothing(alloc)?;
+    let net = ShownNetwork::new(vec![in alloc; link(rt, text, &given, None)?]?);
+    let plan = ServePlan {
+        workers: 1,
+        connections: 1,
+        ..ServePlan::USUAL
+    };
+    let end = Scripted::new(alloc, Vec::new(alloc), Vec::new(alloc));
+    let hosts = one_host(alloc, InMemory::Scripted(end))?;
+    served(rt, alloc, net, &plan, Vec::new(alloc), hosts)?;
+    let bytes = given.lock(rt).to_vec(alloc)?;
+    Ok(bytes)
 }
 
 // A request that waits is freed by the end of its session, which comes over another link, where so many loops serve both.
@@ -228,5 +251,96 @@ fn a_refused_start_ends_the_server(rt: HostRuntime) -> Result<(), Fail> {
         assert_eq!(rt; ran, Ran::SpawnFault);
         assert!(rt; given.lock(&rt).is_empty());
     }
+    Ok(())
+}
+
+/// What one is told for whom there is no room.
+const NO_ROOM: &[u8] =
+    b"HTTP/1.1 503 Service Unavailable\r\nContent-Type: text/xml; charset=utf-8\r\nContent-Length: 0\r\nConnection: close\r\n\r\n";
+
+// Serves these links by one loop, with an echo behind it, where one connection may be open and so many bytes may come in.
+fn served_narrowly<R: Wait + Threads + Clock + Copy + Send + Sync + Drop + 'static>(
+    rt: &R,
+    alloc: Global,
+    links: Vec<ShownLink<R>>,
+    incoming: u64,
+) -> Result<Ran, Fail> {
+    let net = ShownNetwork::new(links);
+    let plan = ServePlan {
+        workers: 1,
+        open: Some(1),
+        incoming,
+        ..ServePlan::USUAL
+    };
+    let hosts = one_host(alloc, InMemory::Echo(Echo::new(alloc)))?;
+    served(rt, alloc, net, &plan, Vec::new(alloc), hosts)
+}
+
+#[test]
+fn one_connection_too_many_is_told_so(rt: HostRuntime) -> Result<(), Fail> {
+    let alloc = rt.alloc();
+    let (one, two) = (given_nothing(alloc)?, given_nothing(alloc)?);
+    let after = Some(Arc::try_clone(&two)?);
+    let mut first = link(&rt, &post(alloc, CREATION)?, &one, after)?;
+    first.lead = 1;
+    let mut links = Vec::new(alloc);
+    links.push(first)?;
+    links.push(link(&rt, &post(alloc, CREATION)?, &two, None)?)?;
+    let ran = served_narrowly(&rt, alloc, links, 1_048_576)?;
+    assert_eq!(rt; ran, Ran::Done { connections: 2 });
+    assert!(rt; one.lock(&rt).starts_with(b"HTTP/1.1 200 OK"));
+    assert_eq!(rt; two.lock(&rt).as_slice(), NO_ROOM);
+    Ok(())
+}
+
+#[test]
+fn an_idle_connection_gives_its_place(rt: HostRuntime) -> Result<(), Fail> {
+    let alloc = rt.alloc();
+    let (one, two) = (given_nothing(alloc)?, given_nothing(alloc)?);
+    let after = Some(Arc::try_clone(&two)?);
+    let mut links = Vec::new(alloc);
+    links.push(link(&rt, &two_requests(alloc, "")?, &one, after)?)?;
+    links.push(link(&rt, &two_requests(alloc, "<a/>")?, &two, None)?)?;
+    let ran = served_narrowly(&rt, alloc, links, 1_048_576)?;
+    assert_eq!(rt; ran, Ran::Done { connections: 2 });
+    assert!(rt; one.lock(&rt).is_empty());
+    assert!(rt; two.lock(&rt).starts_with(b"HTTP/1.1 200 OK"));
+    Ok(())
+}
+
+#[test]
+fn a_content_that_is_too_much_is_given_up(rt: HostRuntime) -> Result<(), Fail> {
+    let alloc = rt.alloc();
+    let spaces = " ".repeat(alloc, 200_000)?;
+    let content = format!(in alloc; "<a>{spaces}</a>")?;
+    let given = given_nothing(alloc)?;
+    let mut links = Vec::new(alloc);
+    let request = later(alloc, 1001, content.as_str())?;
+    links.push(link(&rt, &request, &given, None)?)?;
+    let ran = served_narrowly(&rt, alloc, links, 100_000)?;
+    assert_eq!(rt; ran, Ran::Done { connections: 1 });
+    assert_eq!(rt; given.lock(&rt).as_slice(), NO_ROOM);
+    Ok(())
+}
+
+#[test]
+fn a_connection_ends_whose_peer_left_while_it_waits(rt: HostRuntime) -> Result<(), Fail> {
+    let alloc = rt.alloc();
+    let given = given_nothing(alloc)?;
+    let mut only = link(&rt, &two_requests(alloc, "")?, &given, None)?;
+    only.is_left = true;
+    let net = ShownNetwork::new(vec![in alloc; only]?);
+    let plan = ServePlan {
+        workers: 1,
+        connections: 1,
+        ..ServePlan::USUAL
+    };
+    let end = Scripted::new(alloc, Vec::new(alloc), Vec::new(alloc));
+    let hosts = one_host(alloc, InMemory::Scripted(end))?;
+    let ran = served(&rt, alloc, net, &plan, Vec::new(alloc), hosts)?;
+    assert_eq!(rt; ran, Ran::Done { connections: 1 });
+    let answers = given.lock(&rt);
+    assert!(rt; answers.starts_with(b"HTTP/1.1 200 OK"));
+    assert!(rt; answers.ends_with(b"<stream:features/></body>"));
     Ok(())
 }

@@ -1,6 +1,7 @@
 // Turns for some sessions alone.
 use super::{
-    EMPTY, LAST, Scene, arrive, arrive_for, holds, host, many, open, set_up, turn, waiting,
+    EMPTY, LAST, NEXT, STANZA, Scene, arrive, arrive_for, holds, host, many, open, set_up, turn,
+    waiting,
 };
 use bosh_ports::SteadyBell;
 use bosh_types::Moment;
@@ -15,8 +16,18 @@ const ENDS: &[u8] =
 
 /// A turn of the pump for these sessions at its first moment.
 fn turn_for<R: Wait>(rt: &R, scene: &mut Scene, numbers: &[u64]) -> Result<(), AllocError> {
+    turn_for_at(rt, scene, numbers, 0)
+}
+
+/// The same at this moment.
+fn turn_for_at<R: Wait>(
+    rt: &R,
+    scene: &mut Scene,
+    numbers: &[u64],
+    at: u64,
+) -> Result<(), AllocError> {
     let clock = StillClock {
-        moment: Moment::from_millis(0),
+        moment: Moment::from_millis(at),
     };
     let mut bell = SteadyBell;
     scene
@@ -103,9 +114,37 @@ fn the_first_due_moment_is_that_of_the_sessions_that_are_noted(
     for (body, wanted) in rows {
         arrive(&rt, &mut scene, body, 0)?;
         turn_for(&rt, &mut scene, &[1])?;
-        scene.pump.note_for(&rt, &[1])?;
-        let due = scene.pump.first_due().map(|moment| moment.millis());
-        assert_eq!(rt; due, wanted);
+        assert_eq!(rt; first_due(&scene), wanted);
+    }
+    Ok(())
+}
+
+/// The first moment that is noted, in milliseconds.
+fn first_due(scene: &Scene) -> Option<u64> {
+    scene.pump.first_due().map(|moment| moment.millis())
+}
+
+// Time passes for a session that is served, and doesn't for one that is left alone: what comes after that with an earlier moment counts
+// from there.
+#[test]
+fn a_session_with_nothing_to_do_is_left_alone(rt: HostRuntime) -> Result<(), Fail> {
+    let alloc = rt.alloc();
+    let rows: [(Option<&[u8]>, &[u8], u64); 2] = [
+        (None, EMPTY, 60_050),
+        (Some(STANZA), NEXT, 60_100),
+    ];
+    for (first, next, wanted) in rows {
+        let host = host(alloc, InMemory::Echo(Echo::new(alloc)), Vec::new(alloc))?;
+        let mut scene = set_up(&rt, alloc, host)?;
+        open(&rt, &mut scene)?;
+        turn_for(&rt, &mut scene, &[1])?;
+        if let Some(body) = first {
+            arrive(&rt, &mut scene, body, 0)?;
+        }
+        turn_for_at(&rt, &mut scene, &[1], 100)?;
+        arrive(&rt, &mut scene, next, 50)?;
+        turn_for_at(&rt, &mut scene, &[1], 50)?;
+        assert_eq!(rt; first_due(&scene), Some(wanted));
     }
     Ok(())
 }

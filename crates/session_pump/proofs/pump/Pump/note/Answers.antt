@@ -1,6 +1,7 @@
 use Rattle.std.proofs.Common.{rules}
 use Rattle.session_pump.specs.Dues.{asked, not_held}
 use Rattle.session_pump.proofs.DueLemmas.{cleared_else, noted_none, noted_so}
+use Rattle.session_pump.proofs.LeavingLemmas.{due_so}
 use Rattle.session_pump.proofs.pump.Pump.note.Goals as goal
 
 pub returns-then-is_none-clause-noted : goal.returns-then-is_none-clause-noted
@@ -13,7 +14,7 @@ pub returns-then-is_none-clause-asked : goal.returns-then-is_none-clause-asked
 returns-then-is_none-clause-asked g c = not_held (search rules)
 
 pub returns-clause-noted : goal.returns-clause-noted
-returns-clause-noted g c = noted_so _ _ _ _ _ _ c.due-due.ensures.looked c.put_due.ensures.put
+returns-clause-noted g c = noted_so _ _ _ _ _ _ (due_so _ _ _ _ c.state-state.ensures.looked) c.put_due.ensures.put
 
 pub returns-clause-asked : goal.returns-clause-asked
-returns-clause-asked g c = asked _ c.due-due.ensures.looked c.due-due.ensures.others
+returns-clause-asked g c = asked _ (due_so _ _ _ _ c.state-state.ensures.looked) c.state-state.ensures.others

@@ -13,4 +13,4 @@ returns-in_err-call-clause-removes g c =
 pub returns-clause-removes : goal.returns-clause-removes
 returns-clause-removes g c =
     removes_so _ _ c.from_vec-sid.result _ _ _ _ _ _ _ _ _ (search rules) (ap known c.let_go.ensures.directory) c.in_ok-call.ensures.called
-    c.forget_line.ensures.gone c.forget_line.ensures.others c.let_go.ensures.gone c.let_go.ensures.others
+    c.forget_line.ensures.gone c.forget_line.ensures.others c.let_go.ensures.gone c.let_go.ensures.others c.forget_due.ensures

@@ -37,4 +37,5 @@ returns c =
           run_shows w c.args.events.items _ (c.from_vec.ensures ∙ (done w is).0)
           (c.every_world_keeps_both_prefixes.ensures.shown host greeting setup c.args.events.items begins c.requires)
           (c.every_world_keeps_both_prefixes.ensures.prefixes host greeting setup c.args.events.items begins c.requires);
+      complete = λ host greeting setup begins is timely. c.timely_worlds_are_complete.ensures.complete host greeting setup c.args.events.items begins c.requires timely;
     }
