@@ -12,7 +12,7 @@ use front_net::{FrontNetwork, room_for_links};
 use serve_trace::{TracedBackend, TracedNetwork};
 use server_ports::{Names, Network, RealClock, RealNames, Spawner, ThreadSpawner, system_seed};
 use session_pump::Host;
-use std::alloc::{AllocError, Global};
+use std::alloc::{Alloc, AllocError, Global};
 use std::io::{Eprint, Read};
 use std::net::{Net, TcpListener, TcpStream};
 use std::os::fd::AsRawFd;
@@ -45,6 +45,7 @@ where
         + Files
         + Clock
         + Eprint
+        + Alloc
         + Net<Listener = TcpListener, Stream = TcpStream>
         + Copy
         + Send
@@ -104,6 +105,7 @@ where
         + Files
         + Clock
         + Eprint
+        + Alloc
         + Net<Listener = TcpListener, Stream = TcpStream>
         + Copy
         + Send
