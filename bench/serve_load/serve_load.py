@@ -2,7 +2,7 @@
 """What `serve` costs a message: wall clock and the server's processor time, with 1, 10 and 30 busy sessions, with 60 parked ones beside
 one that is busy, and where nothing happens. Each message is a request that waits until the echo of its stanza comes back.
 
-Usage: serve_load.py PROGRAM [MESSAGES]
+Usage: serve_load.py PROGRAM [MESSAGES [WORDS..]]       WORDS: more words for `serve`, as --trace DIR
 """
 import os
 import re
@@ -89,8 +89,8 @@ def measure(pid, name, sessions, messages):
     print(f"{name}: {count} messages, {1e6 * wall / count:.0f} us of wall clock and {1e6 * busy / count:.0f} us of the server's processor time each")
 
 
-def main(program, messages):
-    server = subprocess.Popen([program, "serve", "--port", str(PORT), "--workers", "8"], stdout=subprocess.PIPE)
+def main(program, messages, *words):
+    server = subprocess.Popen([program, "serve", "--port", str(PORT), "--workers", "8", *words], stdout=subprocess.PIPE)
     try:
         server.stdout.readline()
         for count in (1, 10, 30):
@@ -111,4 +111,4 @@ def main(program, messages):
 
 
 if __name__ == "__main__":
-    main(sys.argv[1], int(sys.argv[2]) if len(sys.argv) > 2 else 6000)
+    main(sys.argv[1], int(sys.argv[2]) if len(sys.argv) > 2 else 6000, *sys.argv[3:])

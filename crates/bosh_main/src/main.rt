@@ -3,6 +3,7 @@
 
 mod serving;
 mod streams;
+mod tracing;
 mod typed;
 
 use crate::serving::serve_for_real;

@@ -1,6 +1,7 @@
 // The command `serve` over the real network, with the real clock, bell, threads and names.
 
 use crate::streams::{start_teller, stream_end};
+use crate::tracing::{queue_of, start_tracing_to, traced_hosts};
 use bosh_commands::{NET_FAULT, NO_MEMORY, ServeOptions, options_to_serve, run_serve_command};
 use bosh_ports::{Bell, Polled, QuietSource, RealBell, Sink, give_all};
 use bosh_server::Outside;
@@ -8,9 +9,10 @@ use bosh_types::{Stanzas, Text};
 use client_run::Ready;
 use connection_loops::{Pollers, ReadyPollers};
 use front_net::{FrontNetwork, room_for_links};
+use serve_trace::{TracedBackend, TracedNetwork};
 use server_ports::{Names, Network, RealClock, RealNames, Spawner, ThreadSpawner, system_seed};
 use session_pump::Host;
-use std::alloc::{AllocError, Global};
+use std::alloc::{Alloc, AllocError, Global};
 use std::io::{Eprint, Read};
 use std::net::{Net, TcpListener, TcpStream};
 use std::os::fd::AsRawFd;
@@ -43,11 +45,14 @@ where
         + Files
         + Clock
         + Eprint
+        + Alloc
         + Net<Listener = TcpListener, Stream = TcpStream>
         + Copy
         + Send
         + Drop
         + 'static,
+    R::File: Send,
+    R::Dir: Send,
     I: Read + Send + Drop + 'static,
     K: Sink,
     E: Sink,
@@ -100,11 +105,14 @@ where
         + Files
         + Clock
         + Eprint
+        + Alloc
         + Net<Listener = TcpListener, Stream = TcpStream>
         + Copy
         + Send
         + Drop
         + 'static,
+    R::File: Send,
+    R::Dir: Send,
     I: Ready,
     K: Sink,
     E: Sink,
@@ -117,7 +125,9 @@ where
     let bell = RealBell::new(alloc, *rt)?;
     let mut hosts = Vec::new(alloc);
     let mut teller = None;
+    let mut directory = None;
     if let Some(options) = options {
+        directory = options.trace;
         let site = &options.site;
         if site.has_test_hosts {
             let end = InMemory::Echo(Echo::new(alloc));
@@ -137,8 +147,10 @@ where
         }
         teller = Some(start_teller(rt, desks, bell.share()?)?);
     }
+    let tracing = start_tracing_to(rt, alloc, &directory, hosts.as_slice())?;
+    let hosts = traced_hosts(*rt, alloc, &tracing, hosts)?;
     let mut outside = Outside {
-        net,
+        net: TracedNetwork::new(*rt, alloc, net, queue_of(&tracing)?),
         room: room_for_links(rt),
         clock: RealClock::new(*rt),
         bell,
@@ -160,6 +172,9 @@ where
     if let Some(teller) = teller {
         teller.end(rt);
     }
+    if let Some(tracing) = tracing {
+        tracing.end(rt);
+    }
     Ok(status)
 }
 
@@ -173,7 +188,7 @@ fn serve_hosts<R, I, K, E, N, C, B, S, M, Q, A, D, W, T>(
     sink: &mut K,
     errors: &mut E,
     outside: &mut Outside<N, C, B, S, M, Q>,
-    hosts: Vec<Host<Either<A, StreamBackend<D, W, T>>>>,
+    hosts: Vec<Host<TracedBackend<R, Either<A, StreamBackend<D, W, T>>>>>,
 ) -> u8
 where
     R: Wait + Threads + Copy + Send + Drop + 'static,
