@@ -62,7 +62,7 @@ impl<L: Polled + Drop, B: Bell + Drop, M: Names + Drop> Served<L, B, M> {
     /// Whether its peer has left while its request waits, for which there is nothing yet: it has ended by that. The opening number of the
     /// session that holds the request.
     pub(crate) fn is_left(&mut self) -> Option<u64>
-        ensures waits { IfSome result (λ number. wanted_by self.now.connection.standing.stage ≡ Wants.Answer number) }
+        ensures waits { IfSome result (λ number. wanted_by self.old.connection.standing.stage ≡ Wants.Answer number) }
         ensures said { IfSome result (λ _. HasRisen (L.leaves self.old.link) (L.leaves self.new.link)) }
         ensures ends { IfSome result (λ _. self.new.is_left ≡ true) }
         ensures stays { IfNone result (self.new.is_left ≡ self.old.is_left) }

@@ -2,7 +2,6 @@
 use denote.RattleType.{RattleType}
 use denote.Param.Send.{IsSend, IsSync, sendable}
 use Rattle.std.proofs.Crossing as heap
-use Rattle.xmpp_backend.specs.declared.backend.Backend as backends
 use Rattle.serve_trace.specs.contracts.queue.TraceQueue as Queue
 use Rattle.serve_trace.specs.contracts.tap.Tap as Tap
 use Rattle.serve_trace.specs.contracts.traced_link.TracedLink as Link
@@ -24,5 +23,5 @@ pub link : (R L : RattleType) → IsSend R → IsSend L → IsSend (Link.the_row
 link R L runtime own = search (tap, queue_send, queue_sync, crosses) depth 200 fits 100000
 
 -- a back end that may cross
-pub end_ : (R E : RattleType) (b : backends.Ghosts E.Denot) → IsSend R → IsSend E → IsSend (End.the_row R E b)
-end_ R E b runtime own = search (queue_send, queue_sync, crosses) depth 200 fits 100000
+pub end_ : (R E : RattleType) → IsSend R → IsSend E → IsSend (End.the_row R E)
+end_ R E runtime own = search (queue_send, queue_sync, crosses) depth 200 fits 100000
