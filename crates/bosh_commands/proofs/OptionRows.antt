@@ -26,24 +26,24 @@ no_option : fault_of serve_app (codes "serve" ∷ codes "--host" ∷ codes "h" �
 unfolding clap_on_literals
 no_option = refl
 
-usual : options_in (codes "serve" ∷ codes "--port" ∷ codes "5280" ∷ []) ≡ Some (record { port = 5280; until_eof = false; plan = record { workers = 8; connections = 0; limits = record { live = 256; openings = 1048576; journal = 16777216 }; open = None; incoming = 67108864 }; site = usual_site 5222; trace = None })
+usual : options_in (codes "serve" ∷ codes "--port" ∷ codes "5280" ∷ []) ≡ Some (record { port = 5280; until_eof = false; plan = record { workers = 8; connections = 0; limits = record { live = 256; openings = 1048576; journal = 16777216 }; «open» = None; incoming = 67108864 }; site = usual_site 5222; trace = None })
 unfolding clap_on_literals options_in
 usual = refl
 
-all_named : options_in (codes "serve" ∷ codes "--connections=2" ∷ codes "--port=1" ∷ codes "--workers" ∷ codes "64" ∷ []) ≡ Some (record { port = 1; until_eof = false; plan = record { workers = 64; connections = 2; limits = record { live = 256; openings = 1048576; journal = 16777216 }; open = None; incoming = 67108864 }; site = usual_site 5222; trace = None })
+all_named : options_in (codes "serve" ∷ codes "--connections=2" ∷ codes "--port=1" ∷ codes "--workers" ∷ codes "64" ∷ []) ≡ Some (record { port = 1; until_eof = false; plan = record { workers = 64; connections = 2; limits = record { live = 256; openings = 1048576; journal = 16777216 }; «open» = None; incoming = 67108864 }; site = usual_site 5222; trace = None })
 unfolding clap_on_literals options_in
 all_named = refl
 
-limit_named : options_in (codes "serve" ∷ codes "--port=1" ∷ codes "--journal-limit" ∷ codes "65536" ∷ []) ≡ Some (record { port = 1; until_eof = false; plan = record { workers = 8; connections = 0; limits = record { live = 256; openings = 1048576; journal = 65536 }; open = None; incoming = 67108864 }; site = usual_site 5222; trace = None })
+limit_named : options_in (codes "serve" ∷ codes "--port=1" ∷ codes "--journal-limit" ∷ codes "65536" ∷ []) ≡ Some (record { port = 1; until_eof = false; plan = record { workers = 8; connections = 0; limits = record { live = 256; openings = 1048576; journal = 65536 }; «open» = None; incoming = 67108864 }; site = usual_site 5222; trace = None })
 unfolding clap_on_literals options_in
 limit_named = refl
 
-with_input : options_in (codes "serve" ∷ codes "--until-eof" ∷ codes "--port=1" ∷ []) ≡ Some (record { port = 1; until_eof = true; plan = record { workers = 8; connections = 0; limits = record { live = 256; openings = 1048576; journal = 16777216 }; open = None; incoming = 67108864 }; site = usual_site 5222; trace = None })
+with_input : options_in (codes "serve" ∷ codes "--until-eof" ∷ codes "--port=1" ∷ []) ≡ Some (record { port = 1; until_eof = true; plan = record { workers = 8; connections = 0; limits = record { live = 256; openings = 1048576; journal = 16777216 }; «open» = None; incoming = 67108864 }; site = usual_site 5222; trace = None })
 unfolding clap_on_literals options_in
 with_input = refl
 
 limits_named : options_in (codes "serve" ∷ codes "--port=1" ∷ codes "--sessions=65536" ∷ codes "--openings=4294967295" ∷ codes "--open=1" ∷ codes "--incoming=1048576" ∷ codes "--trace=t" ∷ [])
-    ≡ Some (record { port = 1; until_eof = false; plan = record { workers = 8; connections = 0; limits = record { live = 65536; openings = 4294967295; journal = 16777216 }; open = Some 1; incoming = 1048576 }; site = usual_site 5222; trace = Some (codes "t") })
+    ≡ Some (record { port = 1; until_eof = false; plan = record { workers = 8; connections = 0; limits = record { live = 65536; openings = 4294967295; journal = 16777216 }; «open» = Some 1; incoming = 1048576 }; site = usual_site 5222; trace = Some (codes "t") })
 unfolding clap_on_literals options_in
 limits_named = refl
 

@@ -100,13 +100,13 @@ open_in None = Some None
 open_in (Some text) = option_map Some (number_in 1 1048576 (Some text))
 
 abbrev pub plan_from : Option ℕ → Option ℕ → Option Limits → Option (Option ℕ) → Option ℕ → Option ServePlan
-plan_from (Some workers) (Some connections) (Some limits) (Some open) (Some incoming) =
-    Some (record { workers = workers; connections = connections; limits = limits; open = open; incoming = incoming })
-plan_from (Some workers) (Some connections) (Some limits) (Some open) None = None
+plan_from (Some workers) (Some connections) (Some limits) (Some most) (Some incoming) =
+    Some (record { workers = workers; connections = connections; limits = limits; «open» = most; incoming = incoming })
+plan_from (Some workers) (Some connections) (Some limits) (Some most) None = None
 plan_from (Some workers) (Some connections) (Some limits) None incoming = None
-plan_from (Some workers) (Some connections) None open incoming = None
-plan_from (Some workers) None limits open incoming = None
-plan_from None connections limits open incoming = None
+plan_from (Some workers) (Some connections) None most incoming = None
+plan_from (Some workers) None limits most incoming = None
+plan_from None connections limits most incoming = None
 
 -- what the texts of these options say: 1 to 64 workers, up to 1,048,576 connections, the limits of sessions and of open connections, and
 -- 1,048,576 to 1,099,511,627,776 bytes that come in

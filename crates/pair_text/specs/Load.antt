@@ -1,5 +1,5 @@
 -- The run that a number makes, and the line that tells of it.
-use Rattle.std.specs.Prelude.{ℕ, zero, suc, ◌+◌, ◌/◌, ◌%◌, ◌≡◌, ◌==◌, nat_lt, true, replicate, List, [], ◌∷◌, ◌++◌, All, Option, None, Some, is_some, length, codes, if◌then◌else◌}
+use Rattle.std.specs.Prelude.{ℕ, zero, suc, ◌+◌, ◌/◌, ◌%◌, ◌≡◌, ◌==◌, nat_lt, true, replicate, List, [], ◌∷◌, ◌++◌, All, Option, None, Some, IfSome, is_some, length, codes, if◌then◌else◌}
 use Rattle.std.specs.Fmt.{decimal}
 use Rattle.std.specs.Int.{w64, to_le_bytes}
 use Rattle.std.specs.Io.KnownBytes.{Appends}
@@ -11,6 +11,7 @@ use Rattle.two_ends.specs.Asked.{ending_in, greatest_open, last_answer, lowest_o
 use Rattle.two_ends.specs.Summed.{counted}
 use Rattle.world_laws.specs.declared.event.WorldEvent.{WorldEvent}
 use Rattle.world_laws.specs.declared.event.WorldEvent.TheVariants.{At, Put, Send, Carry, Give, Return}
+use Rattle.world_laws.specs.Complete.{IsComplete, IsLeft}
 use Rattle.world_laws.specs.Promises.{KeepsBothPrefixes}
 use Rattle.world_laws.specs.Steps.{step}
 use Rattle.world_laws.specs.Sums.{sums_of}
@@ -148,8 +149,14 @@ told_of number load = record {
 abbrev pub load_text : ℕ → List ℕ
 load_text number = line_of (told_of number (load_of number))
 
+-- the session of a load goes on, or its client was silent for too long, or its journal is full, or one of the two ends ended it
+abbrev pub IsOverWell : Option Ending → Type 0
+IsOverWell ending = IfSome ending IsLeft
+
 -- the sink was given the line of this number's run and nothing else, in whose world each end has a beginning of what was sent at
--- the other
+-- the other, and nothing went wrong by itself between them: so the line says `over none`, or one of the endings that are left
 pub record GivesItsLoad (number : ℕ) (old new : Option (List ℕ)) : Type 0 where
   pub given : Appends old new (load_text number)
   pub prefixes : KeepsBothPrefixes (load_of number).world
+  pub complete : IsComplete (load_of number).world
+  pub over : IsOverWell (told_of number (load_of number)).ending

@@ -20,7 +20,7 @@ use rand_core::SeedableRng;
 use rand_core::utils::NextWord;
 use script_text::{DriveError, push_number};
 use std::alloc::{AllocError, Global};
-use two_ends::{World, WorldEvent, every_world_keeps_both_prefixes};
+use two_ends::{World, WorldEvent, every_world_keeps_both_prefixes, timely_worlds_are_complete};
 
 const TURNS: u32 = 2000;
 
@@ -36,8 +36,8 @@ pub struct Load {
     pub(crate) gives: u64,
 }
 
-/// Makes the run of this number, in which no copy comes after its answer was taken, and gives the line that tells of it. After
-/// an error what was given stays given.
+/// Makes the run of this number, in which no copy comes after its answer was taken, and gives the line that tells of it: `over
+/// none`, or one of the endings that such a run may have. After an error what was given stays given.
 pub fn run_load<K: Sink>(alloc: Global, number: u64, sink: &mut K) -> Result<(), DriveError>
     // What was given is the line of this number's run and nothing else; after an error it is a front of it.
     ensures given { OnOk result (GivesItsLoad number (K.given sink.old) (K.given sink.new)) }
@@ -51,6 +51,7 @@ pub fn run_load<K: Sink>(alloc: Global, number: u64, sink: &mut K) -> Result<(),
     ensures faults { K.faults sink.old ≤ K.faults sink.new }
 {
     every_world_keeps_both_prefixes();
+    timely_worlds_are_complete();
     texts_are_cut_by_the_grammar();
     let line = line_of(alloc, number)?;
     let text = print_load_line(alloc, &line)?;
