@@ -40,14 +40,14 @@ port_rule = record (optional_rule (codes "port")) { required = true }
 abbrev pub xmpp_rule : Rule
 xmpp_rule = record (optional_rule (codes "xmpp")) { action = Some Append }
 
--- the rules of how a server runs
-abbrev pub counts_app : App
-counts_app = with_rule (with_rule (with_rule (with_version (new_app (codes "serve"))) port_rule) (usual_rule (codes "workers") (codes "8"))) (usual_rule (codes "connections") (codes "0"))
+-- the rules of where a server listens, by how many threads, and how long
+abbrev pub with_counts : App → App
+with_counts app = with_rule (with_rule (with_rule app port_rule) (usual_rule (codes "workers") (codes "8"))) (usual_rule (codes "connections") (codes "0"))
 
 -- of how much it takes
-abbrev pub limits_app : App
-limits_app =
-    with_rule (with_rule (with_rule (with_rule (with_rule counts_app
+abbrev pub with_limits : App → App
+with_limits app =
+    with_rule (with_rule (with_rule (with_rule (with_rule app
     (usual_rule (codes "sessions") (codes "256")))
     (usual_rule (codes "openings") (codes "1048576")))
     (optional_rule (codes "open")))
@@ -55,14 +55,17 @@ limits_app =
     (usual_rule (codes "journal-limit") (codes "16777216"))
 
 -- and of when it ends, which hosts it has, and where it writes traces
-abbrev pub serve_app : App
-serve_app =
-    with_rule (with_rule (with_rule (with_rule (with_rule limits_app
+abbrev pub with_site : App → App
+with_site app =
+    with_rule (with_rule (with_rule (with_rule (with_rule app
     (switch_rule (codes "until-eof")))
     xmpp_rule)
     (usual_rule (codes "xmpp-port") (codes "5222")))
     (switch_rule (codes "test-hosts")))
     (optional_rule (codes "trace"))
+
+abbrev pub serve_app : App
+serve_app = with_site (with_limits (with_counts (with_version (new_app (codes "serve")))))
 
 -- the number that a text writes in plain decimal, without a sign or a leading zero
 abbrev pub plain_number : Text → Option ℕ

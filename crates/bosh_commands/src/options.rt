@@ -1,7 +1,7 @@
 // The words of the command `serve`.
 ghost use Rattle.std.specs.Prelude.{◌≡◌, ◌≢◌, ◌≤◌, ◌⊎◌, ℕ, true, false, IfOk, IfSome, None, codes, map, option_map, string_bytes};
 ghost use Rattle.clap.specs.Words.{app_of, first_value, found_of, kind_of, matched_of, raw_values, rule_of};
-ghost use Rattle.bosh_commands.specs.Options.{ShowsWhatIsAsked, flag_in, is_shown, limits_from, limits_of, number_in, open_in, optional_rule, options_from, options_in, options_of, options_wanted, plain_number, plan_from, plan_of, serve_app, serve_faults, site_in, switch_rule, usual_rule};
+ghost use Rattle.bosh_commands.specs.Options.{ShowsWhatIsAsked, flag_in, is_shown, limits_from, limits_of, number_in, open_in, optional_rule, options_from, options_in, options_of, options_wanted, plain_number, plan_from, plan_of, serve_app, serve_faults, site_in, switch_rule, usual_rule, with_counts, with_limits, with_site};
 
 use crate::site::{Site, site_of};
 use bosh_server::ServePlan;
@@ -55,13 +55,7 @@ const LEAST_JOURNAL: u64 = 65_536;
 const GREATEST_JOURNAL: u64 = 1_099_511_627_776;
 
 // An option that takes a value, and has this one where none is given.
-fn usual<'a>(
-    alloc: Global,
-    name: &'a str,
-    value: &'a str,
-    usual: &'a str,
-    help: &'a str,
-) -> Arg<'a>
+fn usual<'a>(alloc: Global, name: &'a str, value: &'a str, usual: &'a str, help: &'a str) -> Arg<'a>
     ensures rule { rule_of result ≡ usual_rule name.now usual.now }
     ensures local { result.global ≡ false }
 {
@@ -94,8 +88,9 @@ fn switch<'a>(alloc: Global, name: &'a str, help: &'a str) -> Arg<'a>
         .action(ArgAction::SetTrue)
 }
 
-fn serve_command<'a>(alloc: Global) -> Result<Command<'a>, AllocError>
-    ensures { IfOk result (λ command. app_of command ≡ serve_app) }
+// Where it listens, by how many threads, and how long.
+fn with_counts<'a>(alloc: Global, command: Command<'a>) -> Result<Command<'a>, AllocError>
+    ensures { IfOk result (λ made. app_of made ≡ with_counts (app_of command.entry)) }
 {
     let port = optional(
         alloc,
@@ -118,6 +113,13 @@ fn serve_command<'a>(alloc: Global) -> Result<Command<'a>, AllocError>
         "0",
         "After how many connections to end, up to 1048576; 0 is without end",
     );
+    command.arg(port)?.arg(workers)?.arg(connections)
+}
+
+// How much it takes.
+fn with_limits<'a>(alloc: Global, command: Command<'a>) -> Result<Command<'a>, AllocError>
+    ensures { IfOk result (λ made. app_of made ≡ with_limits (app_of command.entry)) }
+{
     let sessions = usual(
         alloc,
         "sessions",
@@ -132,7 +134,7 @@ fn serve_command<'a>(alloc: Global) -> Result<Command<'a>, AllocError>
         "1048576",
         "How many sessions may be opened since the start, from 1 to 4294967295",
     );
-    let open = optional(
+    let most = optional(
         alloc,
         "open",
         "CONNECTIONS",
@@ -152,6 +154,18 @@ fn serve_command<'a>(alloc: Global) -> Result<Command<'a>, AllocError>
         "16777216",
         "How many counted bytes the journal of a session may have, from 65536 to 1099511627776: the request that would pass it ends the session",
     );
+    command
+        .arg(sessions)?
+        .arg(openings)?
+        .arg(most)?
+        .arg(incoming)?
+        .arg(journal_limit)
+}
+
+// When it ends, which hosts it has, and where it writes traces.
+fn with_site<'a>(alloc: Global, command: Command<'a>) -> Result<Command<'a>, AllocError>
+    ensures { IfOk result (λ made. app_of made ≡ with_site (app_of command.entry)) }
+{
     let until_eof = switch(
         alloc,
         "until-eof",
@@ -182,24 +196,25 @@ fn serve_command<'a>(alloc: Global) -> Result<Command<'a>, AllocError>
         "DIR",
         "Write what is seen of each session to a file in this directory, which audit judges",
     );
-    Command::new(alloc, "serve")
-        .about(
-            "Serves XMPP over BOSH at http://127.0.0.1:PORT/http-bind, for a server of XMPP behind it",
-        )
-        .version(VERSION)
-        .arg(port)?
-        .arg(workers)?
-        .arg(connections)?
-        .arg(sessions)?
-        .arg(openings)?
-        .arg(open)?
-        .arg(incoming)?
-        .arg(journal_limit)?
+    command
         .arg(until_eof)?
         .arg(xmpp)?
         .arg(xmpp_port)?
         .arg(test_hosts)?
         .arg(trace)
+}
+
+fn serve_command<'a>(alloc: Global) -> Result<Command<'a>, AllocError>
+    ensures { IfOk result (λ command. app_of command ≡ serve_app) }
+{
+    let bare = Command::new(alloc, "serve")
+        .about(
+            "Serves XMPP over BOSH at http://127.0.0.1:PORT/http-bind, for a server of XMPP behind it",
+        )
+        .version(VERSION);
+    let counted = with_counts(alloc, bare)?;
+    let limited = with_limits(alloc, counted)?;
+    with_site(alloc, limited)
 }
 
 /// Reads the words, of which the first is the command's. The only error is want of memory.
@@ -257,13 +272,13 @@ fn plan(matches: &ArgMatches<'_>) -> Option<ServePlan>
     let workers = number(matches.get_str("workers"), 1, WORKERS);
     let connections = number(matches.get_str("connections"), 0, CONNECTIONS);
     let limits = limits(matches);
-    let open = open_in(matches.get_str("open"));
+    let most = open_in(matches.get_str("open"));
     let incoming = wide_number(
         matches.get_str("incoming"),
         LEAST_INCOMING,
         GREATEST_INCOMING,
     );
-    plan_from(workers, connections, limits, open, incoming)
+    plan_from(workers, connections, limits, most, incoming)
 }
 
 fn limits(matches: &ArgMatches<'_>) -> Option<Limits>
@@ -296,21 +311,21 @@ fn plan_from(
     workers: Option<u32>,
     connections: Option<u32>,
     limits: Option<Limits>,
-    open: Option<Option<u32>>,
+    most: Option<Option<u32>>,
     incoming: Option<u64>,
 ) -> Option<ServePlan>
-    ensures { result ≡ plan_from workers connections limits open incoming }
+    ensures { result ≡ plan_from workers connections limits most incoming }
 {
     let workers = workers?;
     let connections = connections?;
     let limits = limits?;
-    let open = open?;
+    let most = most?;
     let incoming = incoming?;
     Some(ServePlan {
         workers,
         connections,
         limits,
-        open,
+        open: most,
         incoming,
     })
 }
@@ -322,8 +337,8 @@ fn open_in(text: Option<&str>) -> Option<Option<u32>>
     if text.is_none() {
         return Some(None);
     }
-    let open = number(text, 1, CONNECTIONS)?;
-    Some(Some(open))
+    let most = number(text, 1, CONNECTIONS)?;
+    Some(Some(most))
 }
 
 // A text of its own. The only error is want of memory.
