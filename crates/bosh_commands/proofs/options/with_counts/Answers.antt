@@ -8,7 +8,7 @@ use Rattle.bosh_commands.proofs.options.with_counts.Goals as goal
 
 pub returns : goal.returns
 returns c =
-    let app : App = app_of c.args.command.entry in
+    let app : App = app_of c.args.command in
     let global : Arg → Bool = λ a. a.global in
     let port_is : rule_of c.required-port.result ≡ port_rule =
     ap rule_of c.required-port.ensures ∙ ap (λ (r : Rule). record r { required = true }) c.optional.ensures.rule in

@@ -8,7 +8,7 @@ use Rattle.bosh_commands.proofs.options.with_limits.Goals as goal
 
 pub returns : goal.returns
 returns c =
-    let app : App = app_of c.args.command.entry in
+    let app : App = app_of c.args.command in
     let step1 : app_of c.in_ok-arg.field-0 ≡ with_rule app (usual_rule (codes "sessions") (codes "256")) =
     c.in_ok-arg.ensures.shape c.usual-sessions.ensures.local ∙ ap (with_rule app) (c.usual-sessions.ensures.rule) in
     let step2 : app_of c.in_ok-arg-2.field-0 ≡ with_rule (with_rule app (usual_rule (codes "sessions") (codes "256"))) (usual_rule (codes "openings") (codes "1048576")) =

@@ -8,7 +8,7 @@ use Rattle.bosh_commands.proofs.options.with_site.Goals as goal
 
 pub returns : goal.returns
 returns c =
-    let app : App = app_of c.args.command.entry in
+    let app : App = app_of c.args.command in
     let global : Arg → Bool = λ a. a.global in
     let xmpp_is : rule_of c.action-xmpp.result ≡ xmpp_rule =
     ap rule_of c.action-xmpp.ensures ∙ ap (λ (r : Rule). record r { action = Some Append }) c.optional.ensures.rule in
