@@ -28,7 +28,7 @@ fn changed(
     for line in trace.split(|byte| *byte == b'\n') {
         lines.push(line)?;
     }
-    if change == Change::Exchanged && place + 1 < lines.len() {
+    if change == Change::Exchanged && place < lines.len().saturating_sub(1) {
         lines.swap(place, place + 1);
     }
     let mut text = Vec::new(alloc);
@@ -55,11 +55,11 @@ fn a_change_is_mostly_seen(rt: HostRuntime) -> Result<(), Fail> {
         (Change::Exchanged, 5),
     ];
     for (change, wanted) in rows {
-        let mut noes = 0;
+        let mut noes: u32 = 0;
         for place in 0..9 {
             let text = changed(rt.alloc(), scene.page(), place, change)?;
             if !audit(rt.alloc(), text.as_slice())?.starts_with(b"yes") {
-                noes += 1;
+                noes = noes.saturating_add(1);
             }
         }
         assert_eq!(rt; noes, wanted, "of {change:?}");

@@ -159,7 +159,7 @@ impl Scene {
     fn took<R: Wait>(&mut self, rt: &R, on: usize, body: &str) -> Result<(), AllocError> {
         let message = post(self.alloc, body)?;
         if let Some(tap) = self.taps.get_mut(on) {
-            let (front, back) = message.as_bytes().split_at(20);
+            let (front, back) = in_two(message.as_bytes());
             tap.took(rt, front);
             tap.took(rt, back);
         }
@@ -169,10 +169,15 @@ impl Scene {
     fn gave<R: Wait>(&mut self, rt: &R, on: usize, body: &str) -> Result<(), AllocError> {
         let message = response(self.alloc, body)?;
         if let Some(tap) = self.taps.get_mut(on) {
-            let (front, back) = message.as_bytes().split_at(20);
+            let (front, back) = in_two(message.as_bytes());
             tap.gave(rt, front);
             tap.gave(rt, back);
         }
         Ok(())
     }
+}
+
+// A message in two pieces, of which the first ends in its head.
+fn in_two(message: &[u8]) -> (&[u8], &[u8]) {
+    message.split_at(message.len().min(20))
 }

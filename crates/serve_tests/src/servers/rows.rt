@@ -136,7 +136,9 @@ pub(crate) fn given_by_loop<R: Wait + Threads + Clock + Copy + Send + Sync + Dro
     text: &String,
 ) -> Result<Vec<u8>, Fail> {
     let given = given_nothing(alloc)?;
-    let net = ShownNetwork::new(vec![in alloc; link(rt, text, &given, None)?]?);
+    let mut links = Vec::new(alloc);
+    links.push(link(rt, text, &given, None)?)?;
+    let net = ShownNetwork::new(links);
     let plan = ServePlan {
         workers: 1,
         connections: 1,
