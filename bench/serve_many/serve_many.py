@@ -2,7 +2,7 @@
 """What many sessions cost `serve`: its threads and memory with so many sessions that have a request each that waits, its processor time in 20
 seconds in which no wait falls due, and its processor time for a message where each goes to another of them.
 
-A message is a request with a stanza on the session's other connection: the echo answers the request that waits, and the new one waits.
+A message is a request with a stanza on another connection: it ends the wait of the one that waits, is answered by the echo, and a next one waits.
 
 Usage: serve_many.py PROGRAM [LOOPS [SESSIONS...]]
 """
@@ -64,13 +64,12 @@ class Session:
         link.give(f"<body rid='{self.rid}' sid='{self.sid}' {NAMESPACE}>{content}</body>")
 
     def say(self, other):
-        """Says something on another connection, on which a request waits then. The connection that is free now."""
-        free = self.link
+        """Says something on another connection, where the echo comes, and lets a request wait again."""
         self.ask(other, "<message><body>hello</body></message>")
-        if "hello" not in free.take():
+        self.link.take()
+        if "hello" not in other.take():
             raise ValueError("no echo")
-        self.link = other
-        return free
+        self.ask(self.link, "")
 
 
 def processor_time(pid):
@@ -103,12 +102,12 @@ def measure(program, loops, count):
             f" {share:.2f} percent of a processor, opened in {opened:.1f} s",
             flush=True,
         )
-        free, times = Link(), []
+        other, times = Link(), []
         messages = 5000
         busy = processor_time(pid)
         for _ in range(messages):
             begun = time.monotonic()
-            free = random.choice(sessions).say(free)
+            random.choice(sessions).say(other)
             times.append(1000 * (time.monotonic() - begun))
         cost = 1e6 * (processor_time(pid) - busy) / messages
         times.sort()
