@@ -23,5 +23,5 @@ pub inbox_sync : (L W : RattleType) → IsSend L → IsSend W → IsSync W → I
 inbox_sync L W link rouse shared = search (door_send, door_sync, crosses) depth 200 fits 100000
 
 -- a loop of seats that may cross, as a field of a struct
-pub looped : (S P L T : RattleType) → IsSend S → IsSend P → IsSend T → IsSend (Loop.the_field S P L T).row
-looped S P L T seat poller tools = search (crosses) depth 200 fits 100000
+pub looped : (T S P L : RattleType) → IsSend T → IsSend S → IsSend P → IsSend (Loop.the_field T S P L).row
+looped T S P L tools seat poller = search (crosses) depth 200 fits 100000

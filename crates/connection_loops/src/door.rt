@@ -1,6 +1,8 @@
 // Where a loop is rung for, from any thread.
-use crate::bits::{Bits, bit_of};
+use crate::bits::{Bits, KEY_BITS, bit_of};
+use crate::rung::Rung;
 use bosh_ports::BellKey;
+use std::alloc::{AllocError, Global};
 use std::sync::atomic::{AtomicU64, Ordering};
 
 /// What ends the wait of a loop, from any thread.
@@ -13,7 +15,7 @@ pub trait Rouse {
 #[derive(Drop)]
 pub struct Door<W: Rouse + Drop> {
     // The keys that were rung for, and those that somebody of this loop waits for.
-    rung: Bits,
+    rung: Rung,
     awaited: Bits,
     // How many things were left here and not taken.
     left: AtomicU64,
@@ -24,40 +26,39 @@ pub struct Door<W: Rouse + Drop> {
 }
 
 impl<W: Rouse + Drop> Door<W> {
-    /// It takes no memory.
-    pub fn new(rouse: W) -> Door<W> {
-        Door {
-            rung: Bits::new(),
-            awaited: Bits::new(),
+    /// Nobody rang, and nobody waits. The only error is want of memory.
+    pub fn new(alloc: Global, rouse: W) -> Result<Door<W>, AllocError> {
+        Ok(Door {
+            rung: Rung::new(alloc)?,
+            awaited: Bits::with_len(alloc, KEY_BITS)?,
             left: AtomicU64::new(0),
             is_closed: AtomicU64::new(0),
             sleeps: AtomicU64::new(0),
             rouse,
-        }
+        })
     }
 
     /// Somebody of the loop waits for rings with this key from here on. It has to look for what it waits for after this, and before it waits.
     pub fn tune(&self, key: BellKey) {
-        self.awaited.set(bit_of(key));
+        self.awaited.set(usize::from(bit_of(key)));
     }
 
     /// What was waited for with this key may have come. A loop of which nobody waits for it is left alone.
     pub fn ring(&self, key: BellKey) {
         let bit = bit_of(key);
-        if !self.awaited.has(bit) {
+        if !self.awaited.has(usize::from(bit)) {
             return;
         }
         self.rung.set(bit);
         self.wake();
     }
 
-    /// Takes a bit that was rung for: whoever waited for a key of it has to look, and tunes again where it waits on.
-    pub fn take_rung(&self, bit: u8) -> bool {
-        if !self.rung.take(bit) {
-            return false;
-        }
-        self.awaited.clear(bit);
-        true
+    /// Takes the least bit that was rung for, of this one and those above it: whoever waited for a key of it has to look, and tunes again where
+    /// it waits on.
+    pub fn take_rung(&self, from: u16) -> Option<u16> {
+        let bit = self.rung.take_from(from)?;
+        self.awaited.clear(usize::from(bit));
+        Some(bit)
     }
 
     /// Something was left here.

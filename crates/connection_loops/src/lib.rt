@@ -9,6 +9,7 @@ mod inbox;
 mod listed_poller;
 mod poller;
 mod ready_poller;
+mod rung;
 mod seat;
 mod slots;
 mod still_poller;

@@ -16,24 +16,21 @@ pub enum Wanted {
     End,
 }
 
-/// A connection with its link and all else that it needs to be stepped. It never waits.
-pub trait Seat: Sized {
+/// A connection with its link and all else that is its own, stepped with what its thread has for all its seats, the tools. It never waits.
+pub trait Seat<T>: Sized {
     /// What comes to a loop.
     type Link;
 
-    /// What a thread has for all its seats.
-    type Tools;
-
     /// Whether there is room for one seat more.
-    fn has_room<R: Wait>(rt: &R, tools: &Self::Tools) -> bool;
+    fn has_room<R: Wait>(rt: &R, tools: &T) -> bool;
 
     /// A seat for a link on which nothing came yet. None where there is no room or no memory for it: the link is closed then.
-    fn seated<R: Wait>(rt: &R, tools: &mut Self::Tools, link: Self::Link) -> Option<Self>;
+    fn seated<R: Wait>(rt: &R, tools: &mut T, link: Self::Link) -> Option<Self>;
 
     fn link(&self) -> &Self::Link;
 
     /// The moment by the clock of the tools.
-    fn now(tools: &Self::Tools) -> Moment;
+    fn now(tools: &T) -> Moment;
 
     /// The moment from which on its link is waited for no longer. It is asked for where it waits for that.
     fn due(&self) -> Moment;
@@ -45,8 +42,8 @@ pub trait Seat: Sized {
     fn has_left(&mut self) -> Option<BellKey>;
 
     /// Makes steps, at most so many, until it wants something.
-    fn go_on<R: Wait>(&mut self, rt: &R, tools: &mut Self::Tools, most: u32) -> Wanted;
+    fn go_on<R: Wait>(&mut self, rt: &R, tools: &mut T, most: u32) -> Wanted;
 
     /// It has ended, or is to end: its link is closed.
-    fn leave<R: Wait>(self, rt: &R, tools: &mut Self::Tools);
+    fn leave<R: Wait>(self, rt: &R, tools: &mut T);
 }

@@ -7,8 +7,9 @@ use slab::Slab;
 use std::alloc::{AllocError, Global};
 use std::mem::replace;
 
-/// How many chains there are for those who wait for a ring.
-const RINGS: usize = 256;
+/// How many chains there are for those who wait for a ring. A chain has those of each bit with the same rest: where a ring comes for one of
+/// them the others look once for nothing.
+const CHAINS: usize = 1024;
 
 /// What the seat of a slot waits for.
 #[derive(Clone, Copy, Debug, PartialEq, Eq)]
@@ -30,7 +31,7 @@ struct Slot<S: Drop> {
 #[derive(Drop)]
 pub struct Slots<S: Drop> {
     slots: Slab<Slot<S>>,
-    // Those who wait for a ring, by its bit, and those that go on at once.
+    // Those who wait for a ring, by the rest of its bit, and those that go on at once.
     parked: Vec<Chain>,
     ready: Chain,
     // How many seats are in a chain.
@@ -42,7 +43,7 @@ impl<S: Drop> Slots<S> {
     pub fn new(alloc: Global) -> Result<Slots<S>, AllocError> {
         Ok(Slots {
             slots: Slab::new(alloc),
-            parked: vec![in alloc; Chain::None; RINGS]?,
+            parked: vec![in alloc; Chain::None; CHAINS]?,
             ready: Chain::None,
             chained: 0,
         })
@@ -126,7 +127,7 @@ impl<S: Drop> Slots<S> {
     }
 
     /// The seat with this number waits for a ring.
-    pub fn park(&mut self, at: usize, bit: u8)
+    pub fn park(&mut self, at: usize, bit: u16)
         ensures { KeepsSeats self.old.slots self.new.slots }
     {
         let chain = self.chain_of(bit);
@@ -134,17 +135,17 @@ impl<S: Drop> Slots<S> {
         self.set_chain(bit, chain);
     }
 
-    fn chain_of(&self, bit: u8) -> Chain {
-        match self.parked.get(usize::from(bit)) {
+    fn chain_of(&self, bit: u16) -> Chain {
+        match self.parked.get(chain_at(bit)) {
             Some(chain) => *chain,
             None => Chain::None,
         }
     }
 
-    fn set_chain(&mut self, bit: u8, chain: Chain)
+    fn set_chain(&mut self, bit: u16, chain: Chain)
         ensures { self.new.slots ≡ self.old.slots }
     {
-        if let Some(slot) = self.parked.get_mut(usize::from(bit)) {
+        if let Some(slot) = self.parked.get_mut(chain_at(bit)) {
             *slot = chain;
         }
     }
@@ -183,8 +184,8 @@ impl<S: Drop> Slots<S> {
         replace(&mut self.ready, Chain::None)
     }
 
-    /// Takes all who wait for a ring with this bit.
-    pub(crate) fn take_parked(&mut self, bit: u8) -> Chain
+    /// Takes all who wait for a ring with this bit, and those whose bit has the same rest.
+    pub(crate) fn take_parked(&mut self, bit: u16) -> Chain
         ensures { self.new.slots ≡ self.old.slots }
     {
         let chain = self.chain_of(bit);
@@ -230,6 +231,11 @@ impl<S: Drop> Slots<S> {
             None => None,
         }
     }
+}
+
+// Which chain those are in who wait for a ring with this bit.
+fn chain_at(bit: u16) -> usize {
+    usize::from(bit) % CHAINS
 }
 
 // What the seat in a slot waits for, and which slot follows it in its chain.

@@ -34,14 +34,13 @@ pub enum Turned {
 
 /// The seats of one thread, and who tells it of their links.
 #[derive(Drop)]
-pub struct Loop<S: Seat + Drop, P: Poller<S::Link> + Drop>
+pub struct Loop<T: Drop, S: Seat<T> + Drop, P: Poller<S::Link> + Drop>
 where
     S::Link: Drop,
-    S::Tools: Drop,
 {
     slots: Slots<S>,
     poller: P,
-    tools: S::Tools,
+    tools: T,
     // Numbers of links on which something may have happened.
     news: Vec<usize>,
     // There was no memory for one.
@@ -50,13 +49,12 @@ where
     sweep_at: Moment,
 }
 
-impl<S: Seat + Drop, P: Poller<S::Link> + Drop> Loop<S, P>
+impl<T: Drop, S: Seat<T> + Drop, P: Poller<S::Link> + Drop> Loop<T, S, P>
 where
     S::Link: Drop,
-    S::Tools: Drop,
 {
     /// No seat is here. The only error is want of memory.
-    pub fn new(alloc: Global, poller: P, tools: S::Tools) -> Result<Loop<S, P>, AllocError> {
+    pub fn new(alloc: Global, poller: P, tools: T) -> Result<Loop<T, S, P>, AllocError> {
         Ok(Loop {
             slots: Slots::new(alloc)?,
             poller,
@@ -65,6 +63,21 @@ where
             is_short: false,
             sweep_at: Moment::from_millis(0),
         })
+    }
+
+    /// What the thread had for its seats, when these have left.
+    pub fn into_tools(self) -> T
+        ensures { result ≡ self.tools }
+    {
+        let Loop {
+            slots: _,
+            poller: _,
+            tools,
+            news: _,
+            is_short: _,
+            sweep_at: _,
+        } = self;
+        tools
     }
 
     /// How many seats are here.
@@ -197,11 +210,17 @@ where
 
     // Steps those who wait for a ring that came.
     fn step_rung<R: Wait, W: Rouse + Drop>(&mut self, rt: &R, inbox: &Inbox<S::Link, W>) {
-        for bit in 0..=u8::MAX {
-            if inbox.door.take_rung(bit) {
-                let chain = self.slots.take_parked(bit);
-                self.step_chain(rt, chain);
+        let mut from = 0;
+        for _ in 0..=u16::MAX {
+            let Some(bit) = inbox.door.take_rung(from) else {
+                return;
+            };
+            let chain = self.slots.take_parked(bit);
+            self.step_chain(rt, chain);
+            if bit == u16::MAX {
+                return;
             }
+            from = bit.saturating_add(1);
         }
     }
 

@@ -16,7 +16,7 @@ const NEVER: u64 = u64::MAX;
 #[derive(Drop)]
 struct Scene {
     alloc: Global,
-    looped: Loop<Waiter, ListedPoller>,
+    looped: Loop<u64, Waiter, ListedPoller>,
     inbox: Inbox<Ticket, CountedRouse>,
     roused: Arc<AtomicU64>,
     steps: Arc<AtomicU64>,
@@ -36,7 +36,7 @@ impl Scene {
         let rouse = CountedRouse {
             count: Arc::try_clone(&roused)?,
         };
-        let Ok(door) = Arc::new(alloc, Door::new(rouse)) else {
+        let Ok(door) = Arc::new(alloc, Door::new(alloc, rouse)?) else {
             return Err(AllocError);
         };
         Ok(Scene {
@@ -113,6 +113,54 @@ fn a_ring_steps_those_who_wait_for_it(rt: HostRuntime) -> Result<(), Fail> {
     scene.inbox.door.ring(BellKey(77));
     scene.turn(&rt);
     assert!(rt; scene.steps() == 514);
+    Ok(())
+}
+
+// Seats whose keys differ by 1,024 are in one chain: a ring for one of them steps both, and the other waits on. A ring for a key that differs by
+// 65,536 is one for both.
+#[test]
+fn a_chain_is_stepped_as_one(rt: HostRuntime) -> Result<(), Fail> {
+    let alloc = rt.alloc();
+    let mut scene = Scene::new(alloc, Vec::new(alloc))?;
+    let keys = [5_u64, 1029, 6, 65_541, 4];
+    for key in keys {
+        let number = count(alloc)?;
+        scene.put(&rt, key, &number, 1, NEVER)?;
+    }
+    scene.turn(&rt);
+    let mut steps = Vec::new(alloc);
+    for key in [5_u64, 1029, 131_077, 6, 7, 2048, 65_540] {
+        scene.inbox.door.ring(BellKey(key));
+        scene.turn(&rt);
+        steps.push(scene.steps())?;
+    }
+    assert_eq!(rt;
+        steps.as_slice(),
+        [8_u64, 11, 14, 15, 15, 15, 16].as_slice()
+    );
+    assert!(rt; scene.looped.len() == 5);
+    Ok(())
+}
+
+// All keys that were rung for before a turn are found in it, from the least bit to the greatest.
+#[test]
+fn a_turn_finds_all_rings(rt: HostRuntime) -> Result<(), Fail> {
+    let alloc = rt.alloc();
+    let mut scene = Scene::new(alloc, Vec::new(alloc))?;
+    let number = count(alloc)?;
+    let keys = [0_u64, 63, 64, 127, 4095, 4096, 4160, 40_000, 65_535];
+    for key in keys {
+        scene.put(&rt, key, &number, 1, NEVER)?;
+    }
+    scene.turn(&rt);
+    rise(&number);
+    for key in keys {
+        scene.inbox.door.ring(BellKey(key));
+    }
+    assert!(rt; !scene.inbox.door.lie_down());
+    scene.turn(&rt);
+    assert!(rt; (scene.looped.len(), scene.steps()) == (0, 18));
+    assert!(rt; scene.inbox.door.lie_down());
     Ok(())
 }
 

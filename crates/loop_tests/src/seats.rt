@@ -27,10 +27,8 @@ pub struct Waiter {
     seen: u64,
 }
 
-impl Seat for Waiter {
+impl Seat<u64> for Waiter {
     type Link = Ticket;
-
-    type Tools = u64;
 
     fn has_room<R: Wait>(_rt: &R, _tools: &u64) -> bool {
         true

@@ -5,7 +5,9 @@ use bosh_ports::{ListedBell, MemoryLink, MemorySink, MemorySource};
 use bosh_types::{HostName, HostNames, Moment, Rid, Stanzas, Text};
 use parked_gate::{Gate, Pass};
 use polled_http::{Paced, Rooms};
-use serve_loop::{ConnectionEnd, Site, Trail, Worker, serve_connection, serve_polled};
+use serve_loop::{
+    ConnectionEnd, Refused, Site, Tools, Trail, Worker, serve_connection, serve_polled,
+};
 use server_ports::{GivenNames, StillClock};
 use session_table::{Directory, Limits, Purse};
 use std::alloc::{AllocError, Global};
@@ -59,21 +61,24 @@ fn served<R: Wait>(
     };
     let mut worker = Worker {
         purse,
+        trail: Trail::new(),
+    };
+    let mut tools = Tools {
         bell: ListedBell::new(alloc, vec![in alloc; 1]?),
         names: GivenNames::new(alloc, b"s", first),
-        trail: Trail::new(),
+        rooms: Rooms::new(alloc),
+        refused: Refused::NONE,
     };
     match manner {
         Manner::Waits => {
             let mut link = link;
-            let end = serve_connection(rt, site, &mut worker, &mut link);
+            let end = serve_connection(rt, site, &mut worker, &mut tools, &mut link);
             let given = Vec::from_slice(alloc, link.as_slice())?;
             Ok(Outcome { end, given })
         }
         Manner::Asked(pauses) => {
             let mut link = Paced::new(link, pauses);
-            let mut rooms = Rooms::new(alloc);
-            let end = serve_polled(rt, site, &mut worker, &mut rooms, &mut link);
+            let end = serve_polled(rt, site, &mut worker, &mut tools, &mut link);
             let given = Vec::from_slice(alloc, link.link.as_slice())?;
             Ok(Outcome { end, given })
         }
