@@ -192,6 +192,55 @@ module _ {O E : Type 0} (history : O → List E) (caller_of : E → ℕ) where
             (at_new views (newcomer v) u j e);
       }
 
+  pub splits_unnumbered : (id : ℕ) (v : View E) → v.gift ≡ None → Splits (Kept history caller_of) id v (parted v) (newcomer v)
+  splits_unnumbered id v no_gift s k at =
+      let f = k.fits id v at in
+      let views = set s.views id (parted v) in
+      let seat : ℕ = length views in
+      let count = waiting-set s.views id v (parted v) at in
+      let more = waiting-snoc views (newcomer v) in
+      let queue = k.queue in
+      let others : (j : ℕ) (u : View E) → j ≢ id → get_elem? s.views j ≡ some u → Fits caller_of k.log k.drawn k.serving k.numbers k.turns k.owners k.out j u =
+      λ j u apart e. k.fits j u e in
+      let mine : Fits caller_of k.log k.drawn k.serving k.numbers k.turns k.owners k.out id (parted v) =
+      record {
+        turn = f.turn;
+        held = f.held;
+        number = f.number;
+        gift = λ m has. absurd (None-ne-Some m has);
+        seen = f.seen;
+        met = f.met;
+      } in
+      let new : Fits caller_of k.log k.drawn k.serving k.numbers k.turns k.owners k.out seat (newcomer v) =
+      record {
+        turn = λ t has. absurd (None-ne-Some t has);
+        held = λ l has. absurd (None-ne-Some l has);
+        number = λ m has. absurd (None-ne-Some m (sym no_gift ∙ has));
+        gift = λ m has. absurd (None-ne-Some m has);
+        seen = f.seen;
+        met = λ y has. absurd (None-ne-Some y has);
+      } in
+      record {
+        log = k.log;
+        drawn = k.drawn;
+        serving = k.serving;
+        numbers = k.numbers;
+        turns = k.turns;
+        owners = k.owners;
+        out = k.out;
+        words = k.words;
+        queue = omega arith;
+        room = k.room;
+        place = place_longer k.log s.homes views (newcomer v) k.out (place_set history caller_of k.log s.homes s.views id v (parted v) at refl k.out k.place);
+        callers = k.callers;
+        fits = λ j u e. ⊎_elim
+            (λ (t : (j < seat) × (get_elem? views j ≡ some u)).
+            each_set history caller_of (Fits caller_of k.log k.drawn k.serving k.numbers k.turns k.owners k.out) s.views id (parted v) others mine j u t.1)
+            (λ (t : (j ≡ seat) × (newcomer v ≡ u)).
+            subst (λ (y : ℕ × View E). Fits caller_of k.log k.drawn k.serving k.numbers k.turns k.owners k.out y.0 y.1) (λ i. (sym t.0 i, t.1 i)) new)
+            (at_new views (newcomer v) u j e);
+      }
+
   pub joins : (id : ℕ) (v : View E) (other : ℕ) (w : View E) → w.turn ≡ None → w.held ≡ None → Joins (Kept history caller_of) id v other w (meeting v w) nobody
   joins id v other w no_turn empty s k at apart there =
       let f = k.fits id v at in

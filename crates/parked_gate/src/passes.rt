@@ -54,6 +54,23 @@ impl<O: Object> Gate<O> {
         })
     }
 
+    /// A pass has then seen what another one has too. That one stays as it is.
+    pub fn share(&self, with: &mut Pass<O>, from: &mut Pass<O>)
+        requires with { IsPassOf self.now with.old }
+        requires from { IsPassOf self.now from.old }
+        ensures pass { IsPassOf self.now with.new }
+        ensures from_pass { IsPassOf self.now from.new }
+        ensures from_same { known from.new ≡ known from.old }
+        ensures longer { known with.new ≡ record (known with.old) { seen = longer (known with.old).seen (known from.old).seen } }
+        ensures begins_with_this { StartsWith (known with.new).seen (known with.old).seen }
+        ensures begins_with_other { StartsWith (known with.new).seen (known from.old).seen }
+        ensures legal { IsLegalPass with.new }
+    {
+        let part = self.table.shared.split_seat::<Part>(&mut from.seat);
+        self.meet(&mut with.seat, part);
+        with.length = with.length.max(from.length);
+    }
+
     /// Joins a pass to another one, which has then seen what either had. The joined number is never used again.
     pub fn join(&self, into: &mut Pass<O>, other: Pass<O>)
         requires into { IsPassOf self.now into.old }
