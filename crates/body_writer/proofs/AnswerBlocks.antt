@@ -8,7 +8,7 @@ use Rattle.bosh_types.specs.declared.condition.Condition.TheVariants.{BadRequest
 use Rattle.bosh_types.specs.declared.terms.Terms.{Terms}
 use Rattle.body_cutter.specs.Built.{built_text}
 use Rattle.body_writer.specs.declared.answer.AnswerKind.{AnswerKind}
-use Rattle.body_writer.specs.declared.answer.AnswerKind.TheVariants.{Usual, Terminate}
+use Rattle.body_writer.specs.declared.answer.AnswerKind.TheVariants.{Usual, Terminate, Error}
 use Rattle.body_writer.specs.declared.answer.AnswerParts.{AnswerParts}
 use Rattle.body_writer.specs.declared.answer.Created.{Created}
 use Rattle.body_writer.specs.Rows.{httpbind_row, xmpp_version_row}
@@ -57,6 +57,7 @@ kind_block : {Holds : Type 0} (kind : AnswerKind) (condition : Option Condition)
 unfolding kind_rows
 kind_block Usual condition = block_none _
 kind_block Terminate condition = type_block condition
+kind_block Error condition = block_both (block_value (codes "type") (codes "error") refl refl) (block_none (codes "condition" ∷ []))
 
 version_plain : (terms : Terms) → AreTerms terms → all_plain (version_value terms.version) ≡ true
 unfolding version_value

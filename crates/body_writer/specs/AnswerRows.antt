@@ -6,7 +6,7 @@ use Rattle.bosh_types.specs.declared.condition.Condition.{Condition}
 use Rattle.bosh_types.specs.declared.terms.Terms.{Terms}
 use Rattle.body_cutter.specs.Built.{Written}
 use Rattle.body_writer.specs.declared.answer.AnswerKind.{AnswerKind}
-use Rattle.body_writer.specs.declared.answer.AnswerKind.TheVariants.{Usual, Terminate}
+use Rattle.body_writer.specs.declared.answer.AnswerKind.TheVariants.{Usual, Terminate, Error}
 use Rattle.body_writer.specs.declared.answer.AnswerParts.{AnswerParts}
 use Rattle.body_writer.specs.declared.answer.Created.{Created}
 use Rattle.body_writer.specs.Rows.{value_row, number_row, text_row, httpbind_row, xbosh_row, stream_row, xmpp_version_row}
@@ -21,11 +21,12 @@ stream_rows None [] = []
 stream_rows None (payload ∷ payloads) = stream_row ∷ []
 stream_rows (Some created) payloads = stream_row ∷ []
 
--- a terminal answer, and what it names as its reason
+-- a terminal answer, and what it names as its reason; or that the request counts as not received, XEP-0124 section 17.3
 unfoldable pub kind_rows : AnswerKind → Option Condition → List Written
 kind_rows Usual condition = []
 kind_rows Terminate None = value_row (codes "type") (codes "terminate") ∷ []
 kind_rows Terminate (Some condition) = value_row (codes "type") (codes "terminate") ∷ value_row (codes "condition") (name_of condition) ∷ []
+kind_rows Error condition = value_row (codes "type") (codes "error") ∷ []
 
 -- the version of the protocol
 unfoldable pub version_value : ℕ × ℕ → List ℕ

@@ -44,6 +44,9 @@ pub enum AnswerKind {
     Usual,
     /// There is no session, or none any more: `type='terminate'` (XEP-0124, sections 13 and 17).
     Terminate,
+    /// Its request counts as not received: the client repeats it with all earlier ones that have no answer: `type='error'`
+    /// (XEP-0124, section 17.3).
+    Error,
 }
 
 /// The text of an answer: `<body`, its attributes in their fixed order, each in `'`, then the payloads without anything
@@ -107,6 +110,7 @@ fn push_kind(
                 Some(condition) => push_attribute(text, "condition", condition.name().as_bytes()),
             }
         }
+        AnswerKind::Error => push_attribute(text, "type", b"error"),
     }
 }
 

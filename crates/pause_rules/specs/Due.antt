@@ -1,10 +1,14 @@
--- When a held request and a silent client have had their time, in milliseconds.
+-- When a held request, a copy beyond a gap and a silent client have had their time, in milliseconds.
 use Rattle.std.specs.Prelude.{◌≡◌, ℕ, ◌+◌, ◌*◌, ◌^◌, ◌<◌, ◌≤◌, Bool, false, nat_le, nat_lt, if◌then◌else◌, Option, Some, None, IsTrue}
 use Rattle.bosh_types.specs.declared.terms.Terms.{Terms}
 
 -- the request arrived `wait` seconds ago or earlier, XEP-0124 section 7.1
 abbrev pub is_wait_due : Terms → ℕ → ℕ → Bool
 is_wait_due terms arrived now = nat_le (arrived + terms.wait * 1000) now
+
+-- the copy arrived so many times `wait` seconds ago or earlier, XEP-0124 section 17.3
+abbrev pub is_gap_due : Terms → ℕ → ℕ → ℕ → Bool
+is_gap_due terms waits arrived now = nat_le (arrived + waits * (terms.wait * 1000)) now
 
 -- more than the period has passed since the quiet moment, XEP-0124 section 10
 abbrev pub is_silent_due : ℕ → ℕ → ℕ → Bool
@@ -17,6 +21,10 @@ within_moments millis = if nat_lt millis (2 ^ 64) then Some millis else None
 -- when a request that arrived then has been held for the session's `wait`, XEP-0124 section 7.1
 abbrev pub wait_due_at : Terms → ℕ → Option ℕ
 wait_due_at terms arrived = within_moments (arrived + terms.wait * 1000)
+
+-- when a copy that arrived then has been beyond a gap for so many times the session's `wait`
+abbrev pub gap_due_at : Terms → ℕ → ℕ → Option ℕ
+gap_due_at terms waits arrived = within_moments (arrived + waits * (terms.wait * 1000))
 
 -- when a client that has been quiet since then has been silent for too long, XEP-0124 section 10
 abbrev pub silent_due_at : ℕ → ℕ → Option ℕ

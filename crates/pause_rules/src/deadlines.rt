@@ -1,6 +1,6 @@
 ghost use Rattle.std.specs.Prelude.{◌≡◌, ◌+◌, ◌<◌, ◌↔◌, IsTrue};
 ghost use Rattle.std.specs.Option.{SomeIff};
-ghost use Rattle.pause_rules.specs.Due.{IsFirstMoment, is_silent_due, is_wait_due, silent_due_at, wait_due_at, within_moments};
+ghost use Rattle.pause_rules.specs.Due.{IsFirstMoment, gap_due_at, is_gap_due, is_silent_due, is_wait_due, silent_due_at, wait_due_at, within_moments};
 ghost use Rattle.pause_rules.specs.Overactive.{apart, is_overactive, serves_nothing};
 
 use crate::mark::Mark;
@@ -84,6 +84,31 @@ impl Deadlines {
     {
         let wait = u64::from(self.terms.wait) * SECOND;
         moment_after(arrived, wait)
+    }
+
+    /// Whether a copy that arrived then has been beyond a gap for so many times the session's `wait` (XEP-0124, section 17.3).
+    pub fn gap_due(&self, waits: u32, arrived: Moment, now: Moment) -> bool
+        ensures { result ≡ is_gap_due self.now.terms waits arrived now }
+    {
+        let wait = u64::from(self.terms.wait) * SECOND;
+        let Some(span) = u64::from(waits).checked_mul(wait) else {
+            return false;
+        };
+        match now.millis().checked_sub(arrived.millis()) {
+            Some(waited) => waited >= span,
+            None => false,
+        }
+    }
+
+    /// The first moment at which a copy that arrived then has been beyond a gap for so many times the session's `wait`: `None`
+    /// exactly where no moment of 64 bits is so late.
+    pub fn gap_due_at(&self, waits: u32, arrived: Moment) -> Option<Moment>
+        ensures value { result ≡ gap_due_at self.now.terms waits arrived }
+        ensures first { IsFirstMoment (is_gap_due self.now.terms waits arrived) result }
+    {
+        let wait = u64::from(self.terms.wait) * SECOND;
+        let span = u64::from(waits).checked_mul(wait)?;
+        moment_after(arrived, span)
     }
 
     /// The first moment at which a client that was last heard or answered then is silent for too long: `None` exactly

@@ -6,7 +6,7 @@ use bosh_types::Moment;
 /// What the rules on overactivity ask of a request.
 #[derive(Clone, Copy, Debug, PartialEq, Eq)]
 pub struct Mark {
-    /// When it first arrived.
+    /// When the copy arrived that stands for it.
     pub arrived: Moment,
     /// It has no stanza, and is neither a pause nor a terminate nor a restart.
     pub empty: bool,

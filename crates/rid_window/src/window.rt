@@ -120,6 +120,15 @@ impl<T: Drop> Window<T> {
         item_at(&self.places, 0)
     }
 
+    /// The item of an id, which stays where it is: `None` exactly where its place is empty or the id was taken.
+    pub fn at(&self, rid: Rid) -> Option<&T>
+        ensures { (plain : PlainWindow T) → StandsFor self.now plain → option_copied result ≡ open_item plain rid }
+    {
+        let next = self.next?;
+        let ahead = rid.value().checked_sub(next.value())?;
+        item_at(&self.places, ahead as usize)
+    }
+
     /// Whether no item stands in it: each that was placed was taken.
     pub fn is_clear(&self) -> bool
         ensures { (plain : PlainWindow T) → StandsFor self.now plain → IsTrue result ↔ IsClear plain }

@@ -1,5 +1,5 @@
 -- The tickets that are out, at each step of a session.
-use Rattle.std.proofs.Common.{◌≡◌, ◌≢◌, ℕ, zero, suc, ◌+◌, ◌==◌, Bool, true, false, not, cond, inl, inr, List, [], ◌∷◌, ◌++◌, map, Option, Some, None, is_some, length, slice_get, slice_set, refl, sym, ◌∙◌, ap, subst, if◌then◌else◌, arith, length-append, length-set}
+use Rattle.std.proofs.Common.{◌≡◌, ◌≢◌, ℕ, zero, suc, ◌+◌, ◌==◌, Bool, true, false, not, ◌&&◌, cond, inl, inr, List, [], ◌∷◌, ◌++◌, map, Option, Some, None, is_some, length, slice_get, slice_set, refl, sym, ◌∙◌, ap, subst, if◌then◌else◌, arith, length-append, length-set}
 use Rattle.std.specs.Option.{option_map, option_or}
 use Rattle.std.proofs.lemmas.Bool.{cases_eq}
 use Rattle.std.proofs.lemmas.Bool.Decides.{nat_tests}
@@ -8,9 +8,11 @@ use Rattle.std.proofs.lemmas.List.Folds.{find-append}
 use Rattle.std.proofs.lemmas.Option.{slice_get-map, slice_get_past}
 use Rattle.session_core.specs.declared.replies.Collected.{Collected}
 use Rattle.session_core.specs.declared.tickets.OpenTicket.{OpenTicket}
+use Rattle.session_core.specs.Endings.{error_text}
+use Rattle.session_core.specs.Gap.{strike_ticket}
 use Rattle.session_core.specs.Machine as machine
-use Rattle.session_core.specs.State.{PlainSession, Issued, TicketState, Waits, Replaced, UsedUp}
-use Rattle.session_core.specs.Tickets.{Book, collected, give_answer, give_word, given, replace, ticket_at, told_answer, told_of, uses_up, without}
+use Rattle.session_core.specs.State.{PlainSession, Issued, TicketState, Waits, Replaced, Struck, UsedUp}
+use Rattle.session_core.specs.Tickets.{Book, collected, give_answer, give_word, given, is_for, replace, strike, ticket_at, told_answer, told_of, uses_up, without}
 use Rattle.session_core.specs.TicketsOut.{AreOut, issued_at, out_in, out_of}
 
 equal_test : (m n : ℕ) → m ≡ n → (m == n) ≡ true
@@ -123,14 +125,14 @@ none_out words = record { handed_out_is = refl; each = none_at words }
 
 -- a ticket as it is out, with its answer
 abbrev out_ticket : ℕ → ℕ → Bool → Option (List ℕ) → Option OpenTicket
-out_ticket number rid replaced answer = Some (record { number = number; rid = rid; replaced = replaced; answer = answer })
+out_ticket number rid replaced answer = Some (record { number = number; rid = rid; replaced = replaced; struck = false; answer = answer })
 
 module _ (words : ℕ → Option (List ℕ)) where
   -- a ticket is handed out for a request that has no words yet
   pub given_out : (book : Book) (issued : List Issued) (rid : ℕ) → words rid ≡ None → AreOut book issued words → AreOut (given book rid) (issued ++ record { rid = rid; state = Waits } ∷ []) words
   given_out book issued rid none out = record {
     handed_out_is = omega (arith, out.handed_out_is, length-append issued (record { rid = rid; state = Waits } ∷ []));
-    each = λ number. find-append (λ ticket. ticket.number == number) book.out (record { number = book.handed_out + 1; rid = rid; replaced = false; answer = None } ∷ [])
+    each = λ number. find-append (λ ticket. ticket.number == number) book.out (record { number = book.handed_out + 1; rid = rid; replaced = false; struck = false; answer = None } ∷ [])
         ∙ elim (cases_eq (book.handed_out + 1) number) [
           | inl same ↦
               let last : number ≡ length issued + 1 = omega (arith, out.handed_out_is) in
@@ -148,22 +150,30 @@ module _ (words : ℕ → Option (List ℕ)) where
         ];
   }
 
-  replaced_waits : (number r : ℕ) (b : Bool) → Some (cond b (record { number = number; rid = r; replaced = true; answer = words r }) (record { number = number; rid = r; replaced = false; answer = words r })) ≡ out_of words number (Some (cond b (record { rid = r; state = Replaced }) (record { rid = r; state = Waits })))
+  replaced_waits : (number r : ℕ) (b : Bool) → Some (cond (b && not false) (record { number = number; rid = r; replaced = true; struck = false; answer = words r }) (record { number = number; rid = r; replaced = false; struck = false; answer = words r })) ≡ out_of words number (Some (cond b (record { rid = r; state = Replaced }) (record { rid = r; state = Waits })))
   replaced_waits number r true = refl
   replaced_waits number r false = refl
 
-  replaced_again : (number r : ℕ) (b : Bool) → Some (cond b (record { number = number; rid = r; replaced = true; answer = words r }) (record { number = number; rid = r; replaced = true; answer = words r })) ≡ out_of words number (Some (cond b (record { rid = r; state = Replaced }) (record { rid = r; state = Replaced })))
+  replaced_again : (number r : ℕ) (b : Bool) → Some (cond (b && not false) (record { number = number; rid = r; replaced = true; struck = false; answer = words r }) (record { number = number; rid = r; replaced = true; struck = false; answer = words r })) ≡ out_of words number (Some (cond b (record { rid = r; state = Replaced }) (record { rid = r; state = Replaced })))
   replaced_again number r true = refl
   replaced_again number r false = refl
 
-  replaced_used_up : (number r : ℕ) (b : Bool) → None ≡ out_of words number (Some (cond b (record { rid = r; state = UsedUp }) (record { rid = r; state = UsedUp })))
-  replaced_used_up number r true = refl
-  replaced_used_up number r false = refl
+  -- one whose copy was struck keeps its error
+  replaced_never : (b : Bool) (ticket other : OpenTicket) → cond (b && not true) other ticket ≡ ticket
+  replaced_never true ticket other = refl
+  replaced_never false ticket other = refl
+
+  same_state : (number r : ℕ) (state : TicketState) (b : Bool) → out_of words number (Some (cond b (record { rid = r; state = state }) (record { rid = r; state = state }))) ≡ out_in words number r state
+  same_state number r state true = refl
+  same_state number r state false = refl
 
   replaced_in : (rid number r : ℕ) (state : TicketState) → option_map (replace rid) (out_in words number r state) ≡ out_of words number (Some (machine.replace rid (record { rid = r; state = state })))
   replaced_in rid number r Waits = replaced_waits number r (r == rid)
   replaced_in rid number r Replaced = replaced_again number r (r == rid)
-  replaced_in rid number r UsedUp = replaced_used_up number r (r == rid)
+  replaced_in rid number r Struck =
+      ap Some (replaced_never (r == rid) (record { number = number; rid = r; replaced = false; struck = true; answer = Some error_text }) (record { number = number; rid = r; replaced = true; struck = true; answer = Some error_text }))
+      ∙ sym (same_state number r Struck (r == rid))
+  replaced_in rid number r UsedUp = sym (same_state number r UsedUp (r == rid))
 
   replaced_at : (rid number : ℕ) (o : Option Issued) → option_map (replace rid) (out_of words number o) ≡ out_of words number (option_map (machine.replace rid) o)
   replaced_at rid number None = refl
@@ -178,9 +188,54 @@ module _ (words : ℕ → Option (List ℕ)) where
   replaced_out book issued rid out = record {
     handed_out_is = out.handed_out_is ∙ sym (length-map issued (machine.replace rid));
     each = λ number.
-        at_map (replace rid) (λ ticket. keeps_replaced rid (ticket.rid == rid) ticket) book.out number
+        at_map (replace rid) (λ ticket. keeps_replaced rid (is_for rid ticket) ticket) book.out number
         ∙ ap (option_map (replace rid)) (out.each number) ∙ replaced_at rid number (issued_at issued number)
         ∙ ap (out_of words number) (sym (issued_map (machine.replace rid) issued number));
+  }
+
+  struck_waits : (b : Bool) (ticket other : OpenTicket) → cond ((b && not false) && not false) other ticket ≡ cond b other ticket
+  struck_waits true ticket other = refl
+  struck_waits false ticket other = refl
+
+  waits_or_struck : (number r : ℕ) (b : Bool)
+      → Some (cond b (record { number = number; rid = r; replaced = false; struck = true; answer = Some error_text }) (record { number = number; rid = r; replaced = false; struck = false; answer = words r }))
+      ≡ out_of words number (Some (cond b (record { rid = r; state = Struck }) (record { rid = r; state = Waits })))
+  waits_or_struck number r true = refl
+  waits_or_struck number r false = refl
+
+  -- a copy that was replaced, or was struck before, isn't struck
+  struck_never : (b : Bool) (ticket other : OpenTicket) → (cond ((b && not false) && not true) other ticket ≡ ticket) × (cond ((b && not true) && not false) other ticket ≡ ticket)
+  struck_never true ticket other = (refl, refl)
+  struck_never false ticket other = (refl, refl)
+
+  struck_in : (rid number r : ℕ) (state : TicketState) → option_map (strike rid error_text) (out_in words number r state) ≡ out_of words number (Some (strike_ticket rid (record { rid = r; state = state })))
+  struck_in rid number r Waits =
+      ap Some (struck_waits (r == rid) (record { number = number; rid = r; replaced = false; struck = false; answer = words r }) (record { number = number; rid = r; replaced = false; struck = true; answer = Some error_text }))
+      ∙ waits_or_struck number r (r == rid)
+  struck_in rid number r Replaced =
+      ap Some (struck_never (r == rid) (record { number = number; rid = r; replaced = true; struck = false; answer = words r }) (record { number = number; rid = r; replaced = true; struck = true; answer = Some error_text })).0
+      ∙ sym (same_state number r Replaced (r == rid))
+  struck_in rid number r Struck =
+      ap Some (struck_never (r == rid) (record { number = number; rid = r; replaced = false; struck = true; answer = Some error_text }) (record { number = number; rid = r; replaced = false; struck = true; answer = Some error_text })).1
+      ∙ sym (same_state number r Struck (r == rid))
+  struck_in rid number r UsedUp = sym (same_state number r UsedUp (r == rid))
+
+  struck_at : (rid number : ℕ) (o : Option Issued) → option_map (strike rid error_text) (out_of words number o) ≡ out_of words number (option_map (strike_ticket rid) o)
+  struck_at rid number None = refl
+  struck_at rid number (Some ticket) = struck_in rid number ticket.rid ticket.state
+
+  keeps_struck : (error : List ℕ) (b : Bool) (ticket : OpenTicket) → (cond b (record ticket { struck = true; answer = Some error }) ticket).number ≡ ticket.number
+  keeps_struck error true ticket = refl
+  keeps_struck error false ticket = refl
+
+  -- the copy of an id is struck
+  pub struck_out : (book : Book) (issued : List Issued) (rid : ℕ) → AreOut book issued words → AreOut (record book { out = map (strike rid error_text) book.out }) (map (strike_ticket rid) issued) words
+  struck_out book issued rid out = record {
+    handed_out_is = out.handed_out_is ∙ sym (length-map issued (strike_ticket rid));
+    each = λ number.
+        at_map (strike rid error_text) (λ ticket. keeps_struck error_text (is_for rid ticket && not ticket.replaced) ticket) book.out number
+        ∙ ap (option_map (strike rid error_text)) (out.each number) ∙ struck_at rid number (issued_at issued number)
+        ∙ ap (out_of words number) (sym (issued_map (strike_ticket rid) issued number));
   }
 
   -- a ticket is used up
@@ -199,40 +254,58 @@ module _ (words : ℕ → Option (List ℕ)) where
     ];
   }
 
--- each request may have other words after a step; its tickets have them then
+-- each request may have other words after a step; its tickets have them then, and an error stays
 module _ (words later : ℕ → Option (List ℕ)) where
-  changed_in : (f : OpenTicket → OpenTicket) → ((number rid : ℕ) (replaced : Bool) → f (record { number = number; rid = rid; replaced = replaced; answer = words rid }) ≡ record { number = number; rid = rid; replaced = replaced; answer = later rid }) → (number rid : ℕ) (state : TicketState) → option_map f (out_in words number rid state) ≡ out_in later number rid state
-  changed_in f gives number rid Waits = ap Some (gives number rid false)
-  changed_in f gives number rid Replaced = ap Some (gives number rid true)
-  changed_in f gives number rid UsedUp = refl
+  abbrev Gives : (OpenTicket → OpenTicket) → Type 0
+  Gives f = (number rid : ℕ) (replaced : Bool) → f (record { number = number; rid = rid; replaced = replaced; struck = false; answer = words rid }) ≡ record { number = number; rid = rid; replaced = replaced; struck = false; answer = later rid }
 
-  changed_at : (f : OpenTicket → OpenTicket) → ((number rid : ℕ) (replaced : Bool) → f (record { number = number; rid = rid; replaced = replaced; answer = words rid }) ≡ record { number = number; rid = rid; replaced = replaced; answer = later rid }) → (number : ℕ) (o : Option Issued) → option_map f (out_of words number o) ≡ out_of later number o
-  changed_at f gives number None = refl
-  changed_at f gives number (Some ticket) = changed_in f gives number ticket.rid ticket.state
+  abbrev Spares : (OpenTicket → OpenTicket) → Type 0
+  Spares f = (number rid : ℕ) → f (record { number = number; rid = rid; replaced = false; struck = true; answer = Some error_text }) ≡ record { number = number; rid = rid; replaced = false; struck = true; answer = Some error_text }
 
-  changed_out : (f : OpenTicket → OpenTicket) → ((ticket : OpenTicket) → (f ticket).number ≡ ticket.number) → ((number rid : ℕ) (replaced : Bool) → f (record { number = number; rid = rid; replaced = replaced; answer = words rid }) ≡ record { number = number; rid = rid; replaced = replaced; answer = later rid }) → (book : Book) (issued : List Issued) → AreOut book issued words → AreOut (record book { out = map f book.out }) issued later
-  changed_out f keeps gives book issued out = record {
+  changed_in : (f : OpenTicket → OpenTicket) → Gives f → Spares f → (number rid : ℕ) (state : TicketState) → option_map f (out_in words number rid state) ≡ out_in later number rid state
+  changed_in f gives spares number rid Waits = ap Some (gives number rid false)
+  changed_in f gives spares number rid Replaced = ap Some (gives number rid true)
+  changed_in f gives spares number rid Struck = ap Some (spares number rid)
+  changed_in f gives spares number rid UsedUp = refl
+
+  changed_at : (f : OpenTicket → OpenTicket) → Gives f → Spares f → (number : ℕ) (o : Option Issued) → option_map f (out_of words number o) ≡ out_of later number o
+  changed_at f gives spares number None = refl
+  changed_at f gives spares number (Some ticket) = changed_in f gives spares number ticket.rid ticket.state
+
+  changed_out : (f : OpenTicket → OpenTicket) → ((ticket : OpenTicket) → (f ticket).number ≡ ticket.number) → Gives f → Spares f → (book : Book) (issued : List Issued) → AreOut book issued words → AreOut (record book { out = map f book.out }) issued later
+  changed_out f keeps gives spares book issued out = record {
     handed_out_is = out.handed_out_is;
-    each = λ number. at_map f keeps book.out number ∙ ap (option_map f) (out.each number) ∙ changed_at f gives number (issued_at issued number);
+    each = λ number. at_map f keeps book.out number ∙ ap (option_map f) (out.each number) ∙ changed_at f gives spares number (issued_at issued number);
   }
 
   keeps_answered : (answer : Option (List ℕ)) (b : Bool) (ticket : OpenTicket) → (cond b (record ticket { answer = answer }) ticket).number ≡ ticket.number
   keeps_answered answer true ticket = refl
   keeps_answered answer false ticket = refl
 
+  answered_if : (b c : Bool) (ticket : OpenTicket) (answer : Option (List ℕ)) → b ≡ c → cond (b && not false) (record ticket { answer = answer }) ticket ≡ cond c (record ticket { answer = answer }) ticket
+  answered_if true c ticket answer is = ap (λ (t : Bool). cond t (record ticket { answer = answer }) ticket) is
+  answered_if false c ticket answer is = ap (λ (t : Bool). cond t (record ticket { answer = answer }) ticket) is
+
+  spared : (b : Bool) (ticket : OpenTicket) (answer : Option (List ℕ)) → cond (b && not true) (record ticket { answer = answer }) ticket ≡ ticket
+  spared true ticket answer = refl
+  spared false ticket answer = refl
+
   -- a request is answered
   pub answered_out : (book : Book) (issued : List Issued) (rid : ℕ) (bytes : List ℕ) → later rid ≡ Some bytes → ((other : ℕ) → other ≢ rid → later other ≡ words other) → AreOut book issued words → AreOut (record book { out = map (give_answer rid bytes) book.out }) issued later
-  answered_out book issued rid bytes answered same out = changed_out (give_answer rid bytes) (λ ticket. keeps_answered (Some bytes) (ticket.rid == rid) ticket)
-      (λ number r replaced. elim (cases_eq r rid) [
+  answered_out book issued rid bytes answered same out = changed_out (give_answer rid bytes) (λ ticket. keeps_answered (Some bytes) (is_for rid ticket) ticket)
+      (λ number r replaced.
+      let ticket : OpenTicket = record { number = number; rid = r; replaced = replaced; struck = false; answer = words r } in
+      elim (cases_eq r rid) [
         | inl here ↦
-            ap (λ b. cond {A = OpenTicket} b (record { number = number; rid = r; replaced = replaced; answer = Some bytes }) (record { number = number; rid = r; replaced = replaced; answer = words r })) (equal_test r rid here)
-            ∙ ap (λ answer. record { number = number; rid = r; replaced = replaced; answer = answer }) (sym answered ∙ ap later (sym here))
+            answered_if (r == rid) true ticket (Some bytes) (equal_test r rid here)
+            ∙ ap (λ answer. record { number = number; rid = r; replaced = replaced; struck = false; answer = answer }) (sym answered ∙ ap later (sym here))
         | inr other ↦
-            ap (λ b. cond {A = OpenTicket} b (record { number = number; rid = r; replaced = replaced; answer = Some bytes }) (record { number = number; rid = r; replaced = replaced; answer = words r })) (other_test r rid other)
-            ∙ ap (λ answer. record { number = number; rid = r; replaced = replaced; answer = answer }) (sym (same r other))
-      ]) book issued out
+            answered_if (r == rid) false ticket (Some bytes) (other_test r rid other)
+            ∙ ap (λ answer. record { number = number; rid = r; replaced = replaced; struck = false; answer = answer }) (sym (same r other))
+      ])
+      (λ number r. spared (r == rid) (record { number = number; rid = r; replaced = false; struck = true; answer = Some error_text }) (Some bytes)) book issued out
 
-  worded : (number r : ℕ) (replaced : Bool) (o : Option (List ℕ)) (word : List ℕ) → cond {A = OpenTicket} (is_some o) (record { number = number; rid = r; replaced = replaced; answer = o }) (record { number = number; rid = r; replaced = replaced; answer = Some word }) ≡ record { number = number; rid = r; replaced = replaced; answer = option_or o (Some word) }
+  worded : (number r : ℕ) (replaced : Bool) (o : Option (List ℕ)) (word : List ℕ) → cond {A = OpenTicket} (is_some o) (record { number = number; rid = r; replaced = replaced; struck = false; answer = o }) (record { number = number; rid = r; replaced = replaced; struck = false; answer = Some word }) ≡ record { number = number; rid = r; replaced = replaced; struck = false; answer = option_or o (Some word) }
   worded number r replaced None word = refl
   worded number r replaced (Some bytes) word = refl
 
@@ -245,8 +318,8 @@ module _ (words later : ℕ → Option (List ℕ)) where
   ended_out book issued breaker word other ends out = changed_out (give_word breaker word other) (λ ticket. keeps_worded (Some (cond (ticket.rid == breaker) word other)) (is_some ticket.answer) ticket)
       (λ number r replaced.
       worded number r replaced (words r) (cond (r == breaker) word other)
-      ∙ ap (λ answer. record { number = number; rid = r; replaced = replaced; answer = answer }) (sym (ends r)))
-      book issued out
+      ∙ ap (λ answer. record { number = number; rid = r; replaced = replaced; struck = false; answer = answer }) (sym (ends r)))
+      (λ number r. refl) book issued out
 
 -- Collecting.
 
@@ -267,6 +340,7 @@ module _ (s : PlainSession) (book : Book) (index : ℕ) (out : AreOut book s.tic
   collects_by : (ticket : Issued) → slice_get s.tickets index ≡ Some ticket → (state : TicketState) → Collects book (suc index) (told_of (out_in (machine.bytes_for s) (suc index) ticket.rid state)) (machine.collected_by s index ticket state)
   collects_by ticket is Waits = collects_bytes ticket is (machine.bytes_for s ticket.rid)
   collects_by ticket is Replaced = (refl, used_up_out (machine.bytes_for s) book s.tickets index ticket is out)
+  collects_by ticket is Struck = (refl, used_up_out (machine.bytes_for s) book s.tickets index ticket is out)
   collects_by ticket is UsedUp = (refl, out)
 
   collects_from : (o : Option Issued) → slice_get s.tickets index ≡ o → Collects book (suc index) (told_of (out_of (machine.bytes_for s) (suc index) o)) (machine.collected_from s index o)

@@ -1,5 +1,5 @@
 -- What a session holds once a copy arrived.
-use Rattle.std.proofs.Common.{◌≡◌, ℕ, suc, ◌+◌, ◌-◌, ◌<◌, ◌≤◌, ◌&&◌, ◌||◌, inl, inr, nat_lt, nat_le, Bool, true, false, List, [], ◌∷◌, ◌++◌, map, length, Option, Some, None, refl, sym, ◌∙◌, ap, subst, arith, add-one}
+use Rattle.std.proofs.Common.{◌≡◌, ℕ, suc, ◌+◌, ◌-◌, ◌<◌, ◌≤◌, ◌&&◌, ◌||◌, inl, inr, nat_lt, nat_le, Bool, true, false, List, [], ◌∷◌, ◌++◌, map, length, Option, Some, None, All, refl, sym, ◌∙◌, ap, subst, arith, add-one}
 use Rattle.std.specs.Prelude.{is_some, not, if◌then◌else◌}
 use Rattle.std.specs.Option.{option_map}
 use Rattle.std.proofs.lemmas.Bool.{cases_eq, cases_lt}
@@ -26,8 +26,8 @@ use Rattle.session_core.specs.Arriving.{with_ticket}
 use Rattle.session_core.specs.Copy.{id_of, is_extra, with_id}
 use Rattle.session_core.specs.Kept.{kept_answer}
 use Rattle.session_core.specs.Machine.{advanced, arrive, arrived_at, arrived_in_time, body_cost, bytes_for, full_with, is_full, placed, plain_cost, refused, replied, reopened, replace as machine_replace, tick, with_cost}
-use Rattle.session_core.specs.StandsFor.{Alike, Holds, IsLater}
-use Rattle.session_core.specs.State.{PlainSession, Issued, Waits, answers, answered_of, first_of, is_over, last_of, standing_at}
+use Rattle.session_core.specs.StandsFor.{Alike, Holds, IsLater, alike_in}
+use Rattle.session_core.specs.State.{PlainSession, Issued, Waits, answers, answered_of, first_of, is_over, last_of, standing, standing_at}
 use Rattle.session_core.specs.Tickets.{Book, answer_of, given, replace, taken_back, ticket_at, without}
 use Rattle.session_core.specs.TicketsOut.{AreOut, out_of}
 use Rattle.session_core.specs.Time.{is_due, time_applied}
@@ -36,6 +36,7 @@ use Rattle.session_core.proofs.AnsweredLemmas.{none_answered, some_same}
 use Rattle.session_core.proofs.AreOut.{at_without_other, at_without_same, given_out, issued_past, issued_push_last, issued_push_other, replaced_out}
 use Rattle.session_core.proofs.EndedLemmas.{live_none, words_live}
 use Rattle.session_core.proofs.RunningLemmas.{length-push, map-push}
+use Rattle.session_core.proofs.StruckLemmas.{error_placed, standing_placed}
 use Rattle.session_core.proofs.TicketsApart.{with_tickets, advanced_apart, settled_apart}
 use Rattle.session_core.proofs.WindowLemmas.{after_none, after_some, later_at}
 
@@ -157,7 +158,9 @@ pub placed_holds : {s : Session} {plain : PlainSession} (copy : RequestCopy) (wi
     → ((w : PlainWindow RequestCopy) → windows.StandsFor s.window w → windows.StandsFor window (record w { placed = w.placed ++ with_id copy ∷ [] }))
     → Holds (record s { window = window; last_arrival = s.moment }) (placed plain copy)
 placed_holds {s = s} {plain = plain} copy window h later places = record {
-  alike = ap (λ (a : Alike). record a { last_arrival = a.now }) h.alike;
+  alike =
+      ap (λ (a : Alike). record a { last_arrival = a.now }) h.alike
+      ∙ (λ i. record (alike_in plain) { last_arrival = plain.now; last_error = sym (error_placed plain copy) i });
   run = h.run;
   latest = h.latest;
   kept = h.kept;
@@ -166,8 +169,9 @@ placed_holds {s = s} {plain = plain} copy window h later places = record {
   tickets = h.tickets;
   window = record {
     stands = subst (λ (pairs : List (ℕ × RequestCopy)). windows.StandsFor window (record { placed = pairs; next = id_after s.last; width = plain.terms.requests }))
-        (sym (map-push with_id (plain.creation ∷ plain.standing) copy)) (places _ h.window.stands);
-    ids = All-push (IsLater (first_of plain)) plain.standing copy h.window.ids later;
+        (sym (map-push with_id (plain.creation ∷ standing plain) copy) ∙ ap (λ (copies : List RequestCopy). map with_id (plain.creation ∷ copies)) (sym (standing_placed plain copy)))
+        (places _ h.window.stands);
+    ids = subst (All (IsLater (first_of plain))) (sym (standing_placed plain copy)) (All-push (IsLater (first_of plain)) (standing plain) copy h.window.ids later);
   };
 }
 

@@ -9,7 +9,7 @@ use Rattle.session_core.specs.declared.session.Session.{Session}
 use Rattle.session_core.specs.Machine.{collect, collected_by, collected_bytes, collected_from, bytes_for, passed_on, take_inward}
 use Rattle.session_core.specs.Outward.{size_of_all}
 use Rattle.session_core.specs.StandsFor.{Holds}
-use Rattle.session_core.specs.State.{PlainSession, Issued, TicketState, Waits, Replaced, UsedUp, inward, waiting_counts}
+use Rattle.session_core.specs.State.{PlainSession, Issued, TicketState, Waits, Replaced, Struck, UsedUp, inward, waiting_counts}
 use Rattle.session_core.specs.Tickets.{Book, collected, ticket_at, told_of}
 use Rattle.session_core.specs.TicketsOut.{AreOut}
 use Rattle.session_core.proofs.AnsweredLemmas.{drop_drop}
@@ -27,6 +27,7 @@ by_bytes plain index ticket (Some bytes) = refl
 by_state : (plain : PlainSession) (index : ℕ) (ticket : Issued) (state : TicketState) → HasTickets plain (collected_by plain index ticket state).0
 by_state plain index ticket Waits = by_bytes plain index ticket (bytes_for plain ticket.rid)
 by_state plain index ticket Replaced = refl
+by_state plain index ticket Struck = refl
 by_state plain index ticket UsedUp = refl
 
 by_ticket : (plain : PlainSession) (index : ℕ) (o : Option Issued) → HasTickets plain (collected_from plain index o).0

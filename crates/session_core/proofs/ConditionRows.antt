@@ -34,6 +34,7 @@ creation = record {
   greeting = codes "<stream:features/>" ∷ [];
   at = 0;
   limit = 16777216;
+  gap_waits = 1;
 }
 
 pub opens : IsOpening creation
@@ -43,6 +44,7 @@ opens = record {
   creation = (usual, refl, refl);
   sid = ((IsUtf8-from_is_utf8 (codes "s1") refl, refl), omega arith, omega arith);
   host = ((IsUtf8-from_is_utf8 (codes "example.org") refl, refl), omega arith, omega arith);
+  gap = (omega arith, omega arith);
   greeting = (refl, omega arith, omega arith);
 }
 

@@ -11,7 +11,7 @@ use Rattle.session_core.specs.declared.replies.Taken.TheVariants as takings
 use Rattle.session_core.specs.declared.replies.Ticked.TheVariants.{Changed, Quiet}
 use Rattle.session_core.specs.Journal.{Collect, Back, BackClosed, Tick, ToArrive, ToCollect, ToBack, ToTick}
 use Rattle.session_core.specs.Machine.{created_parts}
-use Rattle.session_core.proofs.RowTools.{usual, opening, opening_with, empty, carrying, plain, outcome, empty_body, ack_body, payload_body, terminal_body, terminate_body, bodies_compute}
+use Rattle.session_core.proofs.RowTools.{usual, opening, opening_with, empty, carrying, plain, outcome, empty_body, ack_body, payload_body, terminal_body, terminate_body, error_body, bodies_compute}
 
 -- an empty request too soon after the one before it ends the session
 empty_requests_too_often :
@@ -153,19 +153,47 @@ reports_nothing_before_a_second :
 unfolding bodies_compute
 reports_nothing_before_a_second = refl
 
--- what stands beyond a gap keeps a session for its usual silence
-silence_beyond_a_gap :
-    outcome opening (carrying (empty 1002) (codes "<b/>") 20000 ∷ Tick 50000 ∷ Tick 50001 ∷ Collect 1 ∷ [])
+-- while a copy stands beyond a gap there is no silence, and then silence counts from the error
+silence_after_the_last_error :
+    outcome opening (carrying (empty 1002) (codes "<b/>") 20000 ∷ Tick 50001 ∷ Tick 80000 ∷ Collect 1 ∷ Tick 110000 ∷ Tick 110001 ∷ [])
+    ≡ record {
+      replies = ToArrive (Parked 1) ∷ ToTick Quiet ∷ ToTick Changed ∷ ToCollect (collections.Answer error_body) ∷ ToTick Quiet ∷ ToTick Changed ∷ [];
+      last = 1000;
+      answered = 1000;
+      inward = [];
+      waiting = [];
+      ending = Some (endings.Silent 80000 110001);
+    }
+unfolding bodies_compute
+silence_after_the_last_error = refl
+
+-- what is held is answered and never struck, and the error is told after the ending too
+error_after_the_ending :
+    outcome opening (carrying (empty 1001) (codes "<a/>") 0 ∷ carrying (empty 1003) (codes "<c/>") 0 ∷ Tick 60000 ∷ Collect 1 ∷ carrying (record (empty 1002) { terminate = true }) (codes "<b/>") 60000 ∷ Collect 2 ∷ [])
+    ≡ record {
+      replies = ToArrive (Parked 1) ∷ ToArrive (Parked 2) ∷ ToTick Changed ∷ ToCollect (collections.Answer empty_body) ∷ ToArrive (Answer terminate_body) ∷ ToCollect (collections.Answer error_body) ∷ [];
+      last = 1002;
+      answered = 1001;
+      inward = Item 0 (codes "<a/>") ∷ Item 0 (codes "<b/>") ∷ [];
+      waiting = [];
+      ending = Some (endings.Terminated 1002);
+    }
+unfolding bodies_compute
+error_after_the_ending = refl
+
+-- a polling session falls silent with a copy beyond a gap, which then has its last word
+silence_of_a_poll_beyond_a_gap :
+    outcome (opening_with (record usual { hold = Some 0 }) None 1000) (plain (record (empty 1002) { pause = Some 60 }) 20000 ∷ Tick 95000 ∷ Tick 95001 ∷ Collect 1 ∷ [])
     ≡ record {
       replies = ToArrive (Parked 1) ∷ ToTick Quiet ∷ ToTick Changed ∷ ToCollect (collections.Answer (terminal_body (codes "item-not-found"))) ∷ [];
       last = 1000;
       answered = 1000;
       inward = [];
       waiting = [];
-      ending = Some (endings.Silent 20000 50001);
+      ending = Some (endings.Silent 20000 95001);
     }
 unfolding bodies_compute
-silence_beyond_a_gap = refl
+silence_of_a_poll_beyond_a_gap = refl
 
 -- a stream that is not open ends the session
 stream_that_is_not_open :

@@ -50,7 +50,7 @@ overactive = (refl, refl, _, refl, (refl, refl, (λ seconds asks. absurd (cc)), 
 
 silent : ShownBy (opened opening) (Made (Tick 30001)) (endings.Silent 0 30001)
 unfolding bodies_compute
-silent = (refl, refl, refl, omega arith)
+silent = (refl, (λ holds. refl), refl, refl, omega arith)
 
 closed : ShownBy (after (opened opening) (carrying (empty 1001) (codes "<a/>") 0 ∷ [])) (Made (BackClosed 0 closings.Plain 0)) (endings.Closed closings.Plain 1001)
 unfolding bodies_compute
@@ -65,7 +65,7 @@ journal_full = (refl, refl, omega arith)
 -- a copy beyond the window comes when time has ended the session
 silent_and_not_above : ShownBy (opened opening) (Made (plain (empty 1009) 30001)) (endings.Silent 0 30001)
 unfolding bodies_compute
-silent_and_not_above = (refl, refl, refl, omega arith)
+silent_and_not_above = (refl, (λ holds. refl), refl, refl, omega arith)
 
 not_above_after_silence : ShownBy (opened opening) (Made (plain (empty 1009) 30001)) (endings.Above 1009 1000 2) → ⊥
 unfolding bodies_compute

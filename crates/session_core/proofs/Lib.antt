@@ -13,6 +13,7 @@ pub mod RuleLemmas
 pub mod WindowLemmas
 pub mod RunningLemmas
 pub mod TakenUp
+pub mod StruckLemmas
 pub mod TicketsApart
 pub mod StandingLemmas
 pub mod EndedLemmas

@@ -14,7 +14,7 @@ use Rattle.session_core.specs.Endings.{ended}
 use Rattle.session_core.specs.Machine.{next_copy, process, unless_terminate, with_copy}
 use Rattle.session_core.specs.Rules.{Asks, Keys, Streams, Pauses, Activity, breaks, broken_rule, asked_of, mark_of, pause_breaks}
 use Rattle.session_core.specs.StandsFor.{Alike, Holds, asks_of}
-use Rattle.session_core.specs.State.{PlainSession, answered_of}
+use Rattle.session_core.specs.State.{PlainSession, answered_of, standing}
 use Rattle.session_core.specs.Words.{IsAnswerable}
 use Rattle.session_core.proofs.StandingLemmas.{held_length}
 use Rattle.session_core.proofs.TakenUp.{next_stands, some_below}
@@ -70,9 +70,9 @@ module _ {s : Session} {plain : PlainSession} where
   pub next_below : (copy : RequestCopy) → Holds s plain → next_copy plain ≡ Some copy → answered_of plain < greatest_rid
   next_below copy h next =
       let some = next_stands plain copy next in
-      let at : at_id (map with_id plain.standing) (s.last + 1) ≡ Some copy =
-      ap (λ (last : ℕ). at_id (map with_id plain.standing) (last + 1)) h.run.last_is ∙ some.1 in
-      omega (arith, some_below plain.creation plain.standing s.last copy h.window.ids at, h.run.last_is, h.run.within)
+      let at : at_id (map with_id (standing plain)) (s.last + 1) ≡ Some copy =
+      ap (λ (last : ℕ). at_id (map with_id (standing plain)) (last + 1)) h.run.last_is ∙ some.1 in
+      omega (arith, some_below plain.creation (standing plain) s.last copy h.window.ids at, h.run.last_is, h.run.within)
 
 by_rule : (o : Option Ending) (plain : PlainSession) (copy : RequestCopy) (other : Option Ending) → o ≡ other
     → (elim o as (λ x. PlainSession) [ Some ending ↦ ended ending plain | None ↦ unless_terminate (with_copy plain copy) copy ])

@@ -48,6 +48,7 @@ opening_with creation newkey rid = record {
   greeting = codes "<stream:features/>" ∷ [];
   at = 0;
   limit = 16777216;
+  gap_waits = 1;
 }
 
 abbrev pub opening : Opening
@@ -127,6 +128,14 @@ terminal_body condition =
 
 abbrev pub terminate_body : List ℕ
 terminate_body = codes "<body xmlns='http://jabber.org/protocol/httpbind' type='terminate'/>"
+
+-- what the request of a struck copy is told
+abbrev pub error_body : List ℕ
+error_body = codes "<body xmlns='http://jabber.org/protocol/httpbind' type='error'/>"
+
+-- a creation that asks for ten seconds at most
+abbrev pub short : Creation
+short = record usual { wait = Some 10 }
 
 -- what an answer unfolds to compute a body, and a key
 unfoldable pub bodies_compute : ⊤

@@ -11,7 +11,7 @@ use Rattle.session_core.specs.declared.replies.Ticked.TheVariants.{Changed, Quie
 use Rattle.session_core.specs.Journal.{Collect, Back, Tick, TakeInward, ToArrive, ToCollect, ToBack, ToTick, ToTakeInward}
 use Rattle.session_core.specs.Machine.{created_parts}
 use Rattle.session_core.specs.declared.outward.Outward.TheVariants.{Stanza}
-use Rattle.session_core.proofs.RowTools.{usual, opening, opening_with, empty, carrying, plain, outcome, empty_body, ack_body, payload_body, terminal_body, bodies_compute, keys_compute}
+use Rattle.session_core.proofs.RowTools.{usual, opening, opening_with, empty, carrying, plain, outcome, empty_body, ack_body, payload_body, terminal_body, error_body, short, bodies_compute, keys_compute}
 
 -- the answer to a creation
 creation : answer_text (created_parts opening) ≡ codes "<body xmlns='http://jabber.org/protocol/httpbind' xmlns:xmpp='urn:xmpp:xbosh' xmlns:stream='http://etherx.jabber.org/streams' sid='s1' wait='60' requests='2' inactivity='30' polling='5' maxpause='120' hold='1' ver='1.6' from='example.org' ack='1000' xmpp:version='1.0' xmpp:restartlogic='true'><stream:features/></body>"
@@ -241,3 +241,87 @@ pause_too_long :
     }
 unfolding bodies_compute
 pause_too_long = refl
+
+-- a copy beyond a gap is struck exactly when it has waited its time, and is received once it comes again
+struck_at_its_wait :
+    outcome (opening_with short None 1000) (carrying (empty 1002) (codes "<b/>") 0 ∷ Tick 9999 ∷ Collect 1 ∷ Tick 10000 ∷ Collect 1 ∷ Collect 1 ∷ carrying (empty 1001) (codes "<a/>") 10000 ∷ carrying (empty 1002) (codes "<b/>") 10000 ∷ Collect 2 ∷ [])
+    ≡ record {
+      replies = ToArrive (Parked 1) ∷ ToTick Quiet ∷ ToCollect collections.NotYet ∷ ToTick Changed ∷ ToCollect (collections.Answer error_body) ∷ ToCollect collections.UnknownTicket ∷ ToArrive (Parked 2) ∷ ToArrive (Parked 3) ∷ ToCollect (collections.Answer (ack_body 1002)) ∷ [];
+      last = 1002;
+      answered = 1001;
+      inward = Item 0 (codes "<a/>") ∷ Item 0 (codes "<b/>") ∷ [];
+      waiting = [];
+      ending = None;
+    }
+unfolding bodies_compute
+struck_at_its_wait = refl
+
+-- time comes first: where the missing copy arrives at that very moment, the one beyond the gap is struck before the gap is filled
+struck_before_the_gap_is_filled :
+    outcome (opening_with short None 1000) (carrying (empty 1002) (codes "<b/>") 0 ∷ carrying (empty 1001) (codes "<a/>") 10000 ∷ Collect 1 ∷ Collect 2 ∷ [])
+    ≡ record {
+      replies = ToArrive (Parked 1) ∷ ToArrive (Parked 2) ∷ ToCollect (collections.Answer error_body) ∷ ToCollect collections.NotYet ∷ [];
+      last = 1001;
+      answered = 1000;
+      inward = Item 0 (codes "<a/>") ∷ [];
+      waiting = [];
+      ending = None;
+    }
+unfolding bodies_compute
+struck_before_the_gap_is_filled = refl
+
+-- all that have waited their time are struck at once, and no other
+several_struck_at_once :
+    outcome (opening_with (record short { hold = Some 4 }) None 1000) (carrying (empty 1005) (codes "<e/>") 0 ∷ carrying (empty 1003) (codes "<c/>") 0 ∷ carrying (empty 1002) (codes "<b/>") 1 ∷ Tick 10000 ∷ Collect 1 ∷ Collect 2 ∷ Collect 3 ∷ Tick 10000 ∷ Tick 10001 ∷ Collect 3 ∷ [])
+    ≡ record {
+      replies = ToArrive (Parked 1) ∷ ToArrive (Parked 2) ∷ ToArrive (Parked 3) ∷ ToTick Changed ∷ ToCollect (collections.Answer error_body) ∷ ToCollect (collections.Answer error_body) ∷ ToCollect collections.NotYet ∷ ToTick Quiet ∷ ToTick Changed ∷ ToCollect (collections.Answer error_body) ∷ [];
+      last = 1000;
+      answered = 1000;
+      inward = [];
+      waiting = [];
+      ending = None;
+    }
+unfolding bodies_compute
+several_struck_at_once = refl
+
+-- a struck id may come again, and then waits for its own time; the request before it still has its error to tell
+struck_and_sent_again :
+    outcome (opening_with short None 1000) (carrying (empty 1002) (codes "<b/>") 0 ∷ Tick 10000 ∷ carrying (empty 1002) (codes "<b/>") 10001 ∷ Collect 2 ∷ Collect 1 ∷ Tick 20000 ∷ Tick 20001 ∷ Collect 2 ∷ [])
+    ≡ record {
+      replies = ToArrive (Parked 1) ∷ ToTick Changed ∷ ToArrive (Parked 2) ∷ ToCollect collections.NotYet ∷ ToCollect (collections.Answer error_body) ∷ ToTick Quiet ∷ ToTick Changed ∷ ToCollect (collections.Answer error_body) ∷ [];
+      last = 1000;
+      answered = 1000;
+      inward = [];
+      waiting = [];
+      ending = None;
+    }
+unfolding bodies_compute
+struck_and_sent_again = refl
+
+-- a repeat beyond the gap takes the place of the request that waits, and not the moment of the copy that stands
+repeated_and_struck :
+    outcome (opening_with short None 1000) (carrying (empty 1002) (codes "<b/>") 0 ∷ carrying (empty 1002) (codes "<b/>") 5000 ∷ Tick 10000 ∷ Collect 1 ∷ Collect 2 ∷ [])
+    ≡ record {
+      replies = ToArrive (Parked 1) ∷ ToArrive (Parked 2) ∷ ToTick Changed ∷ ToCollect collections.Superseded ∷ ToCollect (collections.Answer error_body) ∷ [];
+      last = 1000;
+      answered = 1000;
+      inward = [];
+      waiting = [];
+      ending = None;
+    }
+unfolding bodies_compute
+repeated_and_struck = refl
+
+-- a polling session strikes nothing; only a pause or a terminate reaches beyond a gap there
+polls_strike_nothing :
+    outcome (opening_with (record short { hold = Some 0 }) None 1000) (plain (record (empty 1002) { pause = Some 60 }) 0 ∷ Tick 10000 ∷ Collect 1 ∷ carrying (empty 1001) (codes "<a/>") 20000 ∷ Collect 1 ∷ [])
+    ≡ record {
+      replies = ToArrive (Parked 1) ∷ ToTick Quiet ∷ ToCollect collections.NotYet ∷ ToArrive (Answer (ack_body 1002)) ∷ ToCollect (collections.Answer empty_body) ∷ [];
+      last = 1002;
+      answered = 1002;
+      inward = Item 0 (codes "<a/>") ∷ [];
+      waiting = [];
+      ending = None;
+    }
+unfolding bodies_compute
+polls_strike_nothing = refl

@@ -3,6 +3,7 @@ use Rattle.std.proofs.Common.{◌≡◌, ℕ, suc, ◌+◌, ◌==◌, ◌&&◌, 
 use Rattle.std.specs.Prelude.{◌↔◌, is_some, IsTrue, if◌then◌else◌}
 use Rattle.std.specs.List.{list_any}
 use Rattle.bosh_types.specs.ById.{at_id}
+use Rattle.bosh_types.specs.declared.terms.Terms.{Terms}
 use Rattle.pause_rules.specs.Due.{is_wait_due}
 use Rattle.rid_window.specs.PlainWindow.{item_at, id_after, IsClear}
 use Rattle.session_core.specs.declared.copy.RequestCopy.{RequestCopy}
@@ -12,9 +13,9 @@ use Rattle.session_core.specs.Answers.{has_reason, has_reason_for}
 use Rattle.session_core.specs.Copy.{with_id, is_pause}
 use Rattle.session_core.specs.Machine.{next_copy}
 use Rattle.session_core.specs.StandsFor.{Alike, Holds, held_of}
-use Rattle.session_core.specs.State.{PlainSession, held, last_of, is_over, waiting}
+use Rattle.session_core.specs.State.{PlainSession, beyond, held, last_of, is_over, standing, waiting}
 use Rattle.session_core.specs.Steps.{wants, wants_answer}
-use Rattle.session_core.specs.Time.{quiet_of}
+use Rattle.session_core.specs.Time.{last_told, owes_nothing_beyond, quiet_of}
 use Rattle.session_core.proofs.WindowLemmas.{above, clear_is, next_at}
 
 module _ {s : Session} {plain : PlainSession} where
@@ -39,26 +40,50 @@ module _ {s : Session} {plain : PlainSession} where
 
   -- no copy is next in a session that has ended
   pub next_over : Holds s plain → is_some s.ending ≡ true → None ≡ next_copy plain
-  next_over h over = sym (ap (λ (b : Bool). if b then None else at_id (map with_id plain.standing) (last_of plain + 1)) (sym (over_is h) ∙ over))
+  next_over h over = sym (ap (λ (b : Bool). if b then None else at_id (map with_id (standing plain)) (last_of plain + 1)) (sym (over_is h) ∙ over))
 
   -- the first item of the window is next in a session that goes on
   pub next_live : (found : Option RequestCopy) → Holds s plain → is_some s.ending ≡ false
-      → found ≡ item_at (id_after s.last) (map with_id (plain.creation ∷ plain.standing)) → found ≡ next_copy plain
+      → found ≡ item_at (id_after s.last) (map with_id (plain.creation ∷ standing plain)) → found ≡ next_copy plain
   next_live found h live is =
-      is ∙ next_at plain.creation plain.standing s.last h.window.ids (omega (arith, h.run.last_is))
-      ∙ ap (λ (last : ℕ). at_id (map with_id plain.standing) (last + 1)) h.run.last_is
-      ∙ sym (ap (λ (b : Bool). if b then None else at_id (map with_id plain.standing) (last_of plain + 1)) (sym (over_is h) ∙ live))
+      is ∙ next_at plain.creation (standing plain) s.last h.window.ids (omega (arith, h.run.last_is))
+      ∙ ap (λ (last : ℕ). at_id (map with_id (standing plain)) (last + 1)) h.run.last_is
+      ∙ sym (ap (λ (b : Bool). if b then None else at_id (map with_id (standing plain)) (last_of plain + 1)) (sym (over_is h) ∙ live))
+
+  -- whether one stands beyond the gap
+  pub clear_of : (clear : Bool) → Holds s plain
+      → (IsTrue clear ↔ IsClear (record { placed = map with_id (plain.creation ∷ standing plain); next = id_after s.last; width = plain.terms.requests }))
+      → clear ≡ (length (beyond plain) == 0)
+  clear_of clear h told =
+      clear_is clear plain.creation (standing plain) s.last h.window.ids (omega (arith, h.run.last_is)) told.0 told.1
+      ∙ ap (λ (last : ℕ). length (above last (standing plain)) == 0) h.run.last_is
+
+  -- in a session that doesn't poll
+  pub nothing_beyond_is : (polled clear : Bool) → Holds s plain → polled ≡ s.deadlines.terms.polled
+      → (IsTrue clear ↔ IsClear (record { placed = map with_id (plain.creation ∷ standing plain); next = id_after s.last; width = plain.terms.requests }))
+      → (polled || clear) ≡ owes_nothing_beyond plain
+  nothing_beyond_is polled clear h is told =
+      let polls : polled ≡ plain.terms.polled = is ∙ ap (λ (t : Terms). t.polled) (terms_is h) in
+      (λ i. polls i || clear_of clear h told i)
+
+  -- in one that polls nothing is owed
+  pub polls_nothing : Holds s plain → s.deadlines.terms.polled ≡ true → true ≡ owes_nothing_beyond plain
+  polls_nothing h is =
+      let polls : plain.terms.polled ≡ true = sym (ap (λ (t : Terms). t.polled) (terms_is h)) ∙ is in
+      sym (ap (λ (b : Bool). b || (length (beyond plain) == 0)) polls)
+
+  -- when the client was last told something
+  pub told_is : Holds s plain → max s.last_given s.last_error ≡ last_told plain
+  told_is h = (λ i. max (h.latest.given_is i) (ap (λ (a : Alike). a.last_error) h.alike i))
 
   -- since when it is quiet
   pub quiet_is : (clear b : Bool) → clear ≡ b → Holds s plain
-      → (IsTrue clear ↔ IsClear (record { placed = map with_id (plain.creation ∷ plain.standing); next = id_after s.last; width = plain.terms.requests }))
-      → (if b then s.last_given else max s.last_given s.last_arrival) ≡ quiet_of plain
+      → (IsTrue clear ↔ IsClear (record { placed = map with_id (plain.creation ∷ standing plain); next = id_after s.last; width = plain.terms.requests }))
+      → (if b then max s.last_given s.last_error else max (max s.last_given s.last_error) s.last_arrival) ≡ quiet_of plain
   quiet_is clear b is h told =
-      let empty : b ≡ (length (above (last_of plain) plain.standing) == 0) =
-      sym is ∙ clear_is clear plain.creation plain.standing s.last h.window.ids (omega (arith, h.run.last_is)) told.0 told.1
-      ∙ ap (λ (last : ℕ). length (above last plain.standing) == 0) h.run.last_is in
+      let empty : b ≡ (length (beyond plain) == 0) = sym is ∙ clear_of clear h told in
       let arrival : s.last_arrival ≡ plain.last_arrival = ap (λ (a : Alike). a.last_arrival) h.alike in
-      (λ i. if empty i then h.latest.given_is i else max (h.latest.given_is i) (arrival i))
+      (λ i. if empty i then told_is h i else max (told_is h i) (arrival i))
 
 any_map : (p : HeldRequest → Bool) (copies : List RequestCopy) → list_any p (map held_of copies) ≡ list_any (λ copy. p (held_of copy)) copies
 any_map p [] = refl

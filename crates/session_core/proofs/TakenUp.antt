@@ -25,7 +25,7 @@ use Rattle.session_core.specs.Kept.{keep_of}
 use Rattle.session_core.specs.Machine.{next_copy, with_copy}
 use Rattle.session_core.specs.Rules.{mark_of}
 use Rattle.session_core.specs.StandsFor.{Alike, Holds, IsLater, alike_of, held_of}
-use Rattle.session_core.specs.State.{PlainSession, last_of, answered_of, standing_at, is_over}
+use Rattle.session_core.specs.State.{PlainSession, last_of, answered_of, standing, standing_at, is_over}
 use Rattle.session_core.specs.Steps.{period_of}
 use Rattle.session_core.proofs.RunningLemmas.{run-push, latest-push, inward-push}
 use Rattle.session_core.proofs.WindowLemmas.{after_some, later_at, none_beyond}
@@ -129,14 +129,14 @@ pub taken_up : (s : Session) (plain : PlainSession) (copy : RequestCopy) (deadli
     → Holds after (with_copy plain copy)
 taken_up s plain copy deadlines key acks keep window held queue after h is dl ky ak kp wn hd qu al e_keep e_window e_held e_inward e_last e_outbox e_tickets e_answered e_latest e_given e_bare =
     let next = next_stands plain copy is in
-    let at : at_id (map with_id plain.standing) (s.last + 1) ≡ Some copy =
-    ap (λ (last : ℕ). at_id (map with_id plain.standing) (last + 1)) h.run.last_is ∙ next.1 in
-    let id : id_of copy ≡ s.last + 1 = id_at plain.standing (s.last + 1) copy at in
+    let at : at_id (map with_id (standing plain)) (s.last + 1) ≡ Some copy =
+    ap (λ (last : ℕ). at_id (map with_id (standing plain)) (last + 1)) h.run.last_is ∙ next.1 in
+    let id : id_of copy ≡ s.last + 1 = id_at (standing plain) (s.last + 1) copy at in
     let first : id_of plain.creation ≤ s.last = omega (arith, h.run.last_is) in
     let reporting : acks ≡ after_request s.acks (keep_of plain) copy.request.ack (answered_of plain) s.moment =
     ak (keep_of plain) h.kept.keeps
     ∙ ap (λ (answered : ℕ). after_request s.acks (keep_of plain) copy.request.ack answered s.moment) h.run.answered_is in
-    let own : IsLater (id_of plain.creation) copy = later_of_all (id_of plain.creation) plain.standing (s.last + 1) copy h.window.ids at in
+    let own : IsLater (id_of plain.creation) copy = later_of_all (id_of plain.creation) (standing plain) (s.last + 1) copy h.window.ids at in
     let same : s.acks ≡ plain.reporting = ap (λ (a : Alike). a.reporting) h.alike in
     record {
       alike =
@@ -159,8 +159,8 @@ taken_up s plain copy deadlines key acks keep window held queue after h is dl ky
       window = record {
         stands =
             rw (e_window, e_last)
-            (subst (λ (next : Option ℕ). windows.StandsFor window (record { placed = map with_id (plain.creation ∷ plain.standing); next = next; width = plain.terms.requests }))
-            (next_window (record { placed = map with_id (plain.creation ∷ plain.standing); next = id_after s.last; width = plain.terms.requests }) plain.creation plain.standing s.last copy refl refl h.window.ids first at)
+            (subst (λ (next : Option ℕ). windows.StandsFor window (record { placed = map with_id (plain.creation ∷ standing plain); next = next; width = plain.terms.requests }))
+            (next_window (record { placed = map with_id (plain.creation ∷ standing plain); next = id_after s.last; width = plain.terms.requests }) plain.creation (standing plain) s.last copy refl refl h.window.ids first at)
             (wn _ h.window.stands));
         ids = h.window.ids;
       };

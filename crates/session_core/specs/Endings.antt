@@ -6,7 +6,7 @@ use Rattle.bosh_types.specs.declared.ending.Closing.{Closing}
 use Rattle.bosh_types.specs.declared.ending.Closing.TheVariants.{Plain, RemoteConnectionFailed, RemoteStreamError, SystemShutdown}
 use Rattle.bosh_types.specs.declared.ending.Ending.{Ending}
 use Rattle.bosh_types.specs.declared.ending.Ending.TheVariants.{Terminated, Stale, Above, WrongKey, UnknownStream, PauseTooLong, Overactive, Silent, Closed, JournalFull}
-use Rattle.body_writer.specs.declared.answer.AnswerKind.TheVariants.{Usual, Terminate}
+use Rattle.body_writer.specs.declared.answer.AnswerKind.TheVariants.{Usual, Terminate, Error}
 use Rattle.body_writer.specs.declared.answer.AnswerParts.{AnswerParts}
 use Rattle.body_writer.specs.Answer.{answer_text}
 use Rattle.session_core.specs.State.{PlainSession}
@@ -18,6 +18,13 @@ terminal condition = record { created = None; kind = Terminate; condition = cond
 -- a body that says nothing
 abbrev pub nothing : AnswerParts
 nothing = record { created = None; kind = Usual; condition = None; ack = None; report = None; payloads = [] }
+
+-- the request counts as not received, and the client repeats it with all earlier ones that have no answer, XEP-0124 section 17.3
+abbrev pub error_parts : AnswerParts
+error_parts = record { created = None; kind = Error; condition = None; ack = None; report = None; payloads = [] }
+
+abbrev pub error_text : List ℕ
+error_text = answer_text error_parts
 
 -- what the client is told of a closing, XEP-0206 section 8
 abbrev pub closing_condition : Closing → Option Condition

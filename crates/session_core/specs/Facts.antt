@@ -14,7 +14,7 @@ use Rattle.session_core.specs.Kept.{kept_of, lowest_kept}
 use Rattle.session_core.specs.Machine.{copy_now}
 use Rattle.session_core.specs.Outward.{OfClosing}
 use Rattle.session_core.specs.Rules.{mark_of, asked_of}
-use Rattle.session_core.specs.State.{PlainSession, Answered, last_of, answered_of, standing_at, last_answer, held, is_over}
+use Rattle.session_core.specs.State.{PlainSession, Answered, last_of, answered_of, standing_at, last_answer, held, beyond, is_over}
 use Rattle.session_core.specs.Time.{quiet_of}
 use Rattle.session_core.specs.Window.{is_above}
 
@@ -78,9 +78,9 @@ Fact tested entered after (Overactive rid distance) =
     OfNext after rid (λ copy. HasKey after copy × IsUnnamed copy × IsShort after copy
     × IsTrue (is_overactive after.terms (asked_of after).held (mark_of copy) (asked_of after).prior)
     × (distance ≡ apart (mark_of copy) (asked_of after).prior))
--- no request was held, and it was quiet for longer than allowed
+-- no request was held, in a session that doesn't poll none stood beyond the gap, and it was quiet for longer than allowed
 Fact tested entered after (Silent since now) =
-    (held after ≡ []) × (since ≡ quiet_of after) × (now ≡ after.now) × (since + after.period * 1000 < now)
+    (held after ≡ []) × (after.terms.polled ≡ false → beyond after ≡ []) × (since ≡ quiet_of after) × (now ≡ after.now) × (since + after.period * 1000 < now)
 -- the last answer took the closing
 Fact tested entered after (Closed closing rid) = TookClosing (last_answer after) rid closing
 -- the journal had no room

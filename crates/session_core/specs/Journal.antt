@@ -1,5 +1,5 @@
 -- The journal of a session: every call that changed it or might have, in order, and what the session is after them.
-use Rattle.std.specs.Prelude.{◌≡◌, ℕ, ◌≤◌, ⊤, IsTrue, length, ◌+◌, List, [], ◌∷◌, Option, Some, None, Ok, is_some, sum_by, if◌then◌else◌}
+use Rattle.std.specs.Prelude.{◌≡◌, ℕ, ◌≤◌, ⊤, true, false, IsTrue, length, ◌+◌, List, [], ◌∷◌, Option, Some, None, Ok, is_some, sum_by, if◌then◌else◌}
 use Rattle.std.specs.List.{list_all}
 use Rattle.bosh_types.specs.declared.ending.Closing.{Closing}
 use Rattle.bosh_types.specs.Limits.{most_waiting, longest_stanza}
@@ -142,6 +142,8 @@ pub record IsOpening (o : Opening) : Type 0 where
   pub creation : (creation : Creation) × (o.request.kind ≡ kinds.Creation creation) × (o.terms ≡ terms_of creation)
   pub sid : IsText o.sid × (1 ≤ length o.sid) × (length o.sid ≤ 64)
   pub host : IsText o.host × (1 ≤ length o.host) × (length o.host ≤ 1023)
+  -- a copy beyond a gap is struck after 1 to 10 times `wait`
+  pub gap : (1 ≤ o.gap_waits) × (o.gap_waits ≤ 10)
   pub greeting : IsTrue (list_all is_stanza o.greeting) × (length o.greeting ≤ most_waiting) × (size_of_all (greeting_of o) ≤ longest_stanza)
 
 -- what a session is asked of each call: a copy is a later request and is read from its body, and the server gives stanzas
@@ -153,12 +155,25 @@ IsAllowed (BackClosed stream closing now) = ⊤
 IsAllowed (Tick now) = ⊤
 IsAllowed TakeInward = ⊤
 
--- each entry is what its call enters after those before it
+-- time meets the limit only where it has something to do
+abbrev pub IsTimely : PlainSession → Limited → ℕ → Type 0
+IsTimely s Arrival now = ⊤
+IsTimely s ServerStanza now = ⊤
+IsTimely s ServerClosing now = ⊤
+IsTimely s Time now = is_due s now ≡ true
+
+-- what may be entered after a state: what an allowed call enters; or the limit, wherever the session goes on and its journal has
+-- no room for the cost
+abbrev pub MayEnter : PlainSession → Entered → Type 0
+MayEnter s (Made call) = IsAllowed call × (entered_by s call ≡ Some (Made call))
+MayEnter s (Limit kind cost now) = (is_over s ≡ false) × (is_full s cost ≡ true) × IsTimely s kind now
+
+-- each entry is one that may be entered after those before it
 pub data IsMade : PlainSession → List Entry → Type 0 where
   none : {s : PlainSession} → IsMade s []
-  more : {s : PlainSession} (call : Call) {entry : Entry} {entries : List Entry}
-      → IsAllowed call → entered_by s call ≡ Some entry.entered → IsMade (after_entry s entry.entered) entries → IsMade s (entry ∷ entries)
+  more : {s : PlainSession} {entry : Entry} {entries : List Entry}
+      → MayEnter s entry.entered → IsMade (after_entry s entry.entered) entries → IsMade s (entry ∷ entries)
 
--- a journal is made by calls
+-- a journal begins with an opening, and each entry after it might be entered there
 abbrev pub IsJournal : Journal → Type 0
 IsJournal journal = IsOpening journal.opening × IsMade (opened journal.opening) journal.entries

@@ -3,12 +3,14 @@ pub mod Arriving
 pub mod Copy
 pub mod Endings
 pub mod Facts
+pub mod Gap
 pub mod Journal
 pub mod Kept
 pub mod Machine
 pub mod Opened
 pub mod Outward
 pub mod Passed
+pub mod Placed
 pub mod Points
 pub mod Queue
 pub mod ReadBack
@@ -17,6 +19,7 @@ pub mod Run
 pub mod StandsFor
 pub mod State
 pub mod Steps
+pub mod Striking
 pub mod Tickets
 pub mod TicketsOut
 pub mod Time

@@ -35,11 +35,11 @@ use Rattle.session_core.specs.declared.replies.Ticked.{Ticked}
 use Rattle.session_core.specs.declared.replies.Ticked.TheVariants.{Changed, Quiet}
 use Rattle.session_core.specs.Answers.{settled}
 use Rattle.session_core.specs.Copy.{id_of, is_pause, unnamed}
-use Rattle.session_core.specs.Endings.{terminal, last_word, ended}
+use Rattle.session_core.specs.Endings.{terminal, error_text, last_word, ended}
 use Rattle.session_core.specs.Kept.{answer_at, keep_of, kept_of, lowest_kept}
 use Rattle.session_core.specs.Outward.{OfStanzas, is_close, size_of_all}
 use Rattle.session_core.specs.Rules.{broken_rule, asked_of}
-use Rattle.session_core.specs.State.{PlainSession, Answered, Issued, TicketState, Waits, Replaced, UsedUp, last_of, answered_of, standing_at, waiting, inward, is_over}
+use Rattle.session_core.specs.State.{PlainSession, Answered, Issued, TicketState, Waits, Replaced, Struck, UsedUp, Stands, last_of, answered_of, standing_at, waiting, inward, is_over}
 use Rattle.session_core.specs.Time.{time_applied, is_due}
 use Rattle.session_core.specs.Window.{place_of}
 
@@ -97,7 +97,7 @@ abbrev pub opened : Opening → PlainSession
 opened o = record {
   creation = creation_of o;
   terms = o.terms;
-  standing = [];
+  placings = [];
   processed = [];
   key = o.request.newkey;
   period = o.terms.inactivity;
@@ -112,6 +112,7 @@ opened o = record {
   passed = 0;
   counted = body_cost o.request o.body;
   limit = o.limit;
+  gap_waits = o.gap_waits;
   ending = None;
 }
 
@@ -154,10 +155,11 @@ advanced s = advanced_in (greatest_rid - last_of s) s
 
 -- An arriving copy.
 
--- what becomes of a ticket where a later copy comes
+-- what becomes of a ticket where a later copy comes: one whose copy was struck still has its error to tell
 abbrev pub replaced : TicketState → TicketState
 replaced Waits = Replaced
 replaced Replaced = Replaced
+replaced Struck = Struck
 replaced UsedUp = UsedUp
 
 -- older copies of the id wait no longer
@@ -193,7 +195,7 @@ reopened s rid = wait_at (record s { tickets = map (replace rid) s.tickets; last
 
 -- the copy stands for its id from now on
 abbrev pub placed : PlainSession → RequestCopy → PlainSession
-placed s copy = record s { standing = s.standing ++ copy ∷ []; last_arrival = s.now }
+placed s copy = record s { placings = s.placings ++ Stands copy ∷ []; last_arrival = s.now }
 
 abbrev pub arrived_at : PlainSession → RequestCopy → Place → PlainSession × Arrived
 arrived_at s copy places.Answered = repeated s (id_of copy) (kept_of s (id_of copy))
@@ -226,10 +228,11 @@ abbrev pub collected_bytes : PlainSession → ℕ → Issued → Option (List �
 collected_bytes s index ticket None = (s, collections.NotYet)
 collected_bytes s index ticket (Some bytes) = (use_up s index ticket, collections.Answer bytes)
 
--- a copy whose place was taken is told so, even where its id was answered since
+-- a copy whose place was taken is told so, even where its id was answered since; so is one that was struck
 abbrev pub collected_by : PlainSession → ℕ → Issued → TicketState → PlainSession × Collected
 collected_by s index ticket Waits = collected_bytes s index ticket (bytes_for s ticket.rid)
 collected_by s index ticket Replaced = (use_up s index ticket, collections.Superseded)
+collected_by s index ticket Struck = (use_up s index ticket, collections.Answer error_text)
 collected_by s index ticket UsedUp = (s, collections.UnknownTicket)
 
 abbrev pub collected_from : PlainSession → ℕ → Option Issued → PlainSession × Collected

@@ -1,5 +1,5 @@
 -- The run of a journal in the subject's own words (XEP-0124 section 14.2): of which copies it is made. It knows no window, no
--- buffer and no order of processing.
+-- buffer and no order of processing, but only what came to the places of ids, one after the other.
 use Rattle.std.specs.Prelude.{◌≡◌, ◌≢◌, ℕ, ◌+◌, ◌≤◌, true, false, max, List, [], ◌∷◌, ◌++◌, All, length, Option, Some, slice_get}
 use Rattle.key_sequence.specs.Current.{current_after}
 use Rattle.session_core.specs.declared.copy.RequestCopy.{RequestCopy}
@@ -8,7 +8,7 @@ use Rattle.session_core.specs.Journal.{Arrive, Collect, Back, BackClosed, Tick, 
 use Rattle.session_core.specs.Machine.{opened, creation_of}
 use Rattle.session_core.specs.declared.opening.Opening.{Opening}
 use Rattle.session_core.specs.Points.{tested_at}
-use Rattle.session_core.specs.State.{PlainSession, run, is_over}
+use Rattle.session_core.specs.State.{PlainSession, Placing, Stands, Strikes, run, is_over}
 
 -- the greatest moment once this was entered
 abbrev pub moment_after : ℕ → Entered → ℕ
@@ -46,24 +46,37 @@ arrivals_with o entries = creation_of o ∷ arrivals_from o.at entries
 abbrev pub arrivals_of : Journal → List RequestCopy
 arrivals_of journal = arrivals_with journal.opening journal.entries
 
--- the copy arrived with this id, and nothing had arrived with it before
-abbrev pub IsFirstCopy : List RequestCopy → ℕ → RequestCopy → Type 0
-IsFirstCopy arrivals rid copy =
-    (id_of copy ≡ rid) × (before : List RequestCopy) × (after : List RequestCopy)
-    × (arrivals ≡ before ++ copy ∷ after) × All (λ other. id_of other ≢ rid) before
+-- what came to the places of ids, in order: the creation first
+abbrev pub placings_with : Opening → List Entry → List Placing
+placings_with o entries = Stands (creation_of o) ∷ (after_entries (opened o) entries).placings
 
--- the copies have the ids from the first one on, and each is the first that arrived with its id
-abbrev pub IsRun : ℕ → List RequestCopy → List RequestCopy → Type 0
-IsRun first arrivals run =
-    (k : ℕ) (copy : RequestCopy) → slice_get run k ≡ Some copy → IsFirstCopy arrivals (first + k) copy
+abbrev pub placings_of : Journal → List Placing
+placings_of journal = placings_with journal.opening journal.entries
 
-abbrev pub HasNot : List RequestCopy → ℕ → Type 0
-HasNot arrivals rid = All (λ copy. id_of copy ≢ rid) arrivals
+abbrev pub id_in : Placing → ℕ
+id_in (Stands copy) = id_of copy
+id_in (Strikes rid moment) = rid
 
--- the longest unbroken run of the ids that arrived: it is the run of a session that goes on
-pub record IsLongestRun (first : ℕ) (arrivals run : List RequestCopy) : Type 0 where
-  pub each : IsRun first arrivals run
-  pub ends : HasNot arrivals (first + length run)
+-- the copy was received with this id: it stood for it from some place on, and nothing came to that id after it, neither another copy nor
+-- that it was struck
+abbrev pub IsReceived : List Placing → ℕ → RequestCopy → Type 0
+IsReceived placings rid copy =
+    (id_of copy ≡ rid) × (before : List Placing) × (after : List Placing)
+    × (placings ≡ before ++ Stands copy ∷ after) × All (λ placing. id_in placing ≢ rid) after
+
+-- no copy was received with this id
+abbrev pub Lacks : List Placing → ℕ → Type 0
+Lacks placings rid = (copy : RequestCopy) → IsReceived placings rid copy → ⊥
+
+-- the copies have the ids from the first one on, and each is the one that was received with its id
+abbrev pub IsRun : ℕ → List Placing → List RequestCopy → Type 0
+IsRun first placings run =
+    (k : ℕ) (copy : RequestCopy) → slice_get run k ≡ Some copy → IsReceived placings (first + k) copy
+
+-- the longest unbroken run of the ids that were received: it is the run of a session that goes on
+pub record IsLongestRun (first : ℕ) (placings : List Placing) (run : List RequestCopy) : Type 0 where
+  pub each : IsRun first placings run
+  pub ends : Lacks placings (first + length run)
 
 -- When a copy is tested, and which entry ends a session: by these the run of a session that has ended is told.
 
@@ -72,10 +85,11 @@ abbrev pub key_after : Option (List ℕ) → List RequestCopy → Option (List �
 key_after key [] = key
 key_after key (copy ∷ copies) = key_after (current_after key copy.request.key copy.request.newkey) copies
 
--- with this entry the session had every id of these copies and the next one, and before it not
+-- with this entry copies of every id of these copies and of the next one first stood together: before it one of them lacked
 pub record Completes (o : Opening) (before : List Entry) (entry : Entry) (lower : List RequestCopy) : Type 0 where
-  pub arrived : (k : ℕ) → k ≤ length lower → HasNot (arrivals_with o (before ++ entry ∷ [])) (o.request.rid + 1 + k) → ⊥
-  pub not_yet : (k : ℕ) × (k ≤ length lower) × HasNot (arrivals_with o before) (o.request.rid + 1 + k)
+  pub together : (k : ℕ) → k ≤ length lower
+      → (copy : RequestCopy) × IsReceived (placings_with o (before ++ entry ∷ [])) (o.request.rid + 1 + k) copy
+  pub not_yet : (k : ℕ) × (k ≤ length lower) × Lacks (placings_with o before) (o.request.rid + 1 + k)
 
 -- the state at which an entry's call is tested
 abbrev pub state_testing : Opening → List Entry → Entry → PlainSession

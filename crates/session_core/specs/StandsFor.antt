@@ -22,7 +22,7 @@ use Rattle.session_core.specs.Machine.{bytes_for}
 use Rattle.session_core.specs.Outward.{is_close}
 use Rattle.session_core.specs.Queue.{Queue}
 use Rattle.session_core.specs.Rules.{Asks, is_bare}
-use Rattle.session_core.specs.State.{PlainSession, Answered, last_from, taken_by_answers, items_of_all}
+use Rattle.session_core.specs.State.{PlainSession, Answered, last_error, last_from, standing, taken_by_answers, items_of_all}
 use Rattle.session_core.specs.TicketsOut.{AreOut}
 
 -- what a session keeps just as the plain one does
@@ -32,8 +32,10 @@ pub record Alike : Type 0 where
   pub reporting : Reporting
   pub now : ℕ
   pub last_arrival : ℕ
+  pub last_error : ℕ
   pub counted : ℕ
   pub limit : ℕ
+  pub gap_waits : ℕ
   pub ending : Option Ending
 
 abbrev pub alike_of : Session → Alike
@@ -43,8 +45,10 @@ alike_of s = record {
   reporting = s.acks;
   now = s.moment;
   last_arrival = s.last_arrival;
+  last_error = s.last_error;
   counted = s.counted;
   limit = s.limit;
+  gap_waits = s.gap_waits;
   ending = s.ending;
 }
 
@@ -55,8 +59,10 @@ alike_in s = record {
   reporting = s.reporting;
   now = s.now;
   last_arrival = s.last_arrival;
+  last_error = last_error s;
   counted = s.counted;
   limit = s.limit;
+  gap_waits = s.gap_waits;
   ending = s.ending;
 }
 
@@ -133,7 +139,7 @@ pub record Holds (s : Session) (plain : PlainSession) : Type 0 where
   pub inward : HoldsInward s.inward plain.passed (plain.creation ∷ plain.processed)
   pub items : HoldsItems s.outbox plain.given (plain.created ∷ plain.answered)
   pub tickets : AreOut s.tickets plain.tickets (bytes_for plain)
-  pub window : HoldsWindow s.window plain.terms.requests s.last plain.creation plain.standing
+  pub window : HoldsWindow s.window plain.terms.requests s.last plain.creation (standing plain)
 
 -- a session stands for each plain session of which it keeps what its next calls need
 unfoldable pub StandsFor : Session → PlainSession → Type 0

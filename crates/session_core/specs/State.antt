@@ -1,5 +1,5 @@
 -- The plain state of a session: full lists, from which nothing is ever taken.
-use Rattle.std.specs.Prelude.{ℕ, ◌+◌, Bool, nat_lt, List, [], ◌∷◌, ◌++◌, map, length, drop, sum_by, Option, filter, is_some}
+use Rattle.std.specs.Prelude.{ℕ, ◌+◌, Bool, nat_lt, List, [], ◌∷◌, ◌++◌, ◌==◌, not, map, length, drop, sum_by, Option, filter, is_some}
 use Rattle.bosh_types.specs.ById.{at_id}
 use Rattle.bosh_types.specs.declared.ending.Ending.{Ending}
 use Rattle.bosh_types.specs.declared.inward.Inward.{Inward}
@@ -18,10 +18,11 @@ pub record Answered : Type 0 where
   pub moment : ℕ
   pub front : Front
 
--- its request waits for the answer; a later copy took its place; it was used up
+-- its request waits for the answer; a later copy took its place; the copy that it waited for was struck; it was used up
 pub data TicketState : Type 0 where
   Waits : TicketState
   Replaced : TicketState
+  Struck : TicketState
   UsedUp : TicketState
 
 -- a ticket that was handed out, with the id of its request
@@ -29,12 +30,18 @@ pub record Issued : Type 0 where
   pub rid : ℕ
   pub state : TicketState
 
+-- what came to the places of the window: a copy that stands for its id from then on; or the copy that stood for this id was struck, at
+-- this moment, and the id counts as not received again
+pub data Placing : Type 0 where
+  Stands : RequestCopy → Placing
+  Strikes : ℕ → ℕ → Placing
+
 pub record PlainSession : Type 0 where
   -- the request that created the session, and what was agreed
   pub creation : RequestCopy
   pub terms : Terms
-  -- the copy that stands for each later id, in the order of arrival, and those that were processed, in the order of ids
-  pub standing : List RequestCopy
+  -- what came to the places of later ids, and the copies that were processed, in the order of ids
+  pub placings : List Placing
   pub processed : List RequestCopy
   -- what the next key has to lead to, and the seconds of silence that are allowed now
   pub key : Option (List ℕ)
@@ -53,8 +60,9 @@ pub record PlainSession : Type 0 where
   -- how many inward items were passed on, and the counted bytes of the journal
   pub passed : ℕ
   pub counted : ℕ
-  -- how many counted bytes the journal may have
+  -- how many counted bytes the journal may have, and after how many times `wait` a copy beyond a gap is struck
   pub limit : ℕ
+  pub gap_waits : ℕ
   pub ending : Option Ending
 
 -- the last of x and these
@@ -92,13 +100,36 @@ answered_of s = first_of s + length s.answered
 abbrev pub held : PlainSession → List RequestCopy
 held s = drop (length s.answered) s.processed
 
+-- the copies of all other ids
+abbrev pub without : ℕ → List RequestCopy → List RequestCopy
+without rid copies = filter (λ copy. not (id_of copy == rid)) copies
+
+-- which copies stand after these placings, where these stood before them
+abbrev pub standing_after : List RequestCopy → List Placing → List RequestCopy
+standing_after copies [] = copies
+standing_after copies (Stands copy ∷ placings) = standing_after (copies ++ copy ∷ []) placings
+standing_after copies (Strikes rid moment ∷ placings) = standing_after (without rid copies) placings
+
+-- the copies that stand for ids after the creation's, in the order of arrival
+abbrev pub standing : PlainSession → List RequestCopy
+standing s = standing_after [] s.placings
+
 -- beyond a gap
 abbrev pub beyond : PlainSession → List RequestCopy
-beyond s = filter (λ copy. nat_lt (last_of s) (id_of copy)) s.standing
+beyond s = filter (λ copy. nat_lt (last_of s) (id_of copy)) (standing s)
 
 -- the copy that stands for an id after the creation's
 abbrev pub standing_at : PlainSession → ℕ → Option RequestCopy
-standing_at s rid = at_id (map with_id s.standing) rid
+standing_at s rid = at_id (map with_id (standing s)) rid
+
+-- when the last error was given, this moment where none was
+abbrev pub last_strike : ℕ → List Placing → ℕ
+last_strike moment [] = moment
+last_strike moment (Stands copy ∷ placings) = last_strike moment placings
+last_strike moment (Strikes rid at ∷ placings) = last_strike at placings
+
+abbrev pub last_error : PlainSession → ℕ
+last_error s = last_strike 0 s.placings
 
 -- how many of the server's items these answers took
 abbrev pub taken_by_answers : List Answered → ℕ

@@ -1,5 +1,5 @@
 -- The tickets of a session that are out, with what is known of their requests.
-use Rattle.std.specs.Prelude.{ℕ, ◌+◌, ◌-◌, ◌==◌, Bool, true, false, not, List, [], ◌∷◌, ◌++◌, filter, Option, Some, None, is_some, if◌then◌else◌}
+use Rattle.std.specs.Prelude.{ℕ, ◌+◌, ◌-◌, ◌==◌, ◌&&◌, Bool, true, false, not, List, [], ◌∷◌, ◌++◌, filter, Option, Some, None, is_some, if◌then◌else◌}
 use Rattle.std.specs.List.{find}
 use Rattle.session_core.specs.declared.replies.Collected.{Collected}
 use Rattle.session_core.specs.declared.replies.Collected.TheVariants as collections
@@ -14,16 +14,25 @@ pub record Book : Type 0 where
 abbrev pub given : Book → ℕ → Book
 given book rid = record {
   handed_out = book.handed_out + 1;
-  out = book.out ++ record { number = book.handed_out + 1; rid = rid; replaced = false; answer = None } ∷ [];
+  out = book.out ++ record { number = book.handed_out + 1; rid = rid; replaced = false; struck = false; answer = None } ∷ [];
 }
+
+-- it waits for a copy of this id that wasn't struck
+abbrev pub is_for : ℕ → OpenTicket → Bool
+is_for rid ticket = (ticket.rid == rid) && not ticket.struck
 
 -- a later copy of the request took its place
 abbrev pub replace : ℕ → OpenTicket → OpenTicket
-replace rid ticket = if ticket.rid == rid then record ticket { replaced = true } else ticket
+replace rid ticket = if is_for rid ticket then record ticket { replaced = true } else ticket
 
 -- its request was answered
 abbrev pub give_answer : ℕ → List ℕ → OpenTicket → OpenTicket
-give_answer rid bytes ticket = if ticket.rid == rid then record ticket { answer = Some bytes } else ticket
+give_answer rid bytes ticket = if is_for rid ticket then record ticket { answer = Some bytes } else ticket
+
+-- the copy that it waits for is struck, and it has the error
+abbrev pub strike : ℕ → List ℕ → OpenTicket → OpenTicket
+strike rid error ticket =
+    if is_for rid ticket && not ticket.replaced then record ticket { struck = true; answer = Some error } else ticket
 
 -- where its request wasn't answered, it has its last word
 abbrev pub give_word : ℕ → List ℕ → List ℕ → OpenTicket → OpenTicket

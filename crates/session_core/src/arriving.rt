@@ -3,7 +3,7 @@ ghost use Rattle.std.specs.Prelude.{◌≡◌, ◌+◌, ◌<◌, ℕ, IfOk, OnEr
 ghost use Rattle.session_core.specs.Arriving.{IsModest, IsPlacedIn, with_ticket};
 ghost use Rattle.session_core.specs.Journal.{Arrive, IsAllowed};
 ghost use Rattle.session_core.specs.Kept.{kept_of, lowest_kept};
-ghost use Rattle.session_core.specs.Machine.{advanced, arrive, arrived_in_time, arrived_at, body_cost, copy_now, placed, refused, repeated, reopened, replied};
+ghost use Rattle.session_core.specs.Machine.{advanced, arrive, arrived_in_time, arrived_at, copy_now, placed, refused, repeated, reopened, replied};
 ghost use Rattle.bosh_types.specs.declared.ending.Ending.TheVariants.{Above};
 ghost use Rattle.session_core.specs.declared.copy.RequestCopy.{RequestCopy as PlainCopy};
 ghost use Rattle.session_core.specs.Answers.{settled};
@@ -15,6 +15,7 @@ ghost use Rattle.session_core.specs.Window.{place_of};
 ghost use Rattle.session_core.specs.Words.{IsAnswerable};
 
 use crate::copy::{RequestCopy, SharedCopy, copied_request};
+use crate::counting::cost_of_body;
 use crate::replies::Arrived;
 use crate::session::Session;
 use crate::words::LastWord;
@@ -234,12 +235,4 @@ impl Session {
         self.end(alloc, ending)?;
         Ok(Arrived::Answer(text))
     }
-}
-
-// What an arriving body adds to the counted bytes of the journal.
-pub(crate) fn cost_of_body(request: &Request, body: &SharedText) -> u64
-    requires { IsModest request.now body.now }
-    ensures { result ≡ body_cost request.now body.now }
-{
-    128 + body.len() as u64 + 64 * request.stanzas.len() as u64
 }

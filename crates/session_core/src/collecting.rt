@@ -1,5 +1,5 @@
 // What a session hands out, and what it tells of itself. Nothing here takes memory.
-ghost use Rattle.std.specs.Prelude.{◌≡◌, is_some};
+ghost use Rattle.std.specs.Prelude.{◌≡◌, is_some, length};
 ghost use Rattle.session_core.specs.Machine.{collect, take_inward};
 ghost use Rattle.session_core.specs.StandsFor.{StandsFor};
 ghost use Rattle.session_core.specs.State.{PlainSession, waiting_counts};
@@ -9,9 +9,9 @@ use crate::session::Session;
 use bosh_types::{Ending, Inward, Ticket};
 
 impl Session {
-    /// What there is for a ticket. `Answer` comes once, with the answer that its request was given, or its last word where
-    /// the session ended before it had one; `Superseded` comes once where a later copy of the request took its place
-    /// (XEP-0124, section 14.3). Both use the ticket up, and `UnknownTicket` comes for one that isn't out. Where the request
+    /// What there is for a ticket (XEP-0124). `Answer` comes once, with the answer that its request was given, or its last word where
+    /// the session ended before it had one, or the error where the copy that it waited for was struck (section 17.3);
+    /// `Superseded` comes once where a later copy of the request took its place (section 14.3). Both use the ticket up, and `UnknownTicket` comes for one that isn't out. Where the request
     /// waits on, it is `NotYet`, and nothing changed.
     #[tactic(auto, unfolding(crate::specs::StandsFor::StandsFor))]
     pub fn collect(&mut self, ticket: Ticket) -> Collected
@@ -37,6 +37,14 @@ impl Session {
         ensures { (plain : PlainSession) → StandsFor self.now plain → result ≡ is_some (take_inward plain).1 }
     {
         !self.inward.is_empty()
+    }
+
+    /// How many tickets were handed out so far: they have the numbers from 1 to that.
+    #[tactic(auto, unfolding(crate::specs::StandsFor::StandsFor))]
+    pub fn tickets_given(&self) -> u32
+        ensures { (plain : PlainSession) → StandsFor self.now plain → result ≡ length plain.tickets }
+    {
+        self.tickets.given()
     }
 
     /// Why the session ended: `None` while it goes on.

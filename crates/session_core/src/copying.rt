@@ -36,8 +36,10 @@ impl Session {
             tickets,
             moment: self.moment,
             last_arrival: self.last_arrival,
+            last_error: self.last_error,
             counted: self.counted,
             limit: self.limit,
+            gap_waits: self.gap_waits,
             ending: self.ending,
         })
     }

@@ -1,4 +1,4 @@
-ghost use Rattle.std.specs.Prelude.{◌≡◌, IfOk, OnOk, OnErr, [], ◌∷◌, ◌++◌, drop, length, slice_get};
+ghost use Rattle.std.specs.Prelude.{◌≡◌, ◌<◌, ◌^◌, IfOk, IfSome, OnOk, OnErr, [], ◌∷◌, ◌++◌, drop, length, slice_get};
 ghost use Rattle.std.specs.List.{list_any};
 ghost use Rattle.pause_rules.specs.Due.{IsFirstMoment, is_wait_due};
 ghost use Rattle.session_core.specs.Due.{earlier};
@@ -77,7 +77,8 @@ impl HeldRequests {
 
     /// The first moment at which one of them has waited its time: `None` exactly where no moment of 64 bits is so late.
     pub fn first_wait_due(&self, deadlines: &Deadlines) -> Option<Moment>
-        ensures { IsFirstMoment (λ now. list_any (λ held. is_wait_due deadlines.now.terms held.arrived now) self.now) result }
+        ensures first { IsFirstMoment (λ now. list_any (λ held. is_wait_due deadlines.now.terms held.arrived now) self.now) result }
+        ensures small { IfSome result (λ moment. moment < 2 ^ 64) }
     {
         let mut first = None;
         for index in 0..self.requests.len() {
@@ -121,8 +122,8 @@ impl HeldRequests {
     }
 }
 
-// The earlier of two moments, where there are any.
-fn earlier_of(one: Option<Moment>, other: Option<Moment>) -> Option<Moment>
+/// The earlier of two moments, where there are any.
+pub(crate) fn earlier_of(one: Option<Moment>, other: Option<Moment>) -> Option<Moment>
     ensures { result ≡ earlier one other }
 {
     let (Some(first), Some(second)) = (one, other) else {

@@ -21,6 +21,7 @@ mod replies;
 mod rules;
 mod serving;
 mod session;
+mod striking;
 mod tickets;
 mod ticking;
 mod timing;
@@ -28,6 +29,7 @@ mod words;
 mod written;
 
 pub use copy::{RequestCopy, copied_request};
+pub use counting::{PLAIN_COST, cost_of_body, cost_of_stanza};
 pub use held::{HeldRequest, HeldRequests};
 pub use inbox::Inbox;
 pub use laws::written_requests_read_back;

@@ -10,8 +10,8 @@ ghost use Rattle.session_core.specs.Kept.{kept_answer};
 ghost use Rattle.session_core.specs.Machine.{asks_ack, created_parts, first_answer, opened};
 ghost use Rattle.session_core.specs.StandsFor.{StandsFor};
 
-use crate::arriving::cost_of_body;
 use crate::copy::{RequestCopy, SharedCopy, copied_request};
+use crate::counting::cost_of_body;
 use crate::held::HeldRequests;
 use crate::inbox::Inbox;
 use crate::outbox::Outbox;
@@ -46,6 +46,9 @@ pub struct Opening {
     pub at: Moment,
     /// How many counted bytes the journal of the session may have. The call whose entry would pass it ends the session.
     pub limit: u64,
+    /// After how many times the session's `wait` a copy beyond a gap is struck (XEP-0124, section 17.3): 1 to 10. A session that polls
+    /// strikes none.
+    pub gap_waits: u32,
 }
 
 impl Session {
@@ -139,8 +142,10 @@ fn first_session(
         tickets: Tickets::new(alloc),
         moment: now,
         last_arrival: now,
+        last_error: Moment::from_millis(0),
         counted: cost_of_body(request, &opening.body),
         limit: opening.limit,
+        gap_waits: opening.gap_waits,
         ending: None,
     })
 }

@@ -14,7 +14,7 @@ pub enum Arrived {
 /// What there is for a ticket.
 #[derive(Debug, Drop)]
 pub enum Collected {
-    /// The body that answers its request. The ticket is used up.
+    /// The body that answers its request, or the error where the copy that it waited for was struck. The ticket is used up.
     Answer(SharedText),
     /// Its request waits on.
     NotYet,
@@ -38,7 +38,7 @@ pub enum Taken {
 /// What time did to a session.
 #[derive(Clone, Copy, Debug, PartialEq, Eq)]
 pub enum Ticked {
-    /// It answered requests, or ended the session.
+    /// It answered requests, struck copies beyond a gap, or ended the session.
     Changed,
     /// Nothing was due, and nothing changed.
     Quiet,

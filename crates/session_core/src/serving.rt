@@ -1,12 +1,12 @@
 // The server's side of a session: it gives stanzas for the client, and closes the stream.
 ghost use Rattle.std.specs.Prelude.{◌≡◌, IfOk, IsTrue, OnErr, false, true};
 ghost use Rattle.body_cutter.specs.Cutting.{is_stanza};
-ghost use Rattle.session_core.specs.Machine.{back, back_closed, back_in_time, closed_in_time, plain_cost, stanza_cost, takes_items};
+ghost use Rattle.session_core.specs.Machine.{back, back_closed, back_in_time, closed_in_time, plain_cost, takes_items};
 ghost use Rattle.session_core.specs.StandsFor.{StandsFor};
 ghost use Rattle.session_core.specs.State.{PlainSession, is_over};
 ghost use Rattle.session_core.specs.Steps.{Does};
 
-use crate::counting::PLAIN_COST;
+use crate::counting::{PLAIN_COST, cost_of_stanza};
 use crate::replies::Taken;
 use crate::session::Session;
 use bosh_types::{Closing, Moment, SharedText, StreamNo};
@@ -73,7 +73,7 @@ impl Session {
         ensures { (plain : PlainSession) → StandsFor self.old plain → is_over plain ≡ false
             → IfOk result (λ reply. Does self.new reply (back plain stream stanza.now now)) }
     {
-        let cost = cost_of(stanza);
+        let cost = cost_of_stanza(stanza);
         if self.is_full(cost) {
             self.fill(alloc, cost)?;
             return Ok(Taken::Over);
@@ -148,12 +148,4 @@ impl Session {
     {
         self.ending.is_none() && stream == StreamNo::unnamed() && !self.outbox.is_closed()
     }
-}
-
-// What a stanza adds to the counted bytes of the journal.
-fn cost_of(stanza: &SharedText) -> u64
-    ensures { result ≡ stanza_cost stanza.now }
-{
-    let bytes = stanza.as_slice();
-    PLAIN_COST + bytes.len() as u64
 }

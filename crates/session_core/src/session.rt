@@ -35,11 +35,14 @@ pub struct Session {
     pub(crate) outbox: Outbox,
     // The tickets that are out.
     pub(crate) tickets: Tickets,
-    // The greatest moment so far, and that of the last arrival.
+    // The greatest moment so far, and those of the last arrival and of the last error, 0 where none was.
     pub(crate) moment: Moment,
     pub(crate) last_arrival: Moment,
+    pub(crate) last_error: Moment,
     // The counted bytes of its journal, and how many it may have.
     pub(crate) counted: u64,
     pub(crate) limit: u64,
+    // After how many times `wait` a copy beyond a gap is struck.
+    pub(crate) gap_waits: u32,
     pub(crate) ending: Option<Ending>,
 }

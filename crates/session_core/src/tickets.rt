@@ -1,6 +1,6 @@
 ghost use Rattle.std.specs.Prelude.{◌≡◌, ◌+◌, IfOk, OnOk, OnErr, None, [], map};
 ghost use Rattle.std.specs.Option.{option_map};
-ghost use Rattle.session_core.specs.Tickets.{answer_of, collected, given, replace, give_answer, give_word, taken_back, ticket_at, told_of, without};
+ghost use Rattle.session_core.specs.Tickets.{answer_of, collected, given, replace, give_answer, give_word, strike, taken_back, ticket_at, told_of, without};
 
 use crate::replies::Collected;
 use bosh_types::{CopyIn, Rid, SharedText, Ticket, copy_items};
@@ -14,6 +14,8 @@ pub struct OpenTicket {
     rid: Rid,
     // A later copy of its request took its place.
     replaced: bool,
+    // The copy that it waits for was struck, and it has the error.
+    struck: bool,
     // The body that answers its request, once there is one.
     answer: Option<SharedText>,
 }
@@ -24,6 +26,7 @@ impl CopyIn for OpenTicket {
             number: self.number,
             rid: self.rid,
             replaced: self.replaced,
+            struck: self.struck,
             answer: self.answer.copy_in(alloc)?,
         })
     }
@@ -70,13 +73,21 @@ impl Tickets {
             number,
             rid,
             replaced: false,
+            struck: false,
             answer: None,
         })?;
         self.handed_out = number;
         Ok(Ticket::new(number))
     }
 
-    /// A later copy of the request took the place of those that wait. It takes no memory.
+    /// How many were handed out so far.
+    pub fn given(&self) -> u32
+        ensures { result ≡ self.now.handed_out }
+    {
+        self.handed_out
+    }
+
+    /// A later copy of the request took the place of those that wait; what was struck still has its error to tell. It takes no memory.
     pub fn replace(&mut self, rid: Rid)
         ensures { self.new ≡ record self.old { out = map (replace rid) self.old.out } }
     {
@@ -88,6 +99,13 @@ impl Tickets {
         ensures { OnOk result (self.new ≡ record self.old { out = map (give_answer rid answer.now) self.old.out }) }
     {
         answer_all(&mut self.out, rid, answer)
+    }
+
+    /// The copy of this id is struck: those that wait for it have the error. After an `Err` some may have it, and others not.
+    pub fn strike(&mut self, rid: Rid, error: &SharedText) -> Result<(), AllocError>
+        ensures { OnOk result (self.new ≡ record self.old { out = map (strike rid error.now) self.old.out }) }
+    {
+        strike_all(&mut self.out, rid, error)
     }
 
     /// Each request that has no answer has its last word: `breaker` the one, any other the other. After an `Err` some may
@@ -159,7 +177,7 @@ fn replace_all(out: &mut [OpenTicket], rid: Rid)
 fn replace_one(ticket: &mut OpenTicket, rid: Rid)
     ensures { ticket.new ≡ replace rid ticket.old }
 {
-    if ticket.rid == rid {
+    if ticket.rid == rid && !ticket.struck {
         ticket.replaced = true;
     }
 }
@@ -176,10 +194,30 @@ fn answer_all(out: &mut [OpenTicket], rid: Rid, answer: &SharedText) -> Result<(
 fn give_answer(ticket: &mut OpenTicket, rid: Rid, answer: &SharedText) -> Result<(), AllocError>
     ensures { OnOk result (ticket.new ≡ give_answer rid answer.now ticket.old) }
 {
-    if ticket.rid != rid {
+    if ticket.rid != rid || ticket.struck {
         return Ok(());
     }
     ticket.answer = Some(answer.again()?);
+    Ok(())
+}
+
+fn strike_all(out: &mut [OpenTicket], rid: Rid, error: &SharedText) -> Result<(), AllocError>
+    ensures { OnOk result (out.new ≡ map (strike rid error.now) out.old) }
+{
+    for index in 0..out.len() {
+        strike_one(&mut out[index], rid, error)?;
+    }
+    Ok(())
+}
+
+fn strike_one(ticket: &mut OpenTicket, rid: Rid, error: &SharedText) -> Result<(), AllocError>
+    ensures { OnOk result (ticket.new ≡ strike rid error.now ticket.old) }
+{
+    if ticket.rid != rid || ticket.struck || ticket.replaced {
+        return Ok(());
+    }
+    ticket.struck = true;
+    ticket.answer = Some(error.again()?);
     Ok(())
 }
 

@@ -2,7 +2,7 @@
 ghost use Rattle.std.specs.Prelude.{◌≡◌, OnOk, max};
 ghost use Rattle.session_core.specs.StandsFor.{StandsFor};
 ghost use Rattle.session_core.specs.State.{PlainSession};
-ghost use Rattle.session_core.specs.Time.{at_moment, is_silent, quiet_of, silenced, time_applied};
+ghost use Rattle.session_core.specs.Time.{at_moment, is_silent, owes_nothing_beyond, quiet_of, silenced, time_applied};
 
 use crate::session::Session;
 use bosh_types::{Ending, Moment};
@@ -17,12 +17,14 @@ impl Session {
         self.moment = later_of(self.moment, now);
     }
 
-    /// First those are answered that have waited their time, then silence may end the session.
+    /// First those are answered that have waited their time, then copies beyond the gap are struck that have, then silence may end
+    /// the session.
     pub(crate) fn apply_time(&mut self, alloc: Global, now: Moment) -> Result<(), AllocError>
         ensures { (plain : PlainSession) → StandsFor self.old plain → OnOk result (StandsFor self.new (time_applied plain now)) }
     {
         self.set_moment(now);
         self.settle(alloc)?;
+        self.strike_due(alloc)?;
         self.silence(alloc)
     }
 
@@ -43,7 +45,7 @@ impl Session {
         )
     }
 
-    // No request is held, and it has been quiet for longer than allowed.
+    // No request is held, no copy beyond the gap has its error to come, and it has been quiet for longer than allowed.
     #[tactic(auto, unfolding(crate::specs::StandsFor::StandsFor))]
     fn is_silent(&self) -> bool
         ensures { (plain : PlainSession) → StandsFor self.now plain → result ≡ is_silent plain }
@@ -56,18 +58,29 @@ impl Session {
     pub(crate) fn is_silent_at(&self, moment: Moment) -> bool
         ensures { (plain : PlainSession) → StandsFor self.now plain → result ≡ is_silent (record plain { now = moment }) }
     {
-        self.held.len() == 0 && self.deadlines.silent_due(self.quiet(), moment)
+        self.held.len() == 0
+            && self.owes_nothing_beyond()
+            && self.deadlines.silent_due(self.quiet(), moment)
     }
 
-    /// Since when it has been quiet: since the last answer, and while copies stand beyond a gap, since the last arrival.
+    /// In a session that doesn't poll none stands beyond the gap: one that does has its error to come.
+    #[tactic(auto, unfolding(crate::specs::StandsFor::StandsFor))]
+    pub(crate) fn owes_nothing_beyond(&self) -> bool
+        ensures { (plain : PlainSession) → StandsFor self.now plain → result ≡ owes_nothing_beyond plain }
+    {
+        self.deadlines.terms().polled || self.window.is_clear()
+    }
+
+    /// Since when it has been quiet: since the last answer or error, and while copies stand beyond a gap, since the last arrival.
     #[tactic(auto, unfolding(crate::specs::StandsFor::StandsFor))]
     pub(crate) fn quiet(&self) -> Moment
         ensures { (plain : PlainSession) → StandsFor self.now plain → result ≡ quiet_of plain }
     {
+        let told = later_of(self.last_given, self.last_error);
         if self.window.is_clear() {
-            return self.last_given;
+            return told;
         }
-        later_of(self.last_given, self.last_arrival)
+        later_of(told, self.last_arrival)
     }
 }
 

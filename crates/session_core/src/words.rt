@@ -2,7 +2,7 @@
 ghost use Rattle.std.specs.Prelude.{◌≡◌, ℕ, ◌+◌, ◌<◌, ◌==◌, IfOk, None, Some, if◌then◌else◌};
 ghost use Rattle.bosh_types.specs.Rid.{greatest_rid};
 ghost use Rattle.body_writer.specs.Answer.{answer_text};
-ghost use Rattle.session_core.specs.Endings.{nothing, terminal, word_at_closing, word_for, word_if_breaker};
+ghost use Rattle.session_core.specs.Endings.{error_text, nothing, terminal, word_at_closing, word_for, word_if_breaker};
 ghost use Rattle.session_core.specs.Words.{IsAnswerable, parts_of};
 
 use body_writer::{AnswerKind, AnswerParts, write_answer};
@@ -130,4 +130,12 @@ impl LastWord {
         };
         SharedText::new(alloc, write_answer(alloc, &parts)?)
     }
+}
+
+/// The error that the request of a struck copy is given: it counts as not received (XEP-0124, section 17.3).
+pub(crate) fn error_text(alloc: Global) -> Result<SharedText, AllocError>
+    ensures { IfOk result (λ text. text ≡ error_text) }
+{
+    let parts = AnswerParts::bare(alloc, AnswerKind::Error, None);
+    SharedText::new(alloc, write_answer(alloc, &parts)?)
 }

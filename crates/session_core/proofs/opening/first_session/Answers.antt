@@ -28,8 +28,10 @@ returns c = λ is.
       reporting = reporting i;
       now = o.at;
       last_arrival = o.at;
+      last_error = c.from_millis.ensures i;
       counted = c.cost_of_body.ensures i;
       limit = o.limit;
+      gap_waits = o.gap_waits;
       ending = None;
     })
     refl refl c.new-3.ensures (λ i. record { arrived = o.at; empty = empty i; creation = true; bare = false }) refl

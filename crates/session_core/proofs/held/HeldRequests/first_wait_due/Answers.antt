@@ -17,4 +17,9 @@ loop-index-preserved c =
 pub returns : goal.returns
 returns c =
     let all = take_all c.loop-index.index c.self.inside.requests.items (omega arith) ∙ c.self.view_is in
-    subst (λ (requests : List HeldRequest). IsFirstMoment (λ now. list_any (λ held. is_wait_due c.args.deadlines.now.terms held.arrived now) requests) c.loop-index.first) all (c.loop-index.invariant).first_is
+    record {
+      first =
+          subst (λ (requests : List HeldRequest). IsFirstMoment (λ now. list_any (λ held. is_wait_due c.args.deadlines.now.terms held.arrived now) requests) c.loop-index.first) all
+          (c.loop-index.invariant).first_is;
+      small = (c.loop-index.invariant).small;
+    }

@@ -1,8 +1,8 @@
 use Rattle.std.proofs.Common.{◌∙◌, ℕ, ap, sym, subst, arith, Some}
-use Rattle.pause_rules.specs.Due.{IsFirstMoment, is_silent_due}
-use Rattle.session_core.specs.Time.{is_due, quiet_of}
-use Rattle.session_core.specs.StandsFor.{Alike, StandsFor}
-use Rattle.session_core.proofs.DueLemmas.{due_over, due_silent, due_waits}
+use Rattle.pause_rules.specs.Due.{IsFirstMoment}
+use Rattle.session_core.specs.Time.{is_due}
+use Rattle.session_core.specs.StandsFor.{StandsFor}
+use Rattle.session_core.proofs.DueLemmas.{due_over, due_struck, holds_beyond}
 use Rattle.session_core.proofs.StandingLemmas.{over_is}
 use Rattle.session_core.proofs.session.Session.due.Goals as goal
 
@@ -16,18 +16,20 @@ pub returns-then-is_some : goal.returns-then-is_some
 unfolding StandsFor
 returns-then-is_some c = λ plain stands. λ moment small. due_over plain moment (sym (over_is stands) ∙ sym c.is_some.ensures ∙ c.if-is_some.true)
 
-pub returns-in-Some : goal.returns-in-Some
+pub returns-then-owes_nothing_beyond : goal.returns-then-owes_nothing_beyond
 unfolding StandsFor
-returns-in-Some c = λ plain stands.
-    due_waits stands (sym (over_is stands) ∙ sym c.is_some.ensures ∙ c.if-is_some.false)
+returns-then-owes_nothing_beyond c = λ plain stands.
+    c.due_within.ensures plain stands (sym (over_is stands) ∙ sym c.is_some.ensures ∙ c.if-is_some.false)
+    (sym (c.owes_nothing_beyond.ensures plain stands) ∙ c.if-owes_nothing_beyond.true)
     (ap (is_due plain) (sym c.from_millis-start.ensures) ∙ (sym (c.is_due.ensures plain stands) ∙ c.if-is_due.false))
-    c.in-Some.field-0 (sym c.oldest.ensures ∙ c.in-Some.is) c.first_wait_due.result c.first_wait_due.ensures
 
-pub returns-in-None : goal.returns-in-None
+pub returns : goal.returns
 unfolding StandsFor
-returns-in-None c = λ plain stands.
-    due_silent stands (sym (over_is stands) ∙ sym c.is_some.ensures ∙ c.if-is_some.false)
-    (ap (is_due plain) (sym c.from_millis-start.ensures) ∙ (sym (c.is_due.ensures plain stands) ∙ c.if-is_due.false))
-    (sym c.oldest.ensures ∙ c.in-None.is) c.silent_due_at.result
-    (subst (λ (period : ℕ). IsFirstMoment (is_silent_due period (quiet_of plain)) c.silent_due_at.result) (ap (λ (a : Alike). a.pace.period) stands.alike)
-    (subst (λ (quiet : ℕ). IsFirstMoment (is_silent_due c.args.self.now.deadlines.period quiet) c.silent_due_at.result) (c.quiet.ensures plain stands) c.silent_due_at.ensures.first))
+returns c = λ plain stands.
+    let on = sym (over_is stands) ∙ sym c.is_some.ensures ∙ c.if-is_some.false in
+    let owes = sym (c.owes_nothing_beyond.ensures plain stands) ∙ c.if-owes_nothing_beyond.false in
+    subst (IsFirstMoment (is_due plain)) (sym c.earlier_of.ensures)
+    (due_struck stands on owes (ap (is_due plain) (sym c.from_millis-start.ensures) ∙ (sym (c.is_due.ensures plain stands) ∙ c.if-is_due.false))
+    c.first_wait_due.result c.first_strike_due.result
+    (record { first_is = c.first_wait_due.ensures.first; small = c.first_wait_due.ensures.small })
+    (record { first_is = c.first_strike_due.ensures.first plain stands on (holds_beyond plain owes); small = c.first_strike_due.ensures.small }))

@@ -10,7 +10,7 @@ use Rattle.session_core.specs.Arriving.{IsPlacedIn}
 use Rattle.session_core.specs.Copy.{id_of, is_extra, with_id}
 use Rattle.session_core.specs.Machine.{advanced, copy_now, placed, replied}
 use Rattle.session_core.specs.StandsFor.{StandsFor}
-use Rattle.session_core.specs.State.{PlainSession, last_of}
+use Rattle.session_core.specs.State.{PlainSession, last_of, standing}
 use Rattle.session_core.specs.Steps.{Does}
 use Rattle.session_core.proofs.ArrivedLemmas.{arrived_new, place_new, within_reach}
 use Rattle.session_core.proofs.StandingLemmas.{moment_is}
@@ -25,7 +25,7 @@ returns-in-Done c = λ plain stands live later.
     ∙ (λ i. record { request = c.in_ok-copied_request.ensures i; body = c.in_ok-again.ensures i; arrived = moment_is stands i }) in
     let extra : c.is_extra-extra.result ≡ is_extra (copy_now plain c.args.request.now c.args.body.now) = c.is_extra-extra.ensures ∙ ap is_extra (sym c.in_ok-new.ensures ∙ is) in
     let told = c.in-Done.ensures.answer _ stands.window.stands in
-    let reached = within_reach plain.creation plain.standing c.args.self.now.last plain.terms.requests rid c.is_extra-extra.result (omega (arith, stands.run.last_is)) (omega (arith, stands.run.last_is, later)) told in
+    let reached = within_reach plain.creation (standing plain) c.args.self.now.last plain.terms.requests rid c.is_extra-extra.result (omega (arith, stands.run.last_is)) (omega (arith, stands.run.last_is, later)) told in
     let in_window : IsPlacedIn (record c.args.self.now { window = c.place.new.self }) plain c.in_ok-new.field-0 = record {
       window = c.args.self.now.window;
       before = stands;
@@ -34,7 +34,7 @@ returns-in-Done c = λ plain stands live later.
       ack = subst (λ (k : RequestCopy). IfSome k.request.ack (λ ack. ack < id_of k)) (sym is) c.requires.ack;
       arrived = ap (λ (k : RequestCopy). k.arrived) c.in_ok-new.ensures;
       within = omega (arith, ap id_of is, c.value-value.ensures.in_range.1);
-      free = ap (λ (n : ℕ). at_id (map with_id plain.standing) n) (ap id_of is) ∙ reached.1;
+      free = ap (λ (n : ℕ). at_id (map with_id (standing plain)) n) (ap id_of is) ∙ reached.1;
       places = λ w stood. subst (λ (n : ℕ). windows.StandsFor c.place.new.self (record w { placed = w.placed ++ (n, c.in_ok-new.field-0) ∷ [] })) (sym (ap id_of is)) (c.in-Done.ensures.after w stood);
     } in
     let took = c.take_in.ensures plain c.in_ok-new.field-0 in_window (sym (ap id_of is)) in
