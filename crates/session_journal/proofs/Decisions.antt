@@ -48,7 +48,7 @@ module _ (journal : Journal) (made : IsJournal journal) (call : plain.Call) (all
         let s : PlainSession = state_of journal in
         let there : (after_entry s (plain.Made call)).ending ≡ Some some.0 = ap (λ (t : PlainSession). t.ending) (sym (as_entered s call (plain.Made call) is)) ∙ some.1 in
         ap cost_at_end some.1 ∙ no_cost (tested_at s (plain.Made call)) (after_entry s (plain.Made call)) call some.0
-        (ending_fact s call allowed (plain.Made call) is on (every_ends journal made) some.0 there)
+        (ending_fact s (plain.Made call) (allowed, is) on (every_ends journal made) some.0 there)
   ]
 
   -- of a session that goes on the limit is stored where it was met, and else the call

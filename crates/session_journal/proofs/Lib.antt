@@ -7,3 +7,4 @@ pub mod SeenLemmas
 pub mod Stepping
 pub mod ObjectLemmas
 pub mod RecordedLemmas
+pub mod RedoneLemmas

@@ -15,13 +15,13 @@ use Rattle.session_journal.specs.Storing.{Stands}
 use Rattle.session_journal.proofs.JournalLemmas.{read_gives, opened_with}
 
 -- the first entry tells the opening
-opening_told : (o : Opening) → IsOpening o → opening_in (stored.Open o.sid o.host o.greeting o.body o.at o.limit) ≡ Some o
+opening_told : (o : Opening) → IsOpening o → opening_in (stored.Open o.sid o.host o.greeting o.body o.at o.limit o.gap_waits) ≡ Some o
 opening_told o is =
-    ap (option_and_then (opening_with o.sid o.host o.greeting o.body o.at o.limit)) (read_gives o.body o.request is.read)
-    ∙ ap (option_map (opening_by o.sid o.host o.greeting o.body o.at o.limit o.request)) (ap terms_in (is.creation).1 ∙ ap Some (sym (is.creation).2))
+    ap (option_and_then (opening_with o.sid o.host o.greeting o.body o.at o.limit o.gap_waits)) (read_gives o.body o.request is.read)
+    ∙ ap (option_map (opening_by o.sid o.host o.greeting o.body o.at o.limit o.gap_waits o.request)) (ap terms_in (is.creation).1 ∙ ap Some (sym (is.creation).2))
 
 abbrev pub first_entry : ℕ → Opening → Entry
-first_entry caller o = record { caller = caller; call = stored.Open o.sid o.host o.greeting o.body o.at o.limit }
+first_entry caller o = record { caller = caller; call = stored.Open o.sid o.host o.greeting o.body o.at o.limit o.gap_waits }
 
 abbrev pub first_journal : Opening → Journal
 first_journal o = record { opening = o; entries = [] }

@@ -7,9 +7,9 @@ use Rattle.session_attrs.specs.declared.request.Request.{Request}
 use Rattle.session_core.specs.declared.replies.Arrived.TheVariants as arrivals
 use Rattle.session_core.specs.Facts.{Fact}
 use Rattle.session_core.specs.Journal as plain
-use Rattle.session_core.specs.Journal.{Journal, IsJournal, IsMade, none, more, IsAllowed, Arrive, TakeInward, ToArrive, ToTakeInward, state_of, reply_of, entered_by, after_entry}
+use Rattle.session_core.specs.Journal.{Journal, IsJournal, MayEnter, Arrive, TakeInward, ToArrive, ToTakeInward, state_of, reply_of, after_entry}
 use Rattle.session_core.specs.Kept.{kept_of}
-use Rattle.session_core.specs.Machine.{opened, body_cost, bytes_for, is_full}
+use Rattle.session_core.specs.Machine.{body_cost, bytes_for, is_full}
 use Rattle.session_core.specs.Points.{tested_at}
 use Rattle.session_core.specs.State.{PlainSession, inward, is_over}
 use Rattle.session_core.specs.Time.{time_applied}
@@ -20,8 +20,7 @@ use Rattle.session_journal.specs.Stored.{IsJournalOf, Replies}
 use Rattle.session_journal.proofs.JournalLemmas.{all_there, consed, journal_append, one_journal, opened_with}
 use Rattle.session_laws.specs.Growing.{Grows, with_later}
 use Rattle.session_laws.specs.Laws.{KeptLaws}
-use Rattle.session_laws.proofs.Grows.{made_later}
-use Rattle.session_laws.proofs.OneMore.{state_one_more}
+use Rattle.session_laws.proofs.OneMore.{last_may, state_one_more}
 
 -- entries that come later tell something
 later_there : (es later : List Entry) (all : List plain.Entry) → entries_in (es ++ later) ≡ Some all → (ys : List plain.Entry) × (entries_in later ≡ Some ys)
@@ -30,7 +29,7 @@ later_there (e ∷ es) later all is =
     let both = all_there consed (entry_in e) (entries_in (es ++ later)) all is in
     later_there es later both.1 both.3
 
-journal_later : (log later : List Entry) (journal longer : Journal) → journal_in log ≡ Some journal → journal_in (log ++ later) ≡ Some longer
+pub journal_later : (log later : List Entry) (journal longer : Journal) → journal_in log ≡ Some journal → journal_in (log ++ later) ≡ Some longer
     → (ys : List plain.Entry) × (entries_in later ≡ Some ys) × (longer ≡ with_later journal ys)
 journal_later [] later journal longer is all = absurd (cc)
 journal_later (o ∷ es) later journal longer is all =
@@ -38,12 +37,12 @@ journal_later (o ∷ es) later journal longer is all =
     let there = later_there es later both.1 both.3 in
     (there.0, there.1, one_journal ((o ∷ es) ++ later) longer (with_later journal there.0) all (journal_append (o ∷ es) later journal there.0 is there.1))
 
-map_there : {X Y : Type 0} (f : X → Y) (o : Option X) (y : Y) → option_map f o ≡ Some y → (x : X) × (o ≡ Some x) × (y ≡ f x)
+pub map_there : {X Y : Type 0} (f : X → Y) (o : Option X) (y : Y) → option_map f o ≡ Some y → (x : X) × (o ≡ Some x) × (y ≡ f x)
 map_there f None y is = absurd (cc)
 map_there f (Some x) y is = (x, refl, cc)
 
 -- what one entry tells
-one_there : (e : Entry) (ys : List plain.Entry) → entries_in (e ∷ []) ≡ Some ys
+pub one_there : (e : Entry) (ys : List plain.Entry) → entries_in (e ∷ []) ≡ Some ys
     → (entered : plain.Entered) × (entered_in e.call ≡ Some entered) × (ys ≡ record { caller = e.caller; entered = entered } ∷ [])
 one_there e ys is =
     let both = all_there consed (entry_in e) (Some []) ys is in
@@ -55,10 +54,6 @@ one_there e ys is =
 
     nothing : (l : List plain.Entry) → ◌≡◌ {A = Option (List plain.Entry)} (Some []) (Some l) → [] ≡ l
     nothing l is = cc
-
--- the call that made the one entry
-made_by : {s : PlainSession} {x : plain.Entry} → IsMade s (x ∷ []) → (call : plain.Call) × IsAllowed call × (entered_by s call ≡ Some x.entered)
-made_by (more call allowed is rest) = (call, allowed, is)
 
 module _ (log : List Entry) (journal : Journal) (here : IsJournalOf log journal) (laws : KeptLaws journal) where
   seen_again : (request : Request) (body : List ℕ) (now : ℕ) (answer : KeptAnswer) (reply : plain.Reply) (made : Option Entry)
@@ -85,6 +80,12 @@ module _ (log : List Entry) (journal : Journal) (here : IsJournalOf log journal)
       let more = journal_later log later journal longer here.told more_seen.told in
       subst (λ j. bytes_for (state_of j) rid ≡ Some bytes) (sym more.2) (laws.same_bytes more.0 (subst IsJournal more.2 more_seen.made) rid bytes is)
 
+  -- whatever may be entered, a call or a limit
+  ends_by : (ending : Ending) → is_over (state_of journal) ≡ false → (entered : plain.Entered) → MayEnter (state_of journal) entered
+      → ((after_entry (state_of journal) entered).ending ≡ Some ending) ↔ Fact (tested_at (state_of journal) entered) entered (after_entry (state_of journal) entered) ending
+  ends_by ending on (plain.Made call) may = laws.ends call (plain.Made call) ending may.0 may.1 on
+  ends_by ending on (plain.Limit kind cost now) may = laws.ends_at_limit kind cost now ending may
+
   seen_ends : (e : Entry) (longer : Journal) (ending : Ending) → IsJournalOf (log ++ e ∷ []) longer → is_over (state_of journal) ≡ false
       → (entered : plain.Entered) × (entered_in e.call ≡ Some entered)
       × (((state_of longer).ending ≡ Some ending) ↔ Fact (tested_at (state_of journal) entered) entered (state_of longer) ending)
@@ -95,9 +96,9 @@ module _ (log : List Entry) (journal : Journal) (here : IsJournalOf log journal)
       let x : plain.Entry = record { caller = e.caller; entered = one.0 } in
       let same : longer ≡ with_later journal (x ∷ []) = later.2 ∙ ap (with_later journal) one.2 in
       let made : IsJournal (with_later journal (x ∷ [])) = subst IsJournal same more_seen.made in
-      let by = made_by (made_later (opened journal.opening) journal.entries (x ∷ []) made.1) in
+      let may : MayEnter s one.0 = last_may journal x made in
       let after : after_entry s one.0 ≡ state_of longer = sym (state_one_more journal x) ∙ ap state_of (sym same) in
-      (one.0, one.1, subst (λ u. (u.ending ≡ Some ending) ↔ Fact (tested_at s one.0) one.0 u ending) after (laws.ends by.0 one.0 ending by.1 by.2 on))
+      (one.0, one.1, subst (λ u. (u.ending ≡ Some ending) ↔ Fact (tested_at s one.0) one.0 u ending) after (ends_by ending on one.0 may))
 
   pub seen_keeps : SeenLaws log journal
   seen_keeps = record {

@@ -14,6 +14,7 @@ use Rattle.session_core.specs.declared.session.Session.{Session}
 use Rattle.session_core.specs.Journal as plain
 use Rattle.session_core.specs.Journal.{IsAllowed, state_of, reply_of, step, cost_of, entered_by}
 use Rattle.session_core.specs.Machine.{arrive, back, back_closed, collect, is_full, take_inward, tick}
+use Rattle.session_core.specs.Placed.{struck_tickets}
 use Rattle.session_core.specs.StandsFor.{StandsFor}
 use Rattle.session_core.specs.State.{PlainSession, is_over}
 use Rattle.session_core.specs.Steps.{Does}
@@ -29,19 +30,19 @@ use Rattle.session_journal.specs.Stored.{Enters, Steps, tickets_out}
 use Rattle.session_journal.specs.Storing.{Stands, by_caller, cost_at_end, handed_out, is_quiet, limited_or, stored_as}
 use Rattle.session_journal.proofs.Decisions.{stores, live_stores, collect_entered}
 use Rattle.session_journal.proofs.JournalLemmas.{read_gives}
-use Rattle.session_journal.proofs.OutLemmas.{arrival_out, collect_out}
+use Rattle.session_journal.proofs.OutLemmas.{arrival_out, collect_out, strikes_out}
 use Rattle.session_journal.proofs.Standing.{goes_on, tells}
 use Rattle.session_laws.specs.Tickets.{tickets_after}
 use Rattle.session_laws.proofs.ReplyLemmas.{tick_quiet}
 use Rattle.session_laws.proofs.Tests.{both_true, if_true, is_or_not, not_true, true_false}
-use Rattle.session_laws.proofs.TicketSteps.{every_ticket}
+use Rattle.session_laws.proofs.TicketSteps.{every_after}
 
 -- what uses a ticket up says that one was out
 pub one_out : {session : Session} {log : List Entry} {out : ℕ} (old : Stands session log out) (ticket : ℕ) (reply : Collected) → reply ≡ (collect (state_of old.journal) ticket).1 → uses_up reply ≡ true
     → out ≡ tickets_out (step (state_of old.journal) (plain.Collect ticket)).0.tickets + 1
 one_out old ticket reply told uses =
     old.out_is ∙ collect_out (state_of old.journal) ticket (ap uses_up (sym told) ∙ uses)
-    ∙ ap (λ tickets. tickets_out tickets + 1) (sym (every_ticket old.journal (old.is).made (plain.Collect ticket)))
+    ∙ ap (λ tickets. tickets_out tickets + 1) (sym (every_after old.journal (old.is).made (plain.Collect ticket) tt).1)
 
 module _ {session : Session} {log : List Entry} {out : ℕ} (old : Stands session log out) (after : Session) (caller : ℕ) (later : List Entry) where
   -- the session stands for the replay of the later entries, and the call did what it should
@@ -60,8 +61,11 @@ module _ {session : Session} {log : List Entry} {out : ℕ} (old : Stands sessio
   )
 
   -- a call that hands out no ticket and uses none up
-  still_out : (call : plain.Call) → tickets_after (state_of old.journal) call ≡ (state_of old.journal).tickets → out ≡ tickets_out (step (state_of old.journal) call).0.tickets
-  still_out call same = old.out_is ∙ ap tickets_out (sym (every_ticket old.journal (old.is).made call ∙ same))
+  still_out : (call : plain.Call) → IsAllowed call → ((struck : List ℕ) → tickets_out (tickets_after (state_of old.journal) struck call) ≡ tickets_out (state_of old.journal).tickets)
+      → out ≡ tickets_out (step (state_of old.journal) call).0.tickets
+  still_out call allowed same =
+      let after_call = every_after old.journal (old.is).made call allowed in
+      old.out_is ∙ sym (same after_call.0) ∙ ap tickets_out (sym after_call.1)
 
   limited_enters : (call : plain.Call) (allowed : IsAllowed call) (kind : Limited) (now : ℕ) (e : Entered) → entered_in e ≡ Some (plain.Made call)
       → entered_by (state_of old.journal) call ≡ (if is_over (state_of old.journal) then None
@@ -81,9 +85,10 @@ module _ {session : Session} {log : List Entry} {out : ℕ} (old : Stands sessio
   arrived request body now allowed reply does before ended entered handed before_is ended_is entered_is handed_is adds =
       let call : plain.Call = plain.Arrive request body now in
       let s : PlainSession = state_of old.journal in
+      let after_call = every_after old.journal (old.is).made call allowed in
       goes call allowed (plain.ToArrive reply) does.after (ap plain.ToArrive does.replies) (out + handed)
-      (ap₂ (λ a b. a + b) old.out_is (handed_is ∙ ap handed_out does.replies) ∙ sym (arrival_out s.tickets request.rid (arrive s request body now).1)
-      ∙ sym (ap tickets_out (every_ticket old.journal (old.is).made call)))
+      (ap₂ (λ a b. a + b) (old.out_is ∙ sym (strikes_out after_call.0 s.tickets)) (handed_is ∙ ap handed_out does.replies)
+      ∙ sym (arrival_out (struck_tickets after_call.0 s.tickets) request.rid (arrive s request body now).1) ∙ sym (ap tickets_out after_call.1))
       (by_caller caller entered)
       (limited_enters call allowed limits.Arrival now (stored.Arrive body now) (ap (option_map (λ r. plain.Made (plain.Arrive r body now))) (read_gives body request allowed.0)) refl
       before ended entered before_is ended_is entered_is)
@@ -96,7 +101,7 @@ module _ {session : Session} {log : List Entry} {out : ℕ} (old : Stands sessio
       → Adds (by_caller caller entered) → Goes (plain.Back stream stanza now) (plain.ToBack reply) out
   given stream stanza now allowed reply does before ended entered before_is ended_is entered_is adds =
       let call : plain.Call = plain.Back stream stanza now in
-      goes call allowed (plain.ToBack reply) does.after (ap plain.ToBack does.replies) out (still_out call refl) (by_caller caller entered)
+      goes call allowed (plain.ToBack reply) does.after (ap plain.ToBack does.replies) out (still_out call allowed (λ struck. strikes_out struck (state_of old.journal).tickets)) (by_caller caller entered)
       (limited_enters call allowed limits.ServerStanza now (stored.Back stream stanza now) refl refl before ended entered before_is ended_is entered_is) adds
 
   pub closed : (stream : ℕ) (closing : Closing) (now : ℕ)
@@ -106,7 +111,7 @@ module _ {session : Session} {log : List Entry} {out : ℕ} (old : Stands sessio
       → Adds (by_caller caller entered) → Goes (plain.BackClosed stream closing now) (plain.ToBack reply) out
   closed stream closing now reply does before ended entered before_is ended_is entered_is adds =
       let call : plain.Call = plain.BackClosed stream closing now in
-      goes call tt (plain.ToBack reply) does.after (ap plain.ToBack does.replies) out (still_out call refl) (by_caller caller entered)
+      goes call tt (plain.ToBack reply) does.after (ap plain.ToBack does.replies) out (still_out call tt (λ struck. strikes_out struck (state_of old.journal).tickets)) (by_caller caller entered)
       (limited_enters call tt limits.ServerClosing now (stored.BackClosed stream closing now) refl refl before ended entered before_is ended_is entered_is) adds
 
   pub changed : (now : ℕ) (reply : Ticked) → Does after reply (tick (state_of old.journal) now) → is_quiet reply ≡ false
@@ -122,7 +127,7 @@ module _ {session : Session} {log : List Entry} {out : ℕ} (old : Stands sessio
       ] in
       let on : is_over s ≡ false = not_true (is_over s) (both_true (not (is_over s)) _ due).0 in
       let decided = live_stores old.journal (old.is).made call tt limits.Time now (stored.Tick now) caller refl on (if_true (is_due s now) _ _ due) in
-      goes call tt (plain.ToTick reply) does.after (ap plain.ToTick does.replies) out (still_out call refl) (by_caller caller entered)
+      goes call tt (plain.ToTick reply) does.after (ap plain.ToTick does.replies) out (still_out call tt (λ struck. strikes_out struck s.tickets)) (by_caller caller entered)
       (subst (λ o. Enters (by_caller caller o) (entered_by s call)) (sym (entered_is ∙ ap (λ a. Some (limited_or (cost_at_end a) limits.Time now (stored.Tick now))) ended_is)) decided)
       adds
 
@@ -130,7 +135,7 @@ module _ {session : Session} {log : List Entry} {out : ℕ} (old : Stands sessio
       → Adds (by_caller caller (Some stored.TakeInward)) → Goes plain.TakeInward (plain.ToTakeInward reply) out
   taken reply told stands some adds =
       let s : PlainSession = state_of old.journal in
-      goes plain.TakeInward tt (plain.ToTakeInward reply) stands (ap plain.ToTakeInward told) out (still_out plain.TakeInward refl) (by_caller caller (Some stored.TakeInward))
+      goes plain.TakeInward tt (plain.ToTakeInward reply) stands (ap plain.ToTakeInward told) out (still_out plain.TakeInward tt (λ struck. refl)) (by_caller caller (Some stored.TakeInward))
       (plain.Made plain.TakeInward, if_true (is_some (take_inward s).1) _ _ (ap is_some (sym told) ∙ some), refl) adds
 
   pub collected : (ticket : ℕ) (reply : Collected) → reply ≡ (collect (state_of old.journal) ticket).1 → StandsFor after (collect (state_of old.journal) ticket).0

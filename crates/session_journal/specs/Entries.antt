@@ -34,17 +34,17 @@ terms_in (kinds.Creation creation) = Some (terms_of creation)
 terms_in (kinds.Later sid) = None
 
 -- the opening with a request, its terms, and what the entry has
-abbrev pub opening_by : List ℕ → List ℕ → List (List ℕ) → List ℕ → ℕ → ℕ → Request → Terms → Opening
-opening_by sid host greeting body now limit request terms =
-    record { request = request; body = body; terms = terms; sid = sid; host = host; greeting = greeting; at = now; limit = limit }
+abbrev pub opening_by : List ℕ → List ℕ → List (List ℕ) → List ℕ → ℕ → ℕ → ℕ → Request → Terms → Opening
+opening_by sid host greeting body now limit gap_waits request terms =
+    record { request = request; body = body; terms = terms; sid = sid; host = host; greeting = greeting; at = now; limit = limit; gap_waits = gap_waits }
 
 -- the opening with the request and the terms that its body gives
-abbrev pub opening_with : List ℕ → List ℕ → List (List ℕ) → List ℕ → ℕ → ℕ → Request → Option Opening
-opening_with sid host greeting body now limit request =
-    option_map (opening_by sid host greeting body now limit request) (terms_in request.kind)
+abbrev pub opening_with : List ℕ → List ℕ → List (List ℕ) → List ℕ → ℕ → ℕ → ℕ → Request → Option Opening
+opening_with sid host greeting body now limit gap_waits request =
+    option_map (opening_by sid host greeting body now limit gap_waits request) (terms_in request.kind)
 
 abbrev pub opening_in : Entered → Option Opening
-opening_in (stored.Open sid host greeting body now limit) = option_and_then (opening_with sid host greeting body now limit) (request_in body)
+opening_in (stored.Open sid host greeting body now limit gap_waits) = option_and_then (opening_with sid host greeting body now limit gap_waits) (request_in body)
 opening_in _ = None
 
 abbrev pub limited_in : Limited → plain.Limited
@@ -55,7 +55,7 @@ limited_in limits.Time = plain.Time
 
 -- what a later entry tells: an opening comes first alone
 abbrev pub entered_in : Entered → Option plain.Entered
-entered_in (stored.Open sid host greeting body now limit) = None
+entered_in (stored.Open sid host greeting body now limit gap_waits) = None
 entered_in (stored.Arrive body now) = option_map (λ request. plain.Made (plain.Arrive request body now)) (request_in body)
 entered_in (stored.Collect ticket) = Some (plain.Made (plain.Collect ticket))
 entered_in (stored.Back stream stanza now) = Some (plain.Made (plain.Back stream stanza now))
@@ -84,7 +84,7 @@ journal_in (e ∷ es) = all_of (λ opening later. record { opening = opening; en
 
 -- the host that the opening names
 abbrev pub host_in : Entered → Option (List ℕ)
-host_in (stored.Open sid host greeting body now limit) = Some host
+host_in (stored.Open sid host greeting body now limit gap_waits) = Some host
 host_in _ = None
 
 abbrev pub host_of : List Entry → Option (List ℕ)

@@ -5,3 +5,4 @@ pub mod Storing
 pub mod Seen
 pub mod SeenLaws
 pub mod Recording
+pub mod Redoing

@@ -11,7 +11,7 @@ use Rattle.session_core.specs.Kept.{kept_of}
 use Rattle.session_core.specs.Machine.{body_cost, bytes_for, is_full}
 use Rattle.session_core.specs.Passed.{passed_of}
 use Rattle.session_core.specs.Points.{tested_at}
-use Rattle.session_core.specs.Run.{IsLongestRun, arrivals_of, run_of}
+use Rattle.session_core.specs.Run.{IsLongestRun, placings_of, run_of}
 use Rattle.session_core.specs.State.{inward, is_over}
 use Rattle.session_core.specs.Time.{time_applied}
 use Rattle.session_laws.specs.Growing.{Grows}
@@ -22,8 +22,8 @@ use Rattle.session_journal.specs.Stored.{IsJournalOf, Replies}
 
 -- what was seen is this log, which tells this journal
 pub record SeenLaws (log : List Entry) (journal : Journal) : Type 0 where
-  -- while the session goes on, what goes inward is what the longest unbroken run of the ids that arrived carries
-  pub longest_run : is_over (state_of journal) ≡ false → IsLongestRun journal.opening.request.rid (arrivals_of journal) (run_of journal)
+  -- while the session goes on, what goes inward is what the longest unbroken run of the ids that were received carries
+  pub longest_run : is_over (state_of journal) ≡ false → IsLongestRun journal.opening.request.rid (placings_of journal) (run_of journal)
   -- what was taken inward are the first items of that, one with each entry that took one, and the next look is told the next item
   pub taken : take (state_of journal).passed (inward (state_of journal)) ≡ passed_of journal
   pub next_taken : (reply : plain.Reply) (made : Option Entry) → Replies log TakeInward reply made

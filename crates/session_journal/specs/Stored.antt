@@ -3,7 +3,7 @@ use Rattle.std.specs.Prelude.{◌≡◌, ℕ, ◌+◌, List, [], ◌∷◌, Opti
 use Rattle.parked_gate.specs.Histories.{Appends}
 use Rattle.session_core.specs.Journal as plain
 use Rattle.session_core.specs.Journal.{Journal, IsJournal, state_of, reply_of, entered_by}
-use Rattle.session_core.specs.State.{PlainSession, Issued, TicketState, Waits, Replaced, UsedUp}
+use Rattle.session_core.specs.State.{PlainSession, Issued, TicketState, Waits, Replaced, Struck, UsedUp}
 use Rattle.session_journal.specs.declared.entry.Entry.{Entry}
 use Rattle.session_journal.specs.Entries.{entered_in, journal_in}
 
@@ -44,6 +44,7 @@ pub record Steps (log : List Entry) (caller : ℕ) (call : plain.Call) (reply : 
 abbrev pub outs : TicketState → ℕ
 outs Waits = 1
 outs Replaced = 1
+outs Struck = 1
 outs UsedUp = 0
 
 -- how many tickets are out

@@ -13,7 +13,7 @@ pub enum Limited {
 #[derive(Debug, Drop)]
 pub enum Entered {
     /// The creation of the session, under the name `sid`, for a host with a greeting, with as many counted bytes as its journal
-    /// may have. It comes first, and nowhere else.
+    /// may have, and after how many times `wait` a copy beyond a gap is struck. It comes first, and nowhere else.
     Open {
         sid: Text,
         host: SharedText,
@@ -21,6 +21,7 @@ pub enum Entered {
         body: SharedText,
         now: Moment,
         limit: u64,
+        gap_waits: u32,
     },
     Arrive {
         body: SharedText,

@@ -1,17 +1,20 @@
-ghost use Rattle.std.specs.Prelude.{◌≡◌, ◌≤◌, ◌∷◌, [], IfOk, OnErr};
+ghost use Rattle.std.specs.Prelude.{◌≡◌, ◌≤◌, ◌∷◌, [], IfOk, OnErr, length};
 ghost use Rattle.body_writer.specs.Answer.{answer_text};
 ghost use Rattle.session_core.specs.Journal.{Collect, IsAllowed, IsOpening, ToCollect};
 ghost use Rattle.session_core.specs.Machine.{created_parts};
 ghost use Rattle.pause_rules.specs.Due.{IsFirstMoment};
 ghost use Rattle.session_core.specs.Time.{is_due};
 ghost use Rattle.session_journal.specs.Calls.{IsReplyTo, call_in, reply_in};
+ghost use Rattle.session_journal.specs.declared.entry.Entered.TheVariants as stored;
 ghost use Rattle.session_journal.specs.declared.entry.Entered.TheVariants.{Open};
+ghost use Rattle.session_journal.specs.Redoing.{Redoes, stored_call};
 ghost use Rattle.session_journal.specs.Stored.{After, IsJournalOf, IsLegal, Steps, tickets_out};
 
 use crate::call::{Call, Reply};
-use crate::entry::Entry;
+use crate::entry::{Entry, Limited};
 use crate::recorded::Recorded;
-use crate::storing::{make_room, store};
+use crate::redoing::{Again, Redone, asked_again};
+use crate::storing::{make_room, store, uses_up};
 use bosh_types::{Ending, Moment, SharedText, Ticket};
 use session_core::{Collected, Opening};
 use std::alloc::{AllocError, Global};
@@ -47,7 +50,7 @@ impl Journalled {
         caller: u32,
     ) -> Result<(Journalled, SharedText), AllocError>
         requires { IsOpening opening }
-        ensures entries { IfOk result (λ made. made.0 ≡ record { caller = caller; call = Open opening.sid opening.host opening.greeting opening.body opening.at opening.limit } ∷ []) }
+        ensures entries { IfOk result (λ made. made.0 ≡ record { caller = caller; call = Open opening.sid opening.host opening.greeting opening.body opening.at opening.limit opening.gap_waits } ∷ []) }
         ensures journal { IfOk result (λ made. IsJournalOf made.0 (record { opening = opening; entries = [] })) }
         ensures text { IfOk result (λ made. made.1 ≡ answer_text (created_parts opening)) }
     {
@@ -84,6 +87,77 @@ impl Journalled {
         let (collected, entered) = self.recorded.collect(caller, ticket);
         store(&mut self.entries, caller, entered);
         collected
+    }
+
+    /// Makes an entry again that a stored journal has, with its caller's number. `Done` exactly where the entries with this one are
+    /// a journal, and then it is the last of them: its call may be made, the rules enter just it there, or its limit may be
+    /// entered. `Foreign` otherwise, and then nothing changed. The only error is want of memory, and then all is as it was.
+    pub fn redo(&mut self, alloc: Global, entry: &Entry) -> Result<Redone, AllocError>
+        ensures redoes { IfOk result (λ redone. Redoes self.old entry.now redone self.new) }
+        ensures err { OnErr result (self.new ≡ self.old) }
+    {
+        let asked = asked_again(alloc, &entry.call)?;
+        match asked {
+            Again::Call(call) => self.redo_call(entry.caller, call),
+            Again::Poll(ticket) => Ok(self.redo_poll(entry.caller, ticket)),
+            Again::Limit { kind, cost, now } => self.redo_limit(entry.caller, kind, cost, now),
+            Again::Nothing => {
+                // The proof learns here that the entries tell a journal.
+                let _count = self.recorded.count();
+                Ok(Redone::Foreign)
+            }
+        }
+    }
+
+    // A call is made where it is entered as itself.
+    fn redo_call(&mut self, caller: u32, call: Call) -> Result<Redone, AllocError>
+        requires { IsAllowed (call_in call) }
+        ensures redoes { IfOk result (λ redone. Redoes self.old (record { caller = caller; call = stored_call call }) redone self.new) }
+        ensures err { OnErr result (self.new ≡ self.old) }
+    {
+        if !self.recorded.enters(&call) {
+            return Ok(Redone::Foreign);
+        }
+        let _reply = self.step(caller, call)?;
+        Ok(Redone::Done)
+    }
+
+    // A poll that finds nothing changes nothing.
+    fn redo_poll(&mut self, caller: u32, ticket: Ticket) -> Redone
+        ensures { Redoes self.old (record { caller = caller; call = stored.Collect ticket }) result self.new }
+    {
+        let collected = self.poll(caller, ticket);
+        if !uses_up(&collected) {
+            return Redone::Foreign;
+        }
+        Redone::Done
+    }
+
+    // The limit is met where it may be entered, whatever its cost.
+    fn redo_limit(
+        &mut self,
+        caller: u32,
+        kind: Limited,
+        cost: u64,
+        now: Moment,
+    ) -> Result<Redone, AllocError>
+        ensures redoes { IfOk result (λ redone. Redoes self.old (record { caller = caller; call = stored.Limit kind cost now }) redone self.new) }
+        ensures err { OnErr result (self.new ≡ self.old) }
+    {
+        if !self.recorded.may_limit(kind, cost, now) {
+            return Ok(Redone::Foreign);
+        }
+        make_room(&mut self.entries, self.recorded.out(), 0)?;
+        let entered = self.recorded.meet_limit(caller, kind, cost, now)?;
+        store(&mut self.entries, caller, entered);
+        Ok(Redone::Done)
+    }
+
+    /// How many tickets were handed out so far: they have the numbers from 1 to that. It takes no memory.
+    pub fn tickets_given(&self) -> u32
+        ensures { After self.now (λ plain. result ≡ length plain.tickets) }
+    {
+        self.recorded.tickets_given()
     }
 
     /// The entries from the opening on.

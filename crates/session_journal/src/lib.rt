@@ -11,6 +11,7 @@ mod journalled;
 mod laws;
 mod object;
 mod recorded;
+mod redoing;
 mod storing;
 
 pub use asking::{Answer, Found, Question, State};
@@ -20,3 +21,4 @@ pub use history::History;
 pub use journalled::Journalled;
 pub use laws::what_was_seen_keeps_the_laws;
 pub use recorded::{Begun, Made, Recorded};
+pub use redoing::Redone;

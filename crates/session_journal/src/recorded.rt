@@ -28,13 +28,13 @@ use std::marker::Model;
 /// call hands out the entry that it made, for whoever stores them.
 #[derive(Drop)]
 pub struct Recorded {
-    alloc: Global,
-    session: Session,
+    pub(crate) alloc: Global,
+    pub(crate) session: Session,
     // The host that the opening names.
-    host: SharedText,
-    entries: History<Entry>,
+    pub(crate) host: SharedText,
+    pub(crate) entries: History<Entry>,
     // How many tickets are out, each of which makes one entry more.
-    out: usize,
+    pub(crate) out: usize,
 }
 
 impl Model for Recorded {
@@ -68,7 +68,7 @@ impl Recorded {
     /// Opens a session, as `Session::open`. Its first entry is the caller's. The only error is want of memory.
     pub fn open(alloc: Global, opening: Opening, caller: u32) -> Result<Begun, AllocError>
         requires { IsOpening opening }
-        ensures entry { IfOk result (λ begun. begun.entry ≡ record { caller = caller; call = Open opening.sid opening.host opening.greeting opening.body opening.at opening.limit }) }
+        ensures entry { IfOk result (λ begun. begun.entry ≡ record { caller = caller; call = Open opening.sid opening.host opening.greeting opening.body opening.at opening.limit opening.gap_waits }) }
         ensures log { IfOk result (λ begun. begun.recorded ≡ record { log = begun.entry ∷ []; out = 0 }) }
         ensures journal { IfOk result (λ begun. IsJournalOf begun.recorded.log (record { opening = opening; entries = [] })) }
         ensures text { IfOk result (λ begun. begun.answer ≡ answer_text (created_parts opening)) }
@@ -81,6 +81,7 @@ impl Recorded {
             greeting,
             at,
             limit,
+            gap_waits,
             ..
         } = opening;
         let home = host.again()?;
@@ -91,6 +92,7 @@ impl Recorded {
             body,
             now: at,
             limit,
+            gap_waits,
         };
         let mut entries = History::new();
         let entry = Entry {

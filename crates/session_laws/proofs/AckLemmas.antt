@@ -5,18 +5,18 @@ use Rattle.std.proofs.lemmas.List.{take_at, take-append-le}
 use Rattle.ack_report.specs.Report.{keep_on}
 use Rattle.reply_keep.specs.PlainKeep.{PlainKeep, last_id, last_after}
 use Rattle.session_core.specs.declared.copy.RequestCopy.{RequestCopy}
-use Rattle.session_core.specs.Journal.{Entry, Journal}
+use Rattle.session_core.specs.Journal.{Entry, IsMade, Journal}
 use Rattle.session_core.specs.Kept.{kept_answer}
-use Rattle.session_core.specs.Machine.{creation_of}
+use Rattle.session_core.specs.Machine.{opened}
 use Rattle.session_core.specs.declared.opening.Opening.{Opening}
-use Rattle.session_core.specs.Run.{moment_after, arrival_in, arrivals_from, arrivals_with, HasNot, Completes, state_testing}
+use Rattle.session_core.specs.Run.{Completes, state_testing}
 use Rattle.session_laws.proofs.Tests.{true_false}
 use Rattle.session_laws.specs.RunEnded.{BreaksNoRule}
 use Rattle.session_core.specs.State.{PlainSession, Answered, answers, answered_of}
 use Rattle.session_laws.specs.Acknowledging.{AckedIn}
-use Rattle.session_laws.proofs.JournalLemmas.{journal_with, has_not_before}
+use Rattle.session_laws.proofs.JournalLemmas.{journal_with}
 use Rattle.session_laws.proofs.Lists.{get_push, get_push_still, get_within, get_last}
-use Rattle.session_laws.proofs.Followed.{moment_of}
+use Rattle.session_laws.proofs.Persist.{made_front, stays}
 use Rattle.session_laws.proofs.SoundLemmas.{IsSound}
 use Rattle.session_laws.proofs.Bytes.{IsFirstAnswer}
 
@@ -41,26 +41,13 @@ two_places (x ∷ b) (y ∷ b') e e' a a' is =
       ]
     ]
 
-arrivals-append : (moment : ℕ) (past later : List Entry) → arrivals_from moment (past ++ later) ≡ arrivals_from moment past ++ arrivals_from (moment_of moment past) later
-arrivals-append moment [] later = refl
-arrivals-append moment (entry ∷ past) later =
-    ap (λ l. arrival_in moment entry.entered ++ l) (arrivals-append (moment_after moment entry.entered) past later)
-    ∙ sym (append_assoc (arrival_in moment entry.entered) (arrivals_from (moment_after moment entry.entered) past) (arrivals_from (moment_of (moment_after moment entry.entered) past) later))
-
--- what had not arrived with an entry had not before
-pub not_earlier : (o : Opening) (b : List Entry) (e : Entry) (m b' : List Entry) (rid : ℕ) → b' ≡ b ++ e ∷ m → HasNot (arrivals_with o b') rid → HasNot (arrivals_with o (b ++ e ∷ [])) rid
-not_earlier o b e m b' rid is none =
-    let all : arrivals_with o b' ≡ arrivals_with o (b ++ e ∷ []) ++ arrivals_from (moment_of o.at (b ++ e ∷ [])) m =
-    ap (arrivals_with o) (is ∙ sym (append_assoc b (e ∷ []) m)) ∙ ap (λ l. creation_of o ∷ l) (arrivals-append o.at (b ++ e ∷ []) m) in
-    has_not_before (arrivals_with o (b ++ e ∷ [])) _ rid (subst (λ l. HasNot l rid) all none)
-
-pub complete_one : (o : Opening) (entries : List Entry) (lower : List RequestCopy) (b : List Entry) (e : Entry) (a : List Entry) (b' : List Entry) (e' : Entry) (a' : List Entry) → entries ≡ b ++ e ∷ a → entries ≡ b' ++ e' ∷ a'
+pub complete_one : (o : Opening) (entries : List Entry) (lower : List RequestCopy) (b : List Entry) (e : Entry) (a : List Entry) (b' : List Entry) (e' : Entry) (a' : List Entry) → IsMade (opened o) entries → entries ≡ b ++ e ∷ a → entries ≡ b' ++ e' ∷ a'
     → Completes o b e lower → Completes o b' e' lower → (b ≡ b') × (e ≡ e')
-complete_one o entries lower b e a b' e' a' is is' completes completes' = elim (two_places b b' e e' a a' (sym is ∙ is')) [
+complete_one o entries lower b e a b' e' a' made is is' completes completes' = elim (two_places b b' e e' a a' (sym is ∙ is')) [
   | inl same ↦ same
   | inr apart ↦ elim apart [
-    | inl later ↦ absurd (completes.arrived (completes'.not_yet).0 (completes'.not_yet).1 (not_earlier o b e later.0 b' _ later.1 (completes'.not_yet).2))
-    | inr earlier ↦ absurd (completes'.arrived (completes.not_yet).0 (completes.not_yet).1 (not_earlier o b' e' earlier.0 b _ earlier.1 (completes.not_yet).2))
+    | inl later ↦ absurd (stays o b e later.0 b' (length lower) later.1 (made_front (opened o) b' (e' ∷ a') (subst (IsMade (opened o)) is' made)) completes.together (completes'.not_yet).0 (completes'.not_yet).1 (completes'.not_yet).2)
+    | inr earlier ↦ absurd (stays o b' e' earlier.0 b (length lower) earlier.1 (made_front (opened o) b (e ∷ a) (subst (IsMade (opened o)) is made)) completes'.together (completes.not_yet).0 (completes.not_yet).1 (completes.not_yet).2)
   ]
 ]
 
@@ -71,15 +58,15 @@ pub record Acknowledges (journal : Journal) (on : Bool) (acknowledged : ℕ) (pr
   pub off : on ≡ false → acknowledged ≡ 0
 
 -- one more entry changes nothing of what was processed before it
-pub acks_more : (o : Opening) (past : List Entry) (entry : Entry) (on : Bool) (acknowledged : ℕ) (processed : List RequestCopy) → BreaksNoRule (journal_with o past) processed → Acknowledges (journal_with o past) on acknowledged processed
+pub acks_more : (o : Opening) (past : List Entry) (entry : Entry) (on : Bool) (acknowledged : ℕ) (processed : List RequestCopy) → IsMade (opened o) (past ++ entry ∷ []) → BreaksNoRule (journal_with o past) processed → Acknowledges (journal_with o past) on acknowledged processed
     → Acknowledges (journal_with o (past ++ entry ∷ [])) on acknowledged processed
-acks_more o past entry on acknowledged processed keeps acks = record {
+acks_more o past entry on acknowledged processed made keeps acks = record {
   forth = λ is rid some within.
       let a = acks.forth is rid some within in
       (a.0, a.1, a.2, a.3, a.4, a.5 ++ entry ∷ [], a.6, a.7, a.8, ap (λ es. es ++ entry ∷ []) a.9 ∙ append_assoc a.3 (a.4 ∷ a.5) (entry ∷ []), a.10, a.11);
   back = λ is rid a.
       let j = keeps.tried a.0 a.1 a.6 in
-      let same = complete_one o (past ++ entry ∷ []) (take a.0 processed) a.3 a.4 a.5 j.0 j.1 (j.2 ++ entry ∷ []) a.9 (ap (λ es. es ++ entry ∷ []) j.3 ∙ append_assoc j.0 (j.1 ∷ j.2) (entry ∷ [])) a.10 j.4 in
+      let same = complete_one o (past ++ entry ∷ []) (take a.0 processed) a.3 a.4 a.5 j.0 j.1 (j.2 ++ entry ∷ []) made a.9 (ap (λ es. es ++ entry ∷ []) j.3 ∙ append_assoc j.0 (j.1 ∷ j.2) (entry ∷ [])) a.10 j.4 in
       let within : rid ≤ answered_of (state_testing o j.0 j.1) = subst (λ (s : PlainSession). rid ≤ answered_of s) (ap₂ (state_testing o) same.0 same.1) a.11 in
       acks.back is rid (a.0, a.1, a.2, j.0, j.1, j.2, a.6, a.7, a.8, j.3, j.4, within);
   off = acks.off;
@@ -110,15 +97,15 @@ some_same : (o : Option ℕ) (n m : ℕ) → o ≡ Some n → o ≡ Some m → n
 some_same o n m one other = cc
 
 -- one more copy is processed with this entry
-pub acks_push : (o : Opening) (past : List Entry) (entry : Entry) (processed : List RequestCopy) (c : RequestCopy) → Completes o past entry processed → (on : Bool) (plain : PlainKeep) → last_id plain.put ≡ answered_of (state_testing o past entry)
+pub acks_push : (o : Opening) (past : List Entry) (entry : Entry) (processed : List RequestCopy) (c : RequestCopy) → IsMade (opened o) (past ++ entry ∷ []) → Completes o past entry processed → (on : Bool) (plain : PlainKeep) → last_id plain.put ≡ answered_of (state_testing o past entry)
     → Acknowledges (journal_with o (past ++ entry ∷ [])) on plain.acknowledged processed → (ack : Option ℕ) → c.request.ack ≡ ack
     → Acknowledges (journal_with o (past ++ entry ∷ [])) on (keep_on on plain ack).acknowledged (processed ++ c ∷ [])
-acks_push o past entry processed c completes false plain last acks ack is = record {
+acks_push o past entry processed c made completes false plain last acks ack is = record {
   forth = λ on. absurd (true_false (sym on));
   back = λ on. absurd (true_false (sym on));
   off = acks.off;
 }
-acks_push o past entry processed c completes true plain last acks None is = record {
+acks_push o past entry processed c made completes true plain last acks None is = record {
   forth = λ on rid some within. acked_push (journal_with o (past ++ entry ∷ [])) processed c rid (acks.forth on rid some within);
   back = λ on rid a. elim (acked_pop (journal_with o (past ++ entry ∷ [])) processed c rid a) [
     | inl earlier ↦ acks.back on rid earlier
@@ -126,7 +113,7 @@ acks_push o past entry processed c completes true plain last acks None is = reco
   ];
   off = λ on. absurd (true_false on);
 }
-acks_push o past entry processed c completes true plain last acks (Some ack) is = record {
+acks_push o past entry processed c made completes true plain last acks (Some ack) is = record {
   forth = λ on rid some within. elim (cases_lt plain.acknowledged rid) [
     | inr old ↦ acked_push (journal_with o (past ++ entry ∷ [])) processed c rid (acks.forth on rid some old)
     | inl new ↦ (length processed, c, ack, past, entry, [], get_last processed c, is, omega arith, refl, subst (Completes o past entry) (sym (take_at processed (c ∷ []) (length processed) refl)) completes, omega (arith, last))
@@ -136,7 +123,7 @@ acks_push o past entry processed c completes true plain last acks (Some ack) is 
         let old : rid ≤ plain.acknowledged = acks.back on rid earlier in
         omega arith)
     | inr new ↦
-        let same = complete_one o (past ++ entry ∷ []) processed new.1 new.2 new.3 past entry [] new.6 refl new.7 completes in
+        let same = complete_one o (past ++ entry ∷ []) processed new.1 new.2 new.3 past entry [] made new.6 refl new.7 completes in
         let within : rid ≤ answered_of (state_testing o past entry) = subst (λ (s : PlainSession). rid ≤ answered_of s) (ap₂ (state_testing o) same.0 same.1) new.8 in
         let ack_is : new.0 ≡ ack = some_same c.request.ack new.0 ack new.4 is in
         let reached : rid ≤ ack = omega (arith, new.5, ack_is) in

@@ -14,7 +14,7 @@ use Rattle.session_core.specs.Copy.{id_of}
 use Rattle.session_core.specs.Endings.{ended}
 use Rattle.session_core.specs.Journal.{Journal, IsJournal, state_of}
 use Rattle.session_core.specs.Machine.{opened, with_copy}
-use Rattle.session_core.specs.State.{PlainSession, Answered}
+use Rattle.session_core.specs.State.{Stands, Strikes, PlainSession, Answered}
 use Rattle.session_laws.specs.Answering.{WasGiven, IsLongestFront}
 use Rattle.session_laws.specs.Growing.{Begins}
 use Rattle.session_laws.proofs.Tests.{split}
@@ -73,7 +73,8 @@ all_given = record {
         }
       ];
   processes = λ t copy on stands broken p k answer is. moved t (with_copy t copy) k answer refl refl refl refl (copy ∷ [], refl) (begins_same t.given) (p k answer is);
-  stands = λ t copy above none small p k answer is. moved t (record t { standing = t.standing ++ copy ∷ [] }) k answer refl refl refl refl (begins_same t.processed) (begins_same t.given) (p k answer is);
+  stands = λ t copy above none small p k answer is. moved t (record t { placings = t.placings ++ Stands copy ∷ [] }) k answer refl refl refl refl (begins_same t.processed) (begins_same t.given) (p k answer is);
+  strikes = λ t rid on is_due p k answer is. moved t (record t { placings = t.placings ++ Strikes rid t.now ∷ [] }) k answer refl refl refl refl (begins_same t.processed) (begins_same t.given) (p k answer is);
   gives = λ t item p k answer is. moved t (record t { given = t.given ++ item ∷ [] }) k answer refl refl refl refl (begins_same t.processed) (item ∷ [], refl) (p k answer is);
 }
 

@@ -61,6 +61,7 @@ first_answer_steady = record {
   answers = λ t oldest later front is on reason taken p. p;
   processes = λ t copy on stands broken p. p;
   stands = λ t copy above none small p. p;
+  strikes = λ t rid on is p. p;
   gives = λ t item p. p;
 }
 
@@ -106,9 +107,9 @@ repeat_gets s request body now a on room goes sound first kept =
 -- once a session has ended, only what was collected and passed on changes
 pub ended_all : (s : PlainSession) (entries : List Entry) → IsMade s entries → is_over s ≡ true → after_entries s entries ≡ record s { tickets = (after_entries s entries).tickets; passed = (after_entries s entries).passed }
 ended_all s entries made over = along s (λ past t. t ≡ record s { tickets = t.tickets; passed = t.passed })
-    (λ past t call entry allowed same is p.
+    (λ past t entry may same p.
     let still : is_over t ≡ true = ap is_over p ∙ over in
-    let e = ended_stays t call allowed entry.entered is still in
+    let e = ended_stays t entry.entered may still in
     e ∙ ap (λ (u : PlainSession). record u { tickets = (after_entry t entry.entered).tickets; passed = (after_entry t entry.entered).passed }) p)
     entries made refl
 

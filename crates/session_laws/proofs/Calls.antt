@@ -6,7 +6,7 @@ use Rattle.session_core.specs.declared.replies.Ticked.{Ticked}
 use Rattle.bosh_types.specs.declared.inward.Inward.{Inward}
 use Rattle.session_core.specs.Journal.{Call, Arrive, Collect, Back, BackClosed, Tick, TakeInward, Entered, Made, step, collected_entry, entered_by, after_entry}
 use Rattle.session_core.specs.Machine.{body_cost, stanza_cost, plain_cost, is_full, collected_from, collected_by, collected_bytes, bytes_for, passed_on}
-use Rattle.session_core.specs.State.{PlainSession, Issued, TicketState, Waits, Replaced, UsedUp, inward, is_over}
+use Rattle.session_core.specs.State.{PlainSession, Issued, TicketState, Waits, Replaced, Struck, UsedUp, inward, is_over}
 use Rattle.session_core.specs.Time.{is_due}
 
 abbrev pub Leaves : PlainSession → PlainSession → Option Entered → Type 0
@@ -33,6 +33,7 @@ ticket_leaves : (s : PlainSession) (index : ℕ) (ticket : Issued) (state : Tick
     → Leaves s (collected_by s index ticket state).0 (collected_entry s (Collect (suc index)) (collected_by s index ticket state).1)
 ticket_leaves s index ticket Waits makes = bytes_leave s index ticket (bytes_for s ticket.rid) makes
 ticket_leaves s index ticket Replaced makes = sym makes
+ticket_leaves s index ticket Struck makes = sym makes
 ticket_leaves s index ticket UsedUp makes = refl
 
 collect_leaves : (s : PlainSession) (index : ℕ) (o : Option Issued) → after_entry s (Made (Collect (suc index))) ≡ (collected_from s index o).0

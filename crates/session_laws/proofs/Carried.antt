@@ -1,6 +1,6 @@
 -- A client that sends one body for each id: what goes inward is what its bodies carry, in order, each once.
 use Rattle.std.proofs.Common.{◌≡◌, ℕ, suc, ◌+◌, ◌<◌, All, List, [], ◌∷◌, ◌++◌, Some, Ok, Result, length, slice_get, get_or, refl, sym, ◌∙◌, ap, ap₂, arith, subst, length-append}
-use Rattle.std.proofs.lemmas.List.{get_or_at}
+use Rattle.std.proofs.lemmas.Option.{get_or_from_slice_get}
 use Rattle.std.proofs.lemmas.List.Elements.{All-cons, All-nil, All-append}
 use Rattle.bosh_types.specs.declared.inward.Inward.{Inward}
 use Rattle.body_cutter.specs.declared.parts.Cut.{Cut}
@@ -10,20 +10,21 @@ use Rattle.session_attrs.specs.Reading.{request_of}
 use Rattle.session_attrs.specs.Values.{values_of}
 use Rattle.session_core.specs.declared.copy.RequestCopy.{RequestCopy}
 use Rattle.session_core.specs.Copy.{id_of, items_of}
-use Rattle.session_core.specs.Journal.{Call, Entered, Entry, Journal, IsJournal, IsAllowed, IsReadFrom, IsMade, none, more, entered_by, state_of}
+use Rattle.session_core.specs.Journal.{Entered, Entry, Journal, IsJournal, IsReadFrom, IsMade, MayEnter, none, more, state_of}
 use Rattle.session_core.specs.Machine.{creation_of}
-use Rattle.session_core.specs.Run.{moment_after, arrival_in, arrivals_from, arrivals_of, run_of, IsFirstCopy, IsRun}
+use Rattle.session_core.specs.Run.{moment_after, arrival_in, arrivals_from, arrivals_of, placings_of, run_of, IsRun}
 use Rattle.session_core.specs.State.{PlainSession, inward, items_of_all}
 use Rattle.session_laws.specs.OneBody.{Carries, carried, SendsOneBody, RunCarries}
+use Rattle.session_laws.proofs.Arrivals.{every_arrived}
 use Rattle.session_laws.proofs.Steps.{entry-by}
 use Rattle.session_laws.proofs.Lists.{get_within}
 
 IsRead : RequestCopy → Type 0
 IsRead copy = IsReadFrom copy.body copy.request
 
-entry_reads : (moment : ℕ) (s : PlainSession) (call : Call) → IsAllowed call → (entered : Entered) → entered_by s call ≡ Some entered → All IsRead (arrival_in moment entered)
+entry_reads : (moment : ℕ) (s : PlainSession) (entered : Entered) → MayEnter s entered → All IsRead (arrival_in moment entered)
 unfolding IsRead
-entry_reads moment s call allowed entered is = entry-by s (λ e u. All IsRead (arrival_in moment e)) (record {
+entry_reads moment s entered may = entry-by s (λ e u. All IsRead (arrival_in moment e)) (record {
   arrives = λ request body now allowed on room. All-cons IsRead _ [] allowed.0 (All-nil IsRead);
   backs = λ stream stanza now allowed on room. All-nil IsRead;
   closes = λ stream closing now on room. All-nil IsRead;
@@ -31,23 +32,21 @@ entry_reads moment s call allowed entered is = entry-by s (λ e u. All IsRead (a
   collects = λ index ticket is. All-nil IsRead;
   takes = λ item is. All-nil IsRead;
   limits = λ kind cost now on full. All-nil IsRead;
-}) call allowed entered is
+}) entered may
 
 reads_from : {s : PlainSession} {entries : List Entry} (moment : ℕ) → IsMade s entries → All IsRead (arrivals_from moment entries)
 reads_from moment none = All-nil IsRead
-reads_from moment (more {s = u} call {entry} {entries} allowed is rest) =
-    All-append IsRead (arrival_in moment entry.entered) (arrivals_from (moment_after moment entry.entered) entries) (entry_reads moment u call allowed entry.entered is) (reads_from (moment_after moment entry.entered) rest)
+reads_from moment (more {s = u} {entry} {entries} may rest) =
+    All-append IsRead (arrival_in moment entry.entered) (arrivals_from (moment_after moment entry.entered) entries) (entry_reads moment u entry.entered may) (reads_from (moment_after moment entry.entered) rest)
 
 -- whatever arrived is read from its body
 pub all_read : (journal : Journal) → IsJournal journal → All (λ (copy : RequestCopy). IsReadFrom copy.body copy.request) (arrivals_of journal)
 unfolding IsRead
 all_read journal made = All-cons IsRead (creation_of journal.opening) (arrivals_from journal.opening.at journal.entries) (made.0).read (reads_from journal.opening.at made.1)
 
-pub all_first : (P : RequestCopy → Type 0) (arrivals : List RequestCopy) (rid : ℕ) (copy : RequestCopy) → All P arrivals → IsFirstCopy arrivals rid copy → P copy
-all_first P arrivals rid copy all first =
-    let within : length first.1 < length arrivals = omega (arith, ap length first.3, length-append first.1 (copy ∷ first.2)) in
-    let here : get_or arrivals (length first.1) copy ≡ copy = ap (λ l. get_or l (length first.1) copy) first.3 ∙ get_or_at first.1 copy first.2 copy (length first.1) refl in
-    subst P here (all (length first.1) copy within)
+-- what is said of all copies is said of each
+all_get : (P : RequestCopy → Type 0) (copies : List RequestCopy) (k : ℕ) (copy : RequestCopy) → slice_get copies k ≡ Some copy → All P copies → P copy
+all_get P copies k copy at all = subst P (get_or_from_slice_get copies k copy copy at) (all k copy (get_within copies k copy at))
 
 ok_is : {X Y : Type 0} (r s : Result X Y) (x y : X) → r ≡ s → r ≡ Ok x → s ≡ Ok y → x ≡ y
 ok_is r s x y same is also = cc
@@ -74,11 +73,12 @@ run_carried items first (copy ∷ run) each =
     next : (k : ℕ) → first + suc k ≡ first + 1 + k
     next k = omega arith
 
-pub every_one_body : (journal : Journal) → IsJournal journal → IsRun journal.opening.request.rid (arrivals_of journal) (run_of journal) → (bodies : ℕ → List ℕ) (items : ℕ → List Inward) → SendsOneBody bodies journal → RunCarries bodies items journal
+pub every_one_body : (journal : Journal) → IsJournal journal → IsRun journal.opening.request.rid (placings_of journal) (run_of journal) → (bodies : ℕ → List ℕ) (items : ℕ → List Inward) → SendsOneBody bodies journal → RunCarries bodies items journal
     → inward (state_of journal) ≡ carried items journal.opening.request.rid (length (run_of journal))
 every_one_body journal made run bodies items sends carries = run_carried items journal.opening.request.rid (run_of journal)
     (λ k copy is.
     let rid : ℕ = journal.opening.request.rid + k in
-    let first = run k copy is in
-    let body : copy.body ≡ bodies rid = all_first (λ (c : RequestCopy). c.body ≡ bodies (id_of c)) (arrivals_of journal) rid copy sends first ∙ ap bodies first.0 in
-    carries_items copy (bodies rid) (items rid) body (all_first (λ (c : RequestCopy). IsReadFrom c.body c.request) (arrivals_of journal) rid copy (all_read journal made) first) (carries k (get_within (run_of journal) k copy is)))
+    let received = run k copy is in
+    let came = every_arrived journal made rid copy received in
+    let body : copy.body ≡ bodies rid = all_get (λ (c : RequestCopy). c.body ≡ bodies (id_of c)) (arrivals_of journal) came.0 copy came.1 sends ∙ ap bodies received.0 in
+    carries_items copy (bodies rid) (items rid) body (all_get (λ (c : RequestCopy). IsReadFrom c.body c.request) (arrivals_of journal) came.0 copy came.1 (all_read journal made)) (carries k (get_within (run_of journal) k copy is)))

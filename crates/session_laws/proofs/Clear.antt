@@ -11,11 +11,13 @@ use Rattle.session_core.specs.declared.replies.Arrived.TheVariants as arrivals
 use Rattle.session_core.specs.declared.replies.Taken.{Taken}
 use Rattle.session_core.specs.Answers.{settled}
 use Rattle.session_core.specs.Endings.{ended}
-use Rattle.session_core.specs.Journal.{Call, Entered, Journal, IsJournal, IsAllowed, entered_by, after_entry, state_of}
+use Rattle.session_core.specs.Journal.{Entered, Entry, Journal, IsJournal, IsMade, after_entry, after_entries, state_of, MayEnter}
+use Rattle.session_core.specs.declared.opening.Opening.{Opening}
 use Rattle.session_core.specs.Machine.{opened, next_copy, process, advanced_in, advanced, placed, bytes_for, wait_at, copy_now, arrived_in_time, with_cost, body_cost, stanza_cost, plain_cost, takes_items, has_room, with_copy, unless_terminate}
 use Rattle.session_core.specs.Rules.{broken_rule, asked_of}
 use Rattle.session_core.specs.State.{PlainSession, first_of, last_of, standing_at, is_over}
 use Rattle.session_core.specs.Time.{time_applied}
+use Rattle.session_core.proofs.StruckLemmas.{still_none}
 use Rattle.session_laws.proofs.Tests.{split, which, none_or, true_false}
 use Rattle.session_laws.proofs.Moves.{Answering, Waiting, process-by, settled-by, time_applied-by, processing}
 use Rattle.session_laws.proofs.Read.{read-rid}
@@ -40,6 +42,7 @@ clear_answering = record {
 clear_waiting : Waiting IsClear
 clear_waiting = record {
   moves = λ s now p. p;
+  strikes = λ s rid on holds is p goes. still_none s rid (last_of s + 1) (p on);
   silences = λ s on silent p over. absurd (true_false over);
 }
 
@@ -114,8 +117,8 @@ arrived_clear t request body small sound clear =
           replied_clear u request.rid (settled_clear (advanced (placed t copy)) (advanced_clear (placed t copy) (steady-placed IsSound sound_steady t copy new small sound))) (bytes_for u request.rid);
     })
 
-entry_clear : (s : PlainSession) (call : Call) → IsAllowed call → (entered : Entered) → entered_by s call ≡ Some entered → IsSound s → IsClear s → IsClear (after_entry s entered)
-entry_clear s call allowed entered is sound clear = entry-by s (λ e u. IsClear u) (record {
+entry_clear : (s : PlainSession) (entered : Entered) → MayEnter s entered → IsSound s → IsClear s → IsClear (after_entry s entered)
+entry_clear s entered may sound clear = entry-by s (λ e u. IsClear u) (record {
   arrives = λ request body now allowed on room.
       arrived_clear (with_cost (body_cost request body) (time_applied s now)) request body (read-rid body request allowed.0).1 (steady-time IsSound sound_steady s now sound) (time_clear s now clear);
   backs = λ stream stanza now allowed on room.
@@ -131,9 +134,12 @@ entry_clear s call allowed entered is sound clear = entry-by s (λ e u. IsClear 
   collects = λ index ticket is. clear;
   takes = λ item is. clear;
   limits = λ kind cost now on full over. absurd (true_false over);
-}) call allowed entered is
+}) entered may
+
+pub made_clear : (o : Opening) (entries : List Entry) → IsMade (opened o) entries → IsSound (after_entries (opened o) entries) × IsClear (after_entries (opened o) entries)
+made_clear o entries made = along (opened o) (λ past s. IsSound s × IsClear s)
+    (λ past s entry may same p. (steady-entry IsSound sound_steady s entry.entered may p.0, entry_clear s entry.entered may p.0 p.1))
+    entries made (opened_sound o, λ on. refl)
 
 pub every_clear : (journal : Journal) → IsJournal journal → IsSound (state_of journal) × IsClear (state_of journal)
-every_clear journal made = along (opened journal.opening) (λ past s. IsSound s × IsClear s)
-    (λ past s call entry allowed same is p. (steady-entry IsSound sound_steady s call allowed entry.entered is p.0, entry_clear s call allowed entry.entered is p.0 p.1))
-    journal.entries made.1 (opened_sound journal.opening, λ on. refl)
+every_clear journal made = made_clear journal.opening journal.entries made.1

@@ -9,7 +9,7 @@ use Rattle.session_core.specs.declared.replies.Arrived.{Arrived}
 use Rattle.session_core.specs.declared.replies.Arrived.TheVariants as arrivals
 use Rattle.session_core.specs.declared.replies.Taken.{Taken}
 use Rattle.session_core.specs.Answers.{settled}
-use Rattle.session_core.specs.Journal.{Call, Entered, Entry, Journal, IsJournal, IsAllowed, entered_by, after_entry, entry_cost, counted, state_of}
+use Rattle.session_core.specs.Journal.{Entered, Entry, Journal, IsJournal, after_entry, entry_cost, counted, state_of, MayEnter}
 use Rattle.session_core.specs.Machine.{opened, advanced, placed, bytes_for, wait_at, copy_now, arrived_in_time, with_cost, body_cost, stanza_cost, plain_cost, takes_items, has_room, with_item}
 use Rattle.session_core.specs.Passed.{passes}
 use Rattle.session_core.specs.State.{PlainSession}
@@ -59,8 +59,8 @@ timed s now cost =
     let p = ap (λ (u : PlainSession). u.passed) (time_leaves s now) in
     (ap (λ n. n + cost) c, omega (arith, p))
 
-entry_counts : (s : PlainSession) (call : Call) → IsAllowed call → (entered : Entered) → entered_by s call ≡ Some entered → Counts s entered (after_entry s entered)
-entry_counts s call allowed entered is = entry-by s (Counts s) (record {
+entry_counts : (s : PlainSession) (entered : Entered) → MayEnter s entered → Counts s entered (after_entry s entered)
+entry_counts s entered may = entry-by s (Counts s) (record {
   arrives = λ request body now allowed on room.
       let t = timed s now (body_cost request body) in
       let a = arrived_same (with_cost (body_cost request body) (time_applied s now)) request body in
@@ -80,13 +80,13 @@ entry_counts s call allowed entered is = entry-by s (Counts s) (record {
   collects = λ index ticket is. (omega arith, omega arith);
   takes = λ item is. (omega arith, refl);
   limits = λ kind cost now on full. (omega arith, omega arith);
-}) call allowed entered is
+}) entered may
 
 pub every_counts : (journal : Journal) → IsJournal journal → ((state_of journal).counted ≡ counted journal) × ((state_of journal).passed ≡ sum_by (λ entry. passes entry.entered) journal.entries)
 every_counts journal made = along (opened journal.opening)
     (λ past s. (s.counted ≡ body_cost journal.opening.request journal.opening.body + sum_by (λ (entry : Entry). entry_cost entry.entered) past) × (s.passed ≡ sum_by (λ (entry : Entry). passes entry.entered) past))
-    (λ past s call entry allowed same is p.
-    let c = entry_counts s call allowed entry.entered is in
+    (λ past s entry may same p.
+    let c = entry_counts s entry.entered may in
     let more = sum_by_push (λ (entry : Entry). entry_cost entry.entered) past entry in
     let taken = sum_by_push (λ (entry : Entry). passes entry.entered) past entry in
     (omega (arith, c.0, p.0, more), omega (arith, c.1, p.1, taken)))

@@ -1,6 +1,6 @@
 -- What a session that has ended still does.
 use Rattle.std.proofs.Common.{◌≡◌, Bool, true, false, Some, refl}
-use Rattle.session_core.specs.Journal.{Call, Entered, IsAllowed, entered_by, after_entry}
+use Rattle.session_core.specs.Journal.{Entered, after_entry, MayEnter}
 use Rattle.session_core.specs.State.{PlainSession, is_over}
 use Rattle.session_laws.proofs.Steps.{entry-by}
 
@@ -9,9 +9,9 @@ both_ways true over on = cc
 both_ways false over on = cc
 
 -- only what was collected and what was passed on is another
-pub ended_stays : (s : PlainSession) (call : Call) → IsAllowed call → (entered : Entered) → entered_by s call ≡ Some entered → is_over s ≡ true
+pub ended_stays : (s : PlainSession) (entered : Entered) → MayEnter s entered → is_over s ≡ true
     → after_entry s entered ≡ record s { tickets = (after_entry s entered).tickets; passed = (after_entry s entered).passed }
-ended_stays s call allowed entered is over = entry-by s (λ e u. u ≡ record s { tickets = u.tickets; passed = u.passed }) (record {
+ended_stays s entered may over = entry-by s (λ e u. u ≡ record s { tickets = u.tickets; passed = u.passed }) (record {
   arrives = λ request body now allowed on room. absurd (both_ways (is_over s) over on);
   backs = λ stream stanza now allowed on room. absurd (both_ways (is_over s) over on);
   closes = λ stream closing now on room. absurd (both_ways (is_over s) over on);
@@ -19,4 +19,4 @@ ended_stays s call allowed entered is over = entry-by s (λ e u. u ≡ record s 
   collects = λ index ticket is. refl;
   takes = λ item is. refl;
   limits = λ kind cost now on full. absurd (both_ways (is_over s) over on);
-}) call allowed entered is
+}) entered may

@@ -1,5 +1,5 @@
 -- Where the state says that a session has to have ended, it has: a terminate, a closing, a broken rule, silence.
-use Rattle.std.proofs.Common.{◌≡◌, ℕ, ◌+◌, ◌*◌, ◌<◌, ◌≤◌, ◌==◌, ◌&&◌, ◌||◌, Bool, true, false, not, List, [], ◌∷◌, ◌++◌, Some, nat_lt, nat_le, is_some, length, max, refl, sym, ◌∙◌, ap, arith, if◌then◌else◌, length-drop, inl, inr}
+use Rattle.std.proofs.Common.{◌≡◌, ℕ, ◌+◌, ◌*◌, ◌<◌, ◌≤◌, ◌==◌, ◌&&◌, ◌||◌, Bool, true, false, not, List, [], ◌∷◌, ◌++◌, Some, nat_lt, nat_le, is_some, length, max, refl, sym, ◌∙◌, ap, subst, arith, if◌then◌else◌, length-drop, inl, inr}
 use Rattle.std.specs.List.{list_any, filter}
 use Rattle.std.proofs.lemmas.Bool.{leb-false}
 use Rattle.std.proofs.lemmas.Bool.Decides.{nat_tests}
@@ -15,21 +15,23 @@ use Rattle.session_core.specs.declared.outward.Front.TheVariants.{OfStanzas, OfC
 use Rattle.session_core.specs.Answers.{with_answer, answer_parts, settled}
 use Rattle.session_core.specs.Copy.{id_of}
 use Rattle.session_core.specs.Facts.{TookClosing}
-use Rattle.session_core.specs.Journal.{Call, Entered, Journal, IsJournal, IsAllowed, entered_by, after_entry, state_of}
+use Rattle.session_core.specs.Journal.{Entered, Journal, IsJournal, after_entry, state_of, MayEnter}
 use Rattle.body_writer.specs.Answer.{answer_text}
 use Rattle.session_core.specs.declared.outward.Outward.{Outward}
+use Rattle.session_core.specs.Gap.{struck}
 use Rattle.session_core.specs.Machine.{opened, greeting_of, with_copy, advanced, placed}
 use Rattle.session_core.specs.declared.opening.Opening.{Opening}
 use Rattle.session_core.specs.Rules.{broken_rule, asked_of}
-use Rattle.session_core.specs.State.{PlainSession, Answered, Issued, last_from, last_of, last_answer, held, beyond, standing_at, is_over}
-use Rattle.session_core.specs.Time.{time_applied, at_moment, quiet_of, is_silent}
+use Rattle.session_core.specs.State.{PlainSession, Answered, Issued, last_from, last_of, last_answer, held, beyond, standing, standing_at, is_over}
+use Rattle.session_core.specs.Time.{time_applied, at_moment, last_told, owes_nothing_beyond, quiet_of, is_silent}
 use Rattle.pause_rules.specs.Due.{is_silent_due}
 use Rattle.session_core.specs.Window.{is_open}
 use Rattle.session_laws.proofs.Tests.{split, not_both, is_or_not, neither, if_true, none_some, some_is, true_false}
-use Rattle.session_laws.proofs.Moves.{Answering, Processing, settled-by, advanced-by, silenced_as}
+use Rattle.session_core.proofs.StruckLemmas.{standing_placed, still_none}
+use Rattle.session_laws.proofs.Moves.{Answering, Processing, Striking, settled-by, struck-by, advanced-by, silenced_as}
 use Rattle.session_laws.proofs.Clear.{IsClear, advanced_clear}
 use Rattle.session_laws.proofs.SoundLemmas.{IsSound, sound_steady, opened_sound}
-use Rattle.session_laws.proofs.Moves.{answering, processing}
+use Rattle.session_laws.proofs.Moves.{answering, processing, waits}
 use Rattle.session_laws.proofs.Steadily.{steady-placed}
 use Rattle.session_laws.proofs.Phases.{Phases, phase-entry}
 use Rattle.session_laws.proofs.Steps.{along}
@@ -53,7 +55,7 @@ abbrev pub BreakerEnds : PlainSession → Type 0
 BreakerEnds s = is_over s ≡ true → (copy : RequestCopy) → standing_at s (last_of s + 1) ≡ Some copy → list_any (λ copy. copy.request.terminate) s.processed ≡ false → s.ending ≡ broken_rule (asked_of s) copy
 
 abbrev pub SilenceEnds : PlainSession → Type 0
-SilenceEnds s = length (held s) ≡ 0 → quiet_of s + s.period * 1000 < s.now → s.ending ≡ Some (endings.Silent (quiet_of s) s.now)
+SilenceEnds s = length (held s) ≡ 0 → owes_nothing_beyond s ≡ true → quiet_of s + s.period * 1000 < s.now → s.ending ≡ Some (endings.Silent (quiet_of s) s.now)
 
 -- a session that goes on has no ending
 pub no_ending : (s : PlainSession) (ending : Ending) → is_over s ≡ false → s.ending ≡ Some ending → ⊥
@@ -70,11 +72,11 @@ last_push x (z ∷ xs) y = last_push z xs y
 
 -- it is quiet since the last answer at the earliest
 quiet_after : (s : PlainSession) → (last_answer s).moment ≤ quiet_of s
-quiet_after s = split (λ quiet. (last_answer s).moment ≤ quiet) (length (beyond s) == 0) (last_answer s).moment (max (last_answer s).moment s.last_arrival) (λ none. omega arith) (λ some. omega arith)
+quiet_after s = split (λ quiet. (last_answer s).moment ≤ quiet) (length (beyond s) == 0) (last_told s) (max (last_told s) s.last_arrival) (λ none. omega arith) (λ some. omega arith)
 
 -- while copies stand beyond a gap, since the last arrival at the earliest
 quiet_beyond : (s : PlainSession) → (length (beyond s) == 0) ≡ false → s.last_arrival ≤ quiet_of s
-quiet_beyond s gap = split (λ quiet. s.last_arrival ≤ quiet) (length (beyond s) == 0) (last_answer s).moment (max (last_answer s).moment s.last_arrival) (λ none. absurd (true_false (sym none ∙ gap))) (λ some. omega arith)
+quiet_beyond s gap = split (λ quiet. s.last_arrival ≤ quiet) (length (beyond s) == 0) (last_told s) (max (last_told s) s.last_arrival) (λ none. absurd (true_false (sym none ∙ gap))) (λ some. omega arith)
 
 -- nothing is silent just after an answer
 answered_now : (s : PlainSession) → s.now ≤ (last_answer s).moment → quiet_of s + s.period * 1000 < s.now → ⊥
@@ -134,8 +136,8 @@ now_answering = record {
 
 silence_answering : Answering SilenceEnds
 silence_answering = record {
-  stanzas = λ s oldest later items is on reason front p none silent. absurd (answered_now (with_answer s (id_of oldest) (OfStanzas items)) (answer_moment s (id_of oldest) (OfStanzas items)) silent);
-  closes = λ s oldest later stream closing is on reason front p none silent. absurd (answered_now (with_answer s (id_of oldest) (OfClosing stream closing)) (answer_moment s (id_of oldest) (OfClosing stream closing)) silent);
+  stanzas = λ s oldest later items is on reason front p none nothing silent. absurd (answered_now (with_answer s (id_of oldest) (OfStanzas items)) (answer_moment s (id_of oldest) (OfStanzas items)) silent);
+  closes = λ s oldest later stream closing is on reason front p none nothing silent. absurd (answered_now (with_answer s (id_of oldest) (OfClosing stream closing)) (answer_moment s (id_of oldest) (OfClosing stream closing)) silent);
 }
 
 -- what every state keeps
@@ -156,21 +158,38 @@ zero_test n is = grind (arith, nat_tests)
 lt_test : (a b : ℕ) → a < b → nat_lt a b ≡ true
 lt_test a b less = grind (arith, nat_tests)
 
+both_hold : (a b : Bool) → a ≡ true → b ≡ true → (a && b) ≡ true
+both_hold true b is also = also
+both_hold false b is also = absurd (true_false (sym is))
+
 -- where silence didn't end it, it wasn't silent
 not_silent : (s : PlainSession) → EndedNow s → not (is_over s) && is_silent s ≡ false → SilenceEnds s
-not_silent s ended_now none no_held silent = elim (is_or_not (is_over s)) [
+not_silent s ended_now none no_held nothing silent = elim (is_or_not (is_over s)) [
   | inl over ↦ absurd (answered_now s (ended_now over) silent)
   | inr on ↦ (
       let quiet : is_silent s ≡ false = ap (λ b. not b && is_silent s) (sym on) ∙ none in
-      let due : is_silent_due s.period (quiet_of s) s.now ≡ false = not_both (length (held s) == 0) (is_silent_due s.period (quiet_of s) s.now) (zero_test (length (held s)) no_held) quiet in
+      let due : is_silent_due s.period (quiet_of s) s.now ≡ false = not_both ((length (held s) == 0) && owes_nothing_beyond s) (is_silent_due s.period (quiet_of s) s.now) (both_hold (length (held s) == 0) (owes_nothing_beyond s) (zero_test (length (held s)) no_held) nothing) quiet in
       absurd (true_false (sym (lt_test (quiet_of s + s.period * 1000) s.now silent) ∙ due)))
 ]
 
+timeless_striking : Striking Timeless
+timeless_striking s rid on holds is p = (
+  (waits IsSound sound_steady).strikes s rid on holds is p.0,
+  λ goes. still_none s rid (last_of s + 1) (p.1 on),
+  p.2,
+  p.3,
+  p.4,
+  λ over. absurd (over_or_on s over on),
+)
+
+now_striking : Striking EndedNow
+now_striking s rid on holds is p over = absurd (over_or_on s over on)
+
 pub time_ends : (s : PlainSession) (now : ℕ) → is_over s ≡ false → Ends s → Ends (time_applied s now)
 time_ends s now on p =
-    let v : PlainSession = settled (at_moment s now) in
-    let t = settled-by Timeless timeless_answering (at_moment s now) (timeless s p) in
-    let e = settled-by EndedNow now_answering (at_moment s now) (λ over. absurd (over_or_on s over on)) in
+    let v : PlainSession = struck (settled (at_moment s now)) in
+    let t = struck-by Timeless timeless_striking (settled (at_moment s now)) (settled-by Timeless timeless_answering (at_moment s now) (timeless s p)) in
+    let e = struck-by EndedNow now_striking (settled (at_moment s now)) (settled-by EndedNow now_answering (at_moment s now) (λ over. absurd (over_or_on s over on))) in
     silenced_as Ends v
     (λ goes silent. (
       t.0,
@@ -179,7 +198,7 @@ time_ends s now on p =
       λ before copy same last. absurd (no_ending v _ goes (t.3 before copy same last)),
       λ rid closing took. absurd (no_ending v _ goes (t.4 rid closing took)),
       λ over copy stands none. absurd (none_some (standing_at v (last_of v + 1)) copy (t.1 goes) stands),
-      λ none later. refl,
+      λ none nothing later. refl,
     ))
     (λ none. (t.0, t.1, t.2, t.3, t.4, t.5, not_silent v e none))
 
@@ -214,7 +233,7 @@ processed_processing = record {
         absurd (true_false (sym terminates ∙ ap (λ (c : RequestCopy). c.request.terminate) (sym is) ∙ further)),
     p.3,
     λ over. absurd (over_or_on s over on),
-    λ none silent. absurd (held_some s copy p.0 none),
+    λ none nothing silent. absurd (held_some s copy p.0 none),
   );
   terminates = λ s copy on stands broken last p. (
     (processing IsSound sound_steady).terminates s copy on stands broken last p.0,
@@ -224,7 +243,7 @@ processed_processing = record {
         ap (λ (c : RequestCopy). Some (endings.Terminated (id_of c))) is,
     λ rid closing took. absurd (no_ending s _ on (p.3 rid closing took)),
     λ over next stands_next none. absurd (true_false (sym (any_push s.processed copy true last ∙ or_some (list_any (λ (c : RequestCopy). c.request.terminate) s.processed)) ∙ none)),
-    λ none silent. absurd (held_some s copy p.0 none),
+    λ none nothing silent. absurd (held_some s copy p.0 none),
   );
   breaks = λ s copy ending on stands broken p. (
     p.0,
@@ -234,7 +253,7 @@ processed_processing = record {
     λ over next stands_next none.
         let is : copy ≡ next = some_is copy next (sym stands ∙ stands_next) in
         sym broken ∙ ap (broken_rule (asked_of s)) is,
-    λ none silent. absurd (no_ending s _ on (p.5 none silent)),
+    λ none nothing silent. absurd (no_ending s _ on (p.5 none nothing silent)),
   );
 }
 
@@ -251,7 +270,10 @@ kept_one p (first ∷ copies) copy passes = split (λ (l : List RequestCopy). 1 
 
 -- a new copy stands beyond the last one
 beyond_push : (s : PlainSession) (copy : RequestCopy) → last_of s < id_of copy → (length (beyond (placed s copy)) == 0) ≡ false
-beyond_push s copy above = some_more (length (beyond (placed s copy))) (kept_one (λ (c : RequestCopy). nat_lt (last_of s) (id_of c)) s.standing copy (lt_test (last_of s) (id_of copy) above))
+beyond_push s copy above =
+    some_more (length (beyond (placed s copy)))
+    (subst (λ (copies : List RequestCopy). 1 ≤ length (filter (λ (c : RequestCopy). nat_lt (last_of s) (id_of c)) copies)) (sym (standing_placed s copy))
+    (kept_one (λ (c : RequestCopy). nat_lt (last_of s) (id_of c)) (standing s) copy (lt_test (last_of s) (id_of copy) above)))
 
 pub placed_processed : (t : PlainSession) (copy : RequestCopy) → is_over t ≡ false → is_open t (id_of copy) ≡ false → id_of copy ≤ greatest_rid → Ends t → Processed (placed t copy)
 placed_processed t copy on new small p =
@@ -261,7 +283,7 @@ placed_processed t copy on new small p =
       p.3,
       p.4,
       λ over. absurd (over_or_on t over on),
-      λ none silent. absurd (omega (arith, quiet_beyond (placed t copy) (beyond_push t copy (leb-false (id_of copy) (last_of t) apart.0)))),
+      λ none nothing silent. absurd (omega (arith, quiet_beyond (placed t copy) (beyond_push t copy (leb-false (id_of copy) (last_of t) apart.0)))),
     )
 
 places_ends : (t : PlainSession) (copy : RequestCopy) → is_over t ≡ false → is_open t (id_of copy) ≡ false → id_of copy ≤ greatest_rid → Ends t → Ends (advanced (placed t copy))
@@ -272,11 +294,11 @@ places_ends t copy on new small p =
 
 -- another arrival makes it quiet no earlier
 reopened_silence : (t : PlainSession) (tickets : List Issued) → is_over t ≡ false → SilenceEnds t → SilenceEnds (record t { tickets = tickets; last_arrival = t.now })
-reopened_silence t tickets on p none silent = elim (is_or_not (length (beyond t) == 0)) [
+reopened_silence t tickets on p none nothing silent = elim (is_or_not (length (beyond t) == 0)) [
   | inl empty ↦ (
-      let was : quiet_of t ≡ (last_answer t).moment = if_true (length (beyond t) == 0) (last_answer t).moment (max (last_answer t).moment t.last_arrival) empty in
-      let now : quiet_of (record t { tickets = tickets; last_arrival = t.now }) ≡ (last_answer t).moment = if_true (length (beyond t) == 0) (last_answer t).moment (max (last_answer t).moment t.now) empty in
-      absurd (no_ending t _ on (p none (omega (arith, was, now, silent)))))
+      let was : quiet_of t ≡ last_told t = if_true (length (beyond t) == 0) (last_told t) (max (last_told t) t.last_arrival) empty in
+      let now : quiet_of (record t { tickets = tickets; last_arrival = t.now }) ≡ last_told t = if_true (length (beyond t) == 0) (last_told t) (max (last_told t) t.now) empty in
+      absurd (no_ending t _ on (p none nothing (omega (arith, was, now, silent)))))
   | inr gap ↦ absurd (omega (arith, quiet_beyond (record t { tickets = tickets; last_arrival = t.now }) gap, silent))
 ]
 
@@ -284,7 +306,7 @@ pub ends_phases : Phases Ends
 ends_phases = record {
   time = time_ends;
   settles = settles_ends;
-  places = λ t copy on later new within small p. places_ends t copy on new small p;
+  places = λ t copy on later new within small now p. places_ends t copy on new small p;
   reopens = λ t tickets on p. (p.0, p.1, p.2, p.3, p.4, p.5, reopened_silence t tickets on p.6);
   ends = λ t ending on p. (
     p.0,
@@ -293,7 +315,7 @@ ends_phases = record {
     λ before copy same last. absurd (no_ending t _ on (p.3 before copy same last)),
     λ rid closing took. absurd (no_ending t _ on (p.4 rid closing took)),
     λ over copy stands none. absurd (none_some (standing_at t (last_of t + 1)) copy (p.1 on) stands),
-    λ none silent. absurd (no_ending t _ on (p.6 none silent)),
+    λ none nothing silent. absurd (no_ending t _ on (p.6 none nothing silent)),
   );
   gives = λ t item p. p;
   aside = λ t tickets passed counted p. p;
@@ -310,11 +332,11 @@ opened_ends o = (
   λ before copy same last. absurd (no_push before copy same),
   λ rid closing took. absurd (no_stanzas (greeting_of o) took.1.0 closing took.1.1),
   λ over. absurd (true_false (sym over)),
-  λ none silent. absurd (omega (arith, quiet_after (opened o), silent)),
+  λ none nothing silent. absurd (omega (arith, quiet_after (opened o), silent)),
 )
 
-pub entry_ends : (s : PlainSession) (call : Call) → IsAllowed call → (entered : Entered) → entered_by s call ≡ Some entered → Ends s → Ends (after_entry s entered)
-entry_ends s call allowed entered is p = phase-entry Ends ends_phases s call allowed entered is p
+pub entry_ends : (s : PlainSession) (entered : Entered) → MayEnter s entered → Ends s → Ends (after_entry s entered)
+entry_ends s entered may p = phase-entry Ends ends_phases s entered may p
 
 pub every_ends : (journal : Journal) → IsJournal journal → Ends (state_of journal)
-every_ends journal made = along (opened journal.opening) (λ past s. Ends s) (λ past s call entry allowed same is p. entry_ends s call allowed entry.entered is p) journal.entries made.1 (opened_ends journal.opening)
+every_ends journal made = along (opened journal.opening) (λ past s. Ends s) (λ past s entry may same p. entry_ends s entry.entered may p) journal.entries made.1 (opened_ends journal.opening)

@@ -1,5 +1,5 @@
 -- A session that goes on ends exactly where the fact of its ending holds.
-use Rattle.std.proofs.Common.{◌≡◌, ℕ, ◌+◌, ◌*◌, ◌<◌, ◌≤◌, ◌==◌, Bool, true, false, not, List, [], ◌∷◌, ◌++◌, Option, Some, None, nat_le, is_some, length, refl, sym, ◌∙◌, ap, ap₂, arith, subst, inl, inr}
+use Rattle.std.proofs.Common.{◌≡◌, ℕ, ◌+◌, ◌*◌, ◌<◌, ◌≤◌, ◌==◌, ◌&&◌, ◌||◌, Bool, true, false, not, List, [], ◌∷◌, ◌++◌, Option, Some, None, nat_le, is_some, length, refl, sym, ◌∙◌, ap, ap₂, arith, subst, inl, inr}
 use Rattle.std.specs.List.{list_any}
 use Rattle.std.proofs.lemmas.Bool.{ltb-true, leb-true, leb-false, eqb-true}
 use Rattle.std.proofs.lemmas.List.{nil_from_length}
@@ -20,18 +20,19 @@ use Rattle.session_core.specs.Answers.{with_answer, settled}
 use Rattle.session_core.specs.Copy.{id_of, is_extra}
 use Rattle.session_core.specs.Endings.{ended}
 use Rattle.session_core.specs.Facts.{Fact}
-use Rattle.session_core.specs.Journal.{Call, Arrive, Back, BackClosed, Tick, Limit, Made, Entered, IsAllowed, entered_by, after_entry}
+use Rattle.session_core.specs.Journal.{Arrive, Back, BackClosed, Tick, Limit, Made, Entered, after_entry, MayEnter}
+use Rattle.session_core.specs.Gap.{strike, struck}
 use Rattle.session_core.specs.Kept.{kept_of, lowest_kept}
 use Rattle.session_core.specs.Machine.{advanced, placed, bytes_for, wait_at, copy_now, reopened, arrived_in_time, with_cost, body_cost, stanza_cost, plain_cost, takes_items, has_room, with_item, full_with, with_copy}
 use Rattle.session_core.specs.Points.{tested_at}
 use Rattle.session_core.specs.Rules.{broken_rule, asked_of}
-use Rattle.session_core.specs.State.{PlainSession, Answered, Issued, last_of, answered_of, held, standing_at, is_over}
-use Rattle.session_core.specs.Time.{time_applied, at_moment, quiet_of}
+use Rattle.session_core.specs.State.{PlainSession, Answered, Issued, last_of, answered_of, held, beyond, standing, standing_at, is_over}
+use Rattle.session_core.specs.Time.{time_applied, at_moment, owes_nothing_beyond, quiet_of}
 use Rattle.session_core.specs.Window.{is_open, is_above}
 use Rattle.session_laws.proofs.Tests.{split, both_true, either, neither, is_or_not, none_some, some_is, true_false}
 use Rattle.session_laws.proofs.Steadily.{is_none}
 use Rattle.session_laws.proofs.Lists.{at_id-has}
-use Rattle.session_laws.proofs.Moves.{Answering, Processing, settled-by, advanced-by, silenced_as}
+use Rattle.session_laws.proofs.Moves.{Answering, Processing, settled-by, struck-by, advanced-by, silenced_as}
 use Rattle.session_laws.proofs.Read.{read-rid}
 use Rattle.session_laws.proofs.RuleLemmas.{rule-by, key_broken, stream_broken, pause_broken, active_broken}
 use Rattle.session_laws.proofs.EndsBack.{Ends, NoTerminate, Processed, processed_processing, placed_processed, time_ends, entry_ends, answer_last, over_or_on, no_ending}
@@ -65,6 +66,17 @@ has_aside : (tested : PlainSession) (entered : Entered) (s : PlainSession) (give
     → HasFact tested entered (record s { given = given; tickets = tickets; passed = passed; counted = counted })
 has_aside tested entered s given tickets passed counted f ending is = fact_aside tested entered s given tickets passed counted ending (f ending is)
 
+-- in a session that doesn't poll and owes nothing none stands beyond the gap, and the other way round
+none_beyond : (s : PlainSession) → owes_nothing_beyond s ≡ true → s.terms.polled ≡ false → beyond s ≡ []
+none_beyond s nothing holds = nil_from_length (beyond s) (eqb-true (length (beyond s)) 0 (sym (ap (λ (b : Bool). b || (length (beyond s) == 0)) holds) ∙ nothing))
+
+owes_nothing : (s : PlainSession) → (s.terms.polled ≡ false → beyond s ≡ []) → owes_nothing_beyond s ≡ true
+owes_nothing s none = by s.terms.polled refl
+  where
+    by : (b : Bool) → s.terms.polled ≡ b → (b || (length (beyond s) == 0)) ≡ true
+    by true polls = refl
+    by false holds = ap (λ (copies : List RequestCopy). length copies == 0) (none holds)
+
 module _ (tested : PlainSession) (entered : Entered) where
   fact_answering : Answering (HasFact tested entered)
   fact_answering = record {
@@ -79,7 +91,7 @@ module _ (tested : PlainSession) (entered : Entered) where
   broken_fact : (s : PlainSession) (copy : RequestCopy) → NoTerminate s → is_over s ≡ false → standing_at s (last_of s + 1) ≡ Some copy → (ending : Ending) → broken_rule (asked_of s) copy ≡ Some ending
       → Fact tested entered (ended ending s) ending
   broken_fact s copy none on stands ending broken =
-      let id : id_of copy ≡ last_of s + 1 = at_id-has s.standing (last_of s + 1) copy stands in
+      let id : id_of copy ≡ last_of s + 1 = at_id-has (standing s) (last_of s + 1) copy stands in
       let here : standing_at s (id_of copy) ≡ Some copy = ap (standing_at s) id ∙ stands in
       rule-by (asked_of s) copy (λ o. (e : Ending) → o ≡ Some e → Fact tested entered (ended e s) e) (record {
         wrong_key = λ wrong e is. subst (λ x. Fact tested entered (ended x s) x) (some_is (WrongKey (id_of copy)) e is) (none on, id, copy, here, λ fit. true_false (sym fit ∙ wrong));
@@ -112,13 +124,14 @@ module _ (tested : PlainSession) (entered : Entered) where
 
   time_fact : (s : PlainSession) (now : ℕ) → is_over s ≡ false → HasFact tested entered (time_applied s now)
   time_fact s now on =
-      let v : PlainSession = settled (at_moment s now) in
+      let v : PlainSession = struck (settled (at_moment s now)) in
       silenced_as (HasFact tested entered) v
       (λ goes silent.
-      let both = both_true (length (held v) == 0) (is_silent_due v.period (quiet_of v) v.now) silent in
+      let due = both_true ((length (held v) == 0) && owes_nothing_beyond v) (is_silent_due v.period (quiet_of v) v.now) silent in
+      let both = both_true (length (held v) == 0) (owes_nothing_beyond v) due.0 in
       one_fact tested entered (ended (Silent (quiet_of v) v.now) v) (Silent (quiet_of v) v.now) refl
-      (nil_from_length (held v) (eqb-true (length (held v)) 0 both.0), refl, refl, ltb-true (quiet_of v + v.period * 1000) v.now both.1))
-      (λ none. settled_fact (at_moment s now) (goes_fact tested entered (at_moment s now) on))
+      (nil_from_length (held v) (eqb-true (length (held v)) 0 both.0), none_beyond v both.1, refl, refl, ltb-true (quiet_of v + v.period * 1000) v.now due.1))
+      (λ none. struck-by (HasFact tested entered) (λ t rid goes holds is f. goes_fact tested entered (strike t rid) goes) (settled (at_moment s now)) (settled_fact (at_moment s now) (goes_fact tested entered (at_moment s now) on)))
 
   replied_fact : (s : PlainSession) (rid : ℕ) → HasFact tested entered s → (o : Option (List ℕ)) → HasFact tested entered (elim o as (λ x. PlainSession × Arrived) [ Some bytes ↦ (s, arrivals.Answer bytes) | None ↦ wait_at s rid ]).0
   replied_fact s rid f (Some bytes) = f
@@ -151,8 +164,8 @@ arrived_fact s request body now on small ends =
     })
 
 -- forth: an ending has its fact
-pub ending_fact : (s : PlainSession) (call : Call) → IsAllowed call → (entered : Entered) → entered_by s call ≡ Some entered → is_over s ≡ false → Ends s → HasFact (tested_at s entered) entered (after_entry s entered)
-ending_fact s call allowed entered is goes ends = entry-by s (λ e u. HasFact (tested_at s e) e u) (record {
+pub ending_fact : (s : PlainSession) (entered : Entered) → MayEnter s entered → is_over s ≡ false → Ends s → HasFact (tested_at s entered) entered (after_entry s entered)
+ending_fact s entered may goes ends = entry-by s (λ e u. HasFact (tested_at s e) e u) (record {
   arrives = λ request body now allowed on room. arrived_fact s request body now on (read-rid body request allowed.0).1 ends;
   backs = λ stream stanza now allowed on room.
       let tested : PlainSession = time_applied s now in
@@ -173,7 +186,7 @@ ending_fact s call allowed entered is goes ends = entry-by s (λ e u. HasFact (t
   collects = λ index ticket is ending ends_so. absurd (no_ending s ending goes ends_so);
   takes = λ item is ending ends_so. absurd (no_ending s ending goes ends_so);
   limits = λ kind cost now on full. one_fact s (Limit kind cost now) (full_with cost s) (JournalFull s.counted cost) refl (refl, refl, ltb-true s.limit (s.counted + cost) full);
-}) call allowed entered is
+}) entered may
 
 -- Back: a fact has its ending.
 
@@ -205,19 +218,19 @@ state_back tested entered s ends stale above full (Terminated rid) f = ends.3 f.
 state_back tested entered s ends stale above full (Stale rid lowest) f = stale rid lowest f
 state_back tested entered s ends stale above full (Above rid last requests) f = above rid last requests f
 state_back tested entered s ends stale above full (WrongKey rid) f =
-    breaker_ends s ends rid f.2 f.0 f.1 f.3 ∙ key_broken (asked_of s) f.2 (not_fits _ f.4) ∙ ap (λ r. Some (WrongKey r)) (at_id-has s.standing rid f.2 f.3)
+    breaker_ends s ends rid f.2 f.0 f.1 f.3 ∙ key_broken (asked_of s) f.2 (not_fits _ f.4) ∙ ap (λ r. Some (WrongKey r)) (at_id-has (standing s) rid f.2 f.3)
 state_back tested entered s ends stale above full (UnknownStream rid) f =
-    breaker_ends s ends rid f.2 f.0 f.1 f.3 ∙ stream_broken (asked_of s) f.2 (f.4).0 (is_there f.2.request.stream (f.4).1) ∙ ap (λ r. Some (UnknownStream r)) (at_id-has s.standing rid f.2 f.3)
+    breaker_ends s ends rid f.2 f.0 f.1 f.3 ∙ stream_broken (asked_of s) f.2 (f.4).0 (is_there f.2.request.stream (f.4).1) ∙ ap (λ r. Some (UnknownStream r)) (at_id-has (standing s) rid f.2 f.3)
 state_back tested entered s ends stale above full (PauseTooLong rid pause maxpause) f =
     let n = f.0 in
     breaker_ends s ends rid n.2 n.0 n.1 n.3 ∙ pause_broken (asked_of s) n.2 pause (n.4).0 (ap is_some (n.4).1) (n.4).2 (subst (λ m. m < pause) f.1 (n.4).3)
-    ∙ ap₂ (λ r m. Some (PauseTooLong r pause m)) (at_id-has s.standing rid n.2 n.3) (sym f.1)
+    ∙ ap₂ (λ r m. Some (PauseTooLong r pause m)) (at_id-has (standing s) rid n.2 n.3) (sym f.1)
 state_back tested entered s ends stale above full (Overactive rid distance) f =
     breaker_ends s ends rid f.2 f.0 f.1 f.3 ∙ active_broken (asked_of s) f.2 (f.4).0 (ap is_some (f.4).1) (f.4).2 (f.4).3
-    ∙ ap₂ (λ r d. Some (Overactive r d)) (at_id-has s.standing rid f.2 f.3) (sym (f.4).4)
+    ∙ ap₂ (λ r d. Some (Overactive r d)) (at_id-has (standing s) rid f.2 f.3) (sym (f.4).4)
 state_back tested entered s ends stale above full (Silent since now) f =
-    let longer : quiet_of s + s.period * 1000 < s.now = omega (arith, f.1, f.2, f.3) in
-    ends.6 (ap length f.0) longer ∙ ap₂ (λ q n. Some (Silent q n)) (sym f.1) (sym f.2)
+    let longer : quiet_of s + s.period * 1000 < s.now = omega (arith, f.2, f.3, f.4) in
+    ends.6 (ap length f.0) (owes_nothing s f.1) longer ∙ ap₂ (λ q n. Some (Silent q n)) (sym f.2) (sym f.3)
 state_back tested entered s ends stale above full (Closed closing rid) f = ends.4 rid closing f
 state_back tested entered s ends stale above full (JournalFull counted cost) f = full counted cost f
 
@@ -273,8 +286,8 @@ arrived_outside tested cost request body now ends =
       | inr stands ↦ true_false (sym stands ∙ ap is_some (ap (standing_at t) same ∙ none))
     ]
 
-entry_outside : (s : PlainSession) (call : Call) → IsAllowed call → (entered : Entered) → entered_by s call ≡ Some entered → Ends s → Outside (tested_at s entered) entered (after_entry s entered)
-entry_outside s call allowed entered is ends = entry-by s (λ e u. Outside (tested_at s e) e u) (record {
+entry_outside : (s : PlainSession) (entered : Entered) → MayEnter s entered → Ends s → Outside (tested_at s entered) entered (after_entry s entered)
+entry_outside s entered may ends = entry-by s (λ e u. Outside (tested_at s e) e u) (record {
   arrives = λ request body now allowed on room. arrived_outside (time_applied s now) (body_cost request body) request body now (time_ends s now on ends);
   backs = λ stream stanza now allowed on room. (λ rid lowest f. absurd f.0, λ rid last requests f. absurd f.0, λ counted cost f. absurd f.0);
   closes = λ stream closing now on room. (λ rid lowest f. absurd f.0, λ rid last requests f. absurd f.0, λ counted cost f. absurd f.0);
@@ -282,11 +295,11 @@ entry_outside s call allowed entered is ends = entry-by s (λ e u. Outside (test
   collects = λ index ticket is. (λ rid lowest f. absurd f.0, λ rid last requests f. absurd f.0, λ counted cost f. absurd f.0);
   takes = λ item is. (λ rid lowest f. absurd f.0, λ rid last requests f. absurd f.0, λ counted cost f. absurd f.0);
   limits = λ kind cost now on full. (λ rid lowest f. absurd f.0, λ rid last requests f. absurd f.0, λ counted limit f. ap₂ (λ n c. Some (JournalFull n c)) (sym f.1) f.0);
-}) call allowed entered is
+}) entered may
 
 -- back: a fact has its ending
-pub fact_ending : (s : PlainSession) (call : Call) → IsAllowed call → (entered : Entered) → entered_by s call ≡ Some entered → Ends s → (ending : Ending) → Fact (tested_at s entered) entered (after_entry s entered) ending
+pub fact_ending : (s : PlainSession) (entered : Entered) → MayEnter s entered → Ends s → (ending : Ending) → Fact (tested_at s entered) entered (after_entry s entered) ending
     → (after_entry s entered).ending ≡ Some ending
-fact_ending s call allowed entered is ends ending f =
-    let o = entry_outside s call allowed entered is ends in
-    state_back (tested_at s entered) entered (after_entry s entered) (entry_ends s call allowed entered is ends) o.0 o.1 o.2 ending f
+fact_ending s entered may ends ending f =
+    let o = entry_outside s entered may ends in
+    state_back (tested_at s entered) entered (after_entry s entered) (entry_ends s entered may ends) o.0 o.1 o.2 ending f

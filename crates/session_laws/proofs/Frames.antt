@@ -3,17 +3,18 @@ use Rattle.std.proofs.Common.{◌≡◌, ℕ, List, Option, Some, None, refl, ap
 use Rattle.bosh_types.specs.declared.ending.Ending.{Ending}
 use Rattle.bosh_types.specs.declared.ending.Ending.TheVariants as endings
 use Rattle.session_core.specs.Answers.{with_answer, settled}
+use Rattle.session_core.specs.Gap.{strike, struck}
 use Rattle.session_core.specs.Machine.{with_copy, advanced}
 use Rattle.session_core.specs.declared.copy.RequestCopy.{RequestCopy}
 use Rattle.session_core.specs.declared.outward.Front.TheVariants.{OfStanzas, OfClosing}
 use Rattle.session_core.specs.Copy.{id_of}
-use Rattle.session_core.specs.State.{PlainSession, Answered}
+use Rattle.session_core.specs.State.{PlainSession, Answered, Issued, Placing}
 use Rattle.session_core.specs.Time.{time_applied, quiet_of}
-use Rattle.session_laws.proofs.Moves.{settled-by, advanced-by, time_applied-by}
+use Rattle.session_laws.proofs.Moves.{settled-by, struck-by, advanced-by, time_applied-by}
 
--- it is the earlier session but for its answers, the due report, the moment and its ending
+-- it is the earlier session but for what was struck, its answers, the due report, tickets, the moment and its ending
 abbrev pub InTime : PlainSession → PlainSession → Type 0
-InTime s t = t ≡ record s { answered = t.answered; reporting = record s.reporting { due = t.reporting.due }; now = t.now; ending = t.ending }
+InTime s t = t ≡ record s { placings = t.placings; answered = t.answered; reporting = record s.reporting { due = t.reporting.due }; tickets = t.tickets; now = t.now; ending = t.ending }
 
 -- but for its answers, the due report and its ending
 abbrev pub IsAnswered : PlainSession → PlainSession → Type 0
@@ -32,6 +33,9 @@ module _ (s t : PlainSession) where
   moved_anew : (now : ℕ) → t ≡ s → record t { now = now } ≡ record s { now = now }
   moved_anew now same = ap (λ (u : PlainSession). record u { now = now }) same
 
+  struck_anew : (placings : List Placing) (tickets : List Issued) → t ≡ s → record t { placings = placings; tickets = tickets } ≡ record s { placings = placings; tickets = tickets }
+  struck_anew placings tickets same = ap (λ (u : PlainSession). record u { placings = placings; tickets = tickets }) same
+
   ended_anew : (ending : Option Ending) → t ≡ s → record t { ending = ending } ≡ record s { ending = ending }
   ended_anew ending same = ap (λ (u : PlainSession). record u { ending = ending }) same
 
@@ -43,7 +47,7 @@ module _ (s t : PlainSession) where
 
 -- the forms that these fields have after a step
 abbrev in_time : PlainSession → PlainSession → PlainSession
-in_time s t = record s { answered = t.answered; reporting = record s.reporting { due = t.reporting.due }; now = t.now; ending = t.ending }
+in_time s t = record s { placings = t.placings; answered = t.answered; reporting = record s.reporting { due = t.reporting.due }; tickets = t.tickets; now = t.now; ending = t.ending }
 
 abbrev is_answered : PlainSession → PlainSession → PlainSession
 is_answered s t = record s { answered = t.answered; reporting = record s.reporting { due = t.reporting.due }; ending = t.ending }
@@ -61,12 +65,20 @@ settled_leaves s = settled-by (IsAnswered s) (record {
 pub time_leaves : (s : PlainSession) (now : ℕ) → InTime s (time_applied s now)
 time_leaves s now = time_applied-by (InTime s) (record {
   moves = λ t later same. moved_anew (in_time s t) t (max t.now later) same;
+  strikes = λ t rid on holds is same. struck_anew (in_time s t) t (strike t rid).placings (strike t rid).tickets same;
   silences = λ t on silent same. ended_anew (in_time s t) t (Some (endings.Silent (quiet_of t) t.now)) same;
 }) (record {
   stanzas = λ t oldest later items is on reason front same. answered_anew (in_time s t) t (with_answer t (id_of oldest) (OfStanzas items)).answered t.ending same;
   closes = λ t oldest later stream closing is on reason front same.
       answered_anew (in_time s t) t (with_answer t (id_of oldest) (OfClosing stream closing)).answered (Some (endings.Closed closing (id_of oldest))) same;
 }) s now refl
+
+-- but for what was struck
+abbrev pub IsStruck : PlainSession → PlainSession → Type 0
+IsStruck s t = t ≡ record s { placings = t.placings; tickets = t.tickets }
+
+pub struck_leaves : (s : PlainSession) → IsStruck s (struck s)
+struck_leaves s = struck-by (IsStruck s) (λ t rid on holds is same. struck_anew (record s { placings = t.placings; tickets = t.tickets }) t (strike t rid).placings (strike t rid).tickets same) s refl
 
 pub advanced_leaves : (s : PlainSession) → IsProcessed s (advanced s)
 advanced_leaves s = advanced-by (IsProcessed s) (record {

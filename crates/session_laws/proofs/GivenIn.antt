@@ -10,7 +10,7 @@ use Rattle.session_core.specs.declared.replies.Arrived.{Arrived}
 use Rattle.session_core.specs.declared.replies.Arrived.TheVariants as arrivals
 use Rattle.session_core.specs.declared.replies.Taken.{Taken}
 use Rattle.session_core.specs.Answers.{settled}
-use Rattle.session_core.specs.Journal.{Call, Entered, Entry, Journal, IsJournal, IsAllowed, entered_by, after_entry, after_entries, state_of}
+use Rattle.session_core.specs.Journal.{Entered, Entry, Journal, IsJournal, after_entry, after_entries, state_of, MayEnter}
 use Rattle.session_core.specs.Machine.{opened, advanced, placed, bytes_for, wait_at, copy_now, arrived_in_time, with_cost, body_cost, stanza_cost, plain_cost, takes_items, has_room, back_in_time, closed_in_time}
 use Rattle.session_core.specs.Passed.{given_by, if_done, given_in}
 use Rattle.session_core.specs.Points.{Point, points_from}
@@ -59,8 +59,8 @@ Gives s o given = given ≡ s.given ++ one o
 item_given : (s t : PlainSession) (item : Outward) → t.given ≡ s.given → Gives s (Some item) (settled (record t { given = t.given ++ item ∷ [] })).given
 item_given s t item is = given_left (record t { given = t.given ++ item ∷ [] }) _ (ap (λ given. given ++ item ∷ []) is)
 
-pub entry_gives : (s : PlainSession) (call : Call) → IsAllowed call → (entered : Entered) → entered_by s call ≡ Some entered → Gives s (given_by s entered) (after_entry s entered).given
-entry_gives s call allowed entered is = entry-by s (λ e u. Gives s (given_by s e) u.given) (record {
+pub entry_gives : (s : PlainSession) (entered : Entered) → MayEnter s entered → Gives s (given_by s entered) (after_entry s entered).given
+entry_gives s entered may = entry-by s (λ e u. Gives s (given_by s e) u.given) (record {
   arrives = λ request body now allowed on room. none_given _ s.given (arrived_given (with_cost (body_cost request body) (time_applied s now)) request body ∙ timed_given s now);
   backs = λ stream stanza now allowed on room.
       let t : PlainSession = with_cost (stanza_cost stanza) (time_applied s now) in
@@ -75,7 +75,7 @@ entry_gives s call allowed entered is = entry-by s (λ e u. Gives s (given_by s 
   collects = λ index ticket is. none_given _ s.given refl;
   takes = λ item is. none_given _ s.given refl;
   limits = λ kind cost now on full. none_given _ s.given refl;
-}) call allowed entered is
+}) entered may
 
 one_point : (s : PlainSession) (entered : Entered) (o : Option Outward) → given_by s entered ≡ o → filter_map (λ (point : Point). given_by point.before point.entered) (record { before = s; entered = entered } ∷ []) ≡ one o
 one_point s entered o is = ap (λ x. one x) is
@@ -83,12 +83,12 @@ one_point s entered o is = ap (λ x. one x) is
 pub every_given : (journal : Journal) → IsJournal journal → (state_of journal).given ≡ given_in journal
 every_given journal made = along (opened journal.opening)
     (λ past s. s.given ≡ (opened journal.opening).given ++ filter_map (λ (point : Point). given_by point.before point.entered) (points_from (opened journal.opening) past))
-    (λ past s call entry allowed same is p.
+    (λ past s entry may same p.
     let start : PlainSession = opened journal.opening in
     let by_point = λ (point : Point). given_by point.before point.entered in
     let here : Point = record { before = s; entered = entry.entered } in
     let there : Point = record { before = after_entries start past; entered = entry.entered } in
-    entry_gives s call allowed entry.entered is
+    entry_gives s entry.entered may
     ∙ ap (λ given. given ++ filter_map by_point (here ∷ [])) p
     ∙ append_assoc start.given (filter_map by_point (points_from start past)) (filter_map by_point (here ∷ []))
     ∙ ap (λ (u : PlainSession). start.given ++ (filter_map by_point (points_from start past) ++ filter_map by_point (record { before = u; entered = entry.entered } ∷ []))) same

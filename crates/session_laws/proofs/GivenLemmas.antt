@@ -76,6 +76,7 @@ given_steady = record {
   answers = λ t oldest later front is on reason taken p. given_answers t oldest _ taken p;
   processes = λ t copy on stands broken p. p;
   stands = λ t copy above none small p. p;
+  strikes = λ t rid on is p. p;
   gives = λ t item p. (p.0 ++ item ∷ [], sym (append_assoc (items_taken (answers t)) p.0 (item ∷ [])) ∙ ap (λ items. items ++ item ∷ []) p.1);
 }
 

@@ -4,9 +4,9 @@ use Rattle.std.proofs.lemmas.List.{append-nil}
 use Rattle.bosh_types.specs.declared.ending.Ending.{Ending}
 use Rattle.session_core.specs.declared.copy.RequestCopy.{RequestCopy}
 use Rattle.session_core.specs.Copy.{items_of}
-use Rattle.session_core.specs.Journal.{Entry, Journal, IsJournal, IsMade, more, after_entry, after_entries, state_of}
+use Rattle.session_core.specs.Journal.{Entry, Journal, IsJournal, IsMade, MayEnter, more, after_entry, after_entries, state_of}
 use Rattle.session_core.specs.Machine.{opened}
-use Rattle.session_core.specs.State.{PlainSession, is_over, inward, items_of_all}
+use Rattle.session_core.specs.State.{PlainSession, Stands, Strikes, is_over, inward, items_of_all}
 use Rattle.session_laws.specs.Growing.{Begins, Grows, with_later}
 use Rattle.session_laws.proofs.Moves.{Steady}
 use Rattle.session_laws.proofs.Steadily.{steady-entry}
@@ -27,6 +27,7 @@ module _ (s : PlainSession) where
     answers = λ t oldest later front is on reason taken p. p;
     processes = λ t copy on stands broken p. p;
     stands = λ t copy above none small p. p;
+    strikes = λ t rid on is p. p;
     gives = λ t item p. p;
   }
 
@@ -38,16 +39,30 @@ module _ (s : PlainSession) where
     answers = λ t oldest later front is on reason taken p. p;
     processes = λ t copy on stands broken p. p;
     stands = λ t copy above none small p. p;
+    strikes = λ t rid on is p. p;
     gives = λ t item p. p;
   }
 
-  pub standing_grows : Steady (λ t. Begins s.standing t.standing)
-  standing_grows = record {
+  -- how long a copy may wait beyond a gap
+  pub gap_waits_stay : Steady (λ t. t.gap_waits ≡ s.gap_waits)
+  gap_waits_stay = record {
     ends = λ t ending on p. p;
     aside = λ t tickets now last_arrival passed counted p. p;
     answers = λ t oldest later front is on reason taken p. p;
     processes = λ t copy on stands broken p. p;
-    stands = λ t copy above none small p. begins_push s.standing t.standing copy p;
+    stands = λ t copy above none small p. p;
+    strikes = λ t rid on is p. p;
+    gives = λ t item p. p;
+  }
+
+  pub placings_grow : Steady (λ t. Begins s.placings t.placings)
+  placings_grow = record {
+    ends = λ t ending on p. p;
+    aside = λ t tickets now last_arrival passed counted p. p;
+    answers = λ t oldest later front is on reason taken p. p;
+    processes = λ t copy on stands broken p. p;
+    stands = λ t copy above none small p. begins_push s.placings t.placings (Stands copy) p;
+    strikes = λ t rid on is p. begins_push s.placings t.placings (Strikes rid t.now) p;
     gives = λ t item p. p;
   }
 
@@ -58,6 +73,7 @@ module _ (s : PlainSession) where
     answers = λ t oldest later front is on reason taken p. p;
     processes = λ t copy on stands broken p. begins_push s.processed t.processed copy p;
     stands = λ t copy above none small p. p;
+    strikes = λ t rid on is p. p;
     gives = λ t item p. p;
   }
 
@@ -68,6 +84,7 @@ module _ (s : PlainSession) where
     answers = λ t oldest later front is on reason taken p. begins_push s.answered t.answered _ p;
     processes = λ t copy on stands broken p. p;
     stands = λ t copy above none small p. p;
+    strikes = λ t rid on is p. p;
     gives = λ t item p. p;
   }
 
@@ -78,6 +95,7 @@ module _ (s : PlainSession) where
     answers = λ t oldest later front is on reason taken p. p;
     processes = λ t copy on stands broken p. p;
     stands = λ t copy above none small p. p;
+    strikes = λ t rid on is p. p;
     gives = λ t item p. begins_push s.given t.given item p;
   }
 
@@ -94,15 +112,19 @@ module _ (s : PlainSession) where
     answers = λ t oldest later front is on reason taken p. p;
     processes = λ t copy on stands broken p. p;
     stands = λ t copy above none small p. p;
+    strikes = λ t rid on is p. p;
     gives = λ t item p. p;
   }
 
 -- what each move keeps holds after all entries
 pub steady-all : (P : PlainSession → Type 0) → Steady P → (s : PlainSession) (entries : List Entry) → IsMade s entries → P s → P (after_entries s entries)
-steady-all P steady s entries made p = along s (λ past t. P t) (λ past t call entry allowed same is q. steady-entry P steady t call allowed entry.entered is q) entries made p
+steady-all P steady s entries made p = along s (λ past t. P t) (λ past t entry may same q. steady-entry P steady t entry.entered may q) entries made p
 
 pub made_rest : {s : PlainSession} {entry : Entry} {entries : List Entry} → IsMade s (entry ∷ entries) → IsMade (after_entry s entry.entered) entries
-made_rest (more call allowed is rest) = rest
+made_rest (more may rest) = rest
+
+pub made_first : {s : PlainSession} {entry : Entry} {entries : List Entry} → IsMade s (entry ∷ entries) → MayEnter s entry.entered
+made_first (more may rest) = may
 
 -- the later entries are made after the earlier ones
 pub made_later : (s : PlainSession) (past later : List Entry) → IsMade s (past ++ later) → IsMade (after_entries s past) later
@@ -130,7 +152,7 @@ grows_all s entries made =
     let processed = steady-all _ (processed_grows s) s entries made (begins_same s.processed) in
     record {
       told = told;
-      standing = steady-all _ (standing_grows s) s entries made (begins_same s.standing);
+      placings = steady-all _ (placings_grow s) s entries made (begins_same s.placings);
       processed = processed;
       inward_items = inward_grows s (after_entries s entries) told.0 processed;
       given = steady-all _ (given_grows s) s entries made (begins_same s.given);

@@ -1,6 +1,7 @@
 -- The laws of a journal, together.
-use Rattle.std.proofs.Common.{◌≡◌, ◌↔◌, ◌+◌, suc, arith, length, slice_get, ℕ, true, false, ◌∙◌, sym, ap, List, Some, subst, is_some, refl, inl, inr}
+use Rattle.std.proofs.Common.{◌≡◌, ◌↔◌, ◌+◌, suc, arith, length, slice_get, ℕ, true, false, ◌∙◌, sym, ap, List, [], Some, subst, is_some, refl, inl, inr}
 use Rattle.bosh_types.specs.declared.ending.Closing.{Closing}
+use Rattle.bosh_types.specs.declared.ending.Ending.{Ending}
 use Rattle.session_attrs.specs.declared.request.Request.{Request}
 use Rattle.session_core.specs.declared.copy.RequestCopy.{RequestCopy}
 use Rattle.session_core.specs.declared.replies.Arrived.{Arrived}
@@ -11,18 +12,25 @@ use Rattle.session_core.specs.declared.replies.Taken.TheVariants as takings
 use Rattle.session_core.specs.declared.replies.Ticked.{Ticked}
 use Rattle.session_core.specs.declared.replies.Ticked.TheVariants.{Quiet}
 use Rattle.session_core.specs.Copy.{id_of}
-use Rattle.session_core.specs.Journal.{Arrive, Collect, Entry, Journal, IsJournal, IsAllowed, ToArrive, ToCollect, ToBack, ToTick, state_of, step, reply_of}
+use Rattle.session_core.specs.Facts.{Fact}
+use Rattle.session_core.specs.Journal.{Arrive, Collect, Tick, Entered, Entry, Journal, IsJournal, IsAllowed, MayEnter, ToArrive, ToCollect, ToBack, ToTick, after_entry, state_of, step, reply_of}
 use Rattle.session_core.specs.Machine.{opened, first_answer, arrive, back, back_closed, is_full, plain_cost, takes_items, tick, has_room, collect, bytes_for}
+use Rattle.session_core.specs.Placed.{AreStruckBy}
+use Rattle.session_core.specs.Points.{tested_at}
 use Rattle.session_core.specs.State.{PlainSession, Answered, answers, is_over}
 use Rattle.session_core.specs.Time.{time_applied, is_due}
 use Rattle.session_laws.specs.Growing.{with_later}
 use Rattle.session_laws.specs.Replies.{IsOpenId, IsToldTo, MayTake}
+use Rattle.session_laws.proofs.EndsBack.{every_ends}
+use Rattle.session_laws.proofs.EndsForth.{ending_fact, fact_ending}
 use Rattle.session_laws.proofs.Followed.{every_creation}
 use Rattle.session_laws.proofs.Read.{read-rid}
 use Rattle.session_laws.proofs.ReplyLemmas.{Told, arrive_told, arrive_over, back_full, back_done, tick_quiet, closed_done, answer_ids}
 use Rattle.session_laws.specs.Tickets.{Tells}
 use Rattle.session_laws.proofs.Bytes.{IsFirstAnswer, first_answer_steady, bytes_stay}
-use Rattle.session_laws.proofs.Grows.{told_stays, steady-all, after_append, made_later, limit_stays}
+use Rattle.session_laws.proofs.Grows.{told_stays, steady-all, after_append, made_later, limit_stays, gap_waits_stay}
+use Rattle.session_laws.proofs.PlacedLemmas.{every_plain}
+use Rattle.session_laws.proofs.Waited.{quiet_struck}
 use Rattle.session_laws.proofs.Clear.{every_clear}
 use Rattle.session_laws.proofs.SoundLemmas.{IsSound, sound_steady}
 use Rattle.session_laws.proofs.Steadily.{steady-time}
@@ -36,6 +44,14 @@ pub collects_both : (journal : Journal) (number : ℕ) (told : Collected) → (r
 collects_both journal number told = (
   λ is. subst (Tells (state_of journal) number) (to_collect (collect (state_of journal) number).1 told is) (collect_tells (state_of journal) number),
   λ t. ap ToCollect (tells_reply (state_of journal) number told t),
+)
+
+-- whatever may be entered ends a session that goes on exactly where its fact holds
+pub ends_both : (journal : Journal) → IsJournal journal → (entered : Entered) → MayEnter (state_of journal) entered → is_over (state_of journal) ≡ false → (ending : Ending)
+    → ((after_entry (state_of journal) entered).ending ≡ Some ending) ↔ Fact (tested_at (state_of journal) entered) entered (after_entry (state_of journal) entered) ending
+ends_both journal made entered may on ending = (
+  λ ends_so. ending_fact (state_of journal) entered may on (every_ends journal made) ending ends_so,
+  λ fact. fact_ending (state_of journal) entered may (every_ends journal made) ending fact,
 )
 
 -- a session that goes on went on before
@@ -124,6 +140,13 @@ every_created journal made = (steady-all _ (told_stays (opened journal.opening))
 
 pub every_limit : (journal : Journal) → IsJournal journal → (state_of journal).limit ≡ journal.opening.limit
 every_limit journal made = steady-all _ (limit_stays (opened journal.opening)) (opened journal.opening) journal.entries made.1 refl
+
+pub every_gap_waits : (journal : Journal) → IsJournal journal → (state_of journal).gap_waits ≡ journal.opening.gap_waits
+every_gap_waits journal made = steady-all _ (gap_waits_stay (opened journal.opening)) (opened journal.opening) journal.entries made.1 refl
+
+-- a tick that changes nothing strikes nothing at its moment
+pub every_struck_in_time : (journal : Journal) → IsJournal journal → (now : ℕ) → reply_of journal (Tick now) ≡ ToTick Quiet → is_over (state_of journal) ≡ false → AreStruckBy (state_of journal) now []
+every_struck_in_time journal made now is on = quiet_struck (state_of journal) now (every_plain journal made) on ((every_quiet (state_of journal) now).0 is)
 
 pub every_answer_id : (journal : Journal) → IsJournal journal → (k : ℕ) (answer : Answered) → slice_get (answers (state_of journal)) k ≡ Some answer → answer.rid ≡ journal.opening.request.rid + k
 every_answer_id journal made k answer is =

@@ -15,7 +15,13 @@ pub mod GivenIn
 pub mod Ended
 pub mod Bytes
 pub mod Clear
+pub mod Received
 pub mod Followed
+pub mod TimeStruck
+pub mod PlacedLemmas
+pub mod Waited
+pub mod Arrivals
+pub mod Persist
 pub mod TicketLemmas
 pub mod LawsOf
 pub mod Carried

@@ -1,5 +1,5 @@
 -- What the moves of a session keep: each recursion of the machine is opened here, once.
-use Rattle.std.proofs.Common.{◌≡◌, ℕ, zero, suc, ◌+◌, ◌-◌, ◌<◌, ◌≤◌, true, false, not, ◌&&◌, List, [], ◌∷◌, ◌++◌, Option, Some, None, length, refl, max}
+use Rattle.std.proofs.Common.{◌≡◌, ℕ, zero, suc, ◌+◌, ◌-◌, ◌<◌, ◌≤◌, true, false, not, ◌&&◌, ◌||◌, List, [], ◌∷◌, ◌++◌, map, filter, Option, Some, None, length, refl, ◌∙◌, arith, max}
 use Rattle.bosh_types.specs.Rid.{greatest_rid}
 use Rattle.bosh_types.specs.declared.ending.Closing.{Closing}
 use Rattle.bosh_types.specs.declared.ending.Ending.{Ending}
@@ -10,13 +10,15 @@ use Rattle.session_core.specs.Answers.{has_reason, has_reason_for, front_for, wi
 use Rattle.std.specs.List.{list_any}
 use Rattle.session_core.specs.Copy.{id_of}
 use Rattle.session_core.specs.Endings.{ended}
+use Rattle.session_core.specs.Gap.{ids_ahead, ids_from, is_to_strike, strike, strike_each, strike_ticket, struck}
 use Rattle.session_core.specs.Machine.{with_copy, unless_terminate, process, next_copy, advanced_in, advanced}
 use Rattle.session_core.specs.declared.outward.Front.{Front}
 use Rattle.session_core.specs.declared.outward.Front.TheVariants.{OfStanzas, OfClosing}
 use Rattle.session_core.specs.Rules.{broken_rule, asked_of}
-use Rattle.session_core.specs.State.{PlainSession, Issued, last_of, held, standing_at, is_over}
+use Rattle.session_core.specs.State.{PlainSession, Issued, Stands, Strikes, last_of, held, standing_at, is_over}
 use Rattle.session_core.specs.Time.{at_moment, quiet_of, is_silent, silenced, time_applied}
-use Rattle.session_laws.proofs.Tests.{split, none_or, both_true, not_true}
+use Rattle.session_core.proofs.StruckLemmas.{test_other}
+use Rattle.session_laws.proofs.Tests.{split, neither, none_or, both_true, not_true}
 
 -- what is kept while held requests are answered
 pub record Answering (P : PlainSession → Type 0) : Type 0 where
@@ -36,9 +38,14 @@ pub record Processing (P : PlainSession → Type 0) : Type 0 where
   pub breaks : (s : PlainSession) (copy : RequestCopy) (ending : Ending) → is_over s ≡ false → standing_at s (last_of s + 1) ≡ Some copy
       → broken_rule (asked_of s) copy ≡ Some ending → P s → P (ended ending s)
 
+-- what is kept where the copy of an id is struck
+abbrev pub Striking : (PlainSession → Type 0) → Type 0
+Striking P = (s : PlainSession) (rid : ℕ) → is_over s ≡ false → s.terms.polled ≡ false → is_to_strike s rid ≡ true → P s → P (strike s rid)
+
 -- what is kept while time passes
 pub record Waiting (P : PlainSession → Type 0) : Type 0 where
   pub moves : (s : PlainSession) (now : ℕ) → P s → P (at_moment s now)
+  pub strikes : Striking P
   pub silences : (s : PlainSession) → is_over s ≡ false → is_silent s ≡ true → P s → P (ended (endings.Silent (quiet_of s) s.now) s)
 
 -- a session that has a reason goes on, and holds a request
@@ -105,8 +112,27 @@ module _ (P : PlainSession → Type 0) where
       keeps.silences s (not_true (is_over s) both.0) both.1 p)
       (λ none. p)
 
+  -- copies are struck one after the other, each where it is to be struck when its turn comes
+  strikes-by : Striking P → (s u : PlainSession) (first count : ℕ) → is_over u ≡ false → u.terms.polled ≡ false
+      → ((rid : ℕ) → first ≤ rid → is_to_strike u rid ≡ is_to_strike s rid) → P u → P (strike_each (filter (is_to_strike s) (ids_from first count)) u)
+  strikes-by keeps s u first zero on holds same p = p
+  strikes-by keeps s u first (suc count) on holds same p =
+      split (λ (rids : List ℕ). P (strike_each rids u)) (is_to_strike s first) (first ∷ filter (is_to_strike s) (ids_from (first + 1) count)) (filter (is_to_strike s) (ids_from (first + 1) count))
+      (λ is. strikes-by keeps s (strike u first) (first + 1) count on holds
+      (λ rid later. test_other u first rid (λ here. absurd (omega (arith, here, later))) ∙ same rid (omega (arith, later)))
+      (keeps u first on holds (same first (omega arith) ∙ is) p))
+      (λ none. strikes-by keeps s u (first + 1) count on holds (λ rid later. same rid (omega (arith, later))) p)
+
+  pub struck-by : Striking P → (s : PlainSession) → P s → P (struck s)
+  struck-by keeps s p = split (λ (rids : List ℕ). P (strike_each rids s)) (is_over s || s.terms.polled) [] (filter (is_to_strike s) (ids_ahead s))
+      (λ never. p)
+      (λ goes.
+      let both = neither (is_over s) s.terms.polled goes in
+      strikes-by keeps s s (last_of s + 1) (s.terms.requests + 1) both.0 both.1 (λ rid later. refl) p)
+
   pub time_applied-by : Waiting P → Answering P → (s : PlainSession) (now : ℕ) → P s → P (time_applied s now)
-  time_applied-by time keeps s now p = silenced-by time (settled (at_moment s now)) (settled-by keeps (at_moment s now) (time.moves s now p))
+  time_applied-by time keeps s now p =
+      silenced-by time (struck (settled (at_moment s now))) (struck-by time.strikes (settled (at_moment s now)) (settled-by keeps (at_moment s now) (time.moves s now p)))
 
 -- what is kept by every move of a session, whatever ends it
 pub record Steady (P : PlainSession → Type 0) : Type 0 where
@@ -118,7 +144,8 @@ pub record Steady (P : PlainSession → Type 0) : Type 0 where
   pub processes : (s : PlainSession) (copy : RequestCopy) → is_over s ≡ false → standing_at s (last_of s + 1) ≡ Some copy
       → broken_rule (asked_of s) copy ≡ None → P s → P (with_copy s copy)
   pub stands : (s : PlainSession) (copy : RequestCopy) → last_of s < id_of copy → standing_at s (id_of copy) ≡ None → id_of copy ≤ greatest_rid
-      → P s → P (record s { standing = s.standing ++ copy ∷ [] })
+      → P s → P (record s { placings = s.placings ++ Stands copy ∷ [] })
+  pub strikes : (s : PlainSession) (rid : ℕ) → is_over s ≡ false → is_to_strike s rid ≡ true → P s → P (record s { placings = s.placings ++ Strikes rid s.now ∷ [] })
   pub gives : (s : PlainSession) (item : Outward) → P s → P (record s { given = s.given ++ item ∷ [] })
 
 module _ (P : PlainSession → Type 0) (steady : Steady P) where
@@ -138,5 +165,7 @@ module _ (P : PlainSession → Type 0) (steady : Steady P) where
   pub waits : Waiting P
   waits = record {
     moves = λ s now p. steady.aside s s.tickets (max s.now now) s.last_arrival s.passed s.counted p;
+    strikes = λ s rid on holds is p.
+        steady.aside (record s { placings = s.placings ++ Strikes rid s.now ∷ [] }) (map (strike_ticket rid) s.tickets) s.now s.last_arrival s.passed s.counted (steady.strikes s rid on is p);
     silences = λ s on silent p. steady.ends s (endings.Silent (quiet_of s) s.now) on p;
   }

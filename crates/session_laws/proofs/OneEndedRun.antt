@@ -4,19 +4,21 @@ use Rattle.std.proofs.lemmas.Bool.{cases_lt}
 use Rattle.std.proofs.lemmas.List.{length_push}
 use Rattle.bosh_types.specs.declared.ending.Ending.{Ending}
 use Rattle.session_core.specs.declared.copy.RequestCopy.{RequestCopy}
-use Rattle.session_core.specs.Journal.{Call, Arrive, Collect, Back, BackClosed, Tick, TakeInward, Made, Limit, Entered, Entry, Journal, IsJournal, IsAllowed, IsMade, none, more, entered_by, after_entry, after_entries}
+use Rattle.session_core.specs.Journal.{Arrive, Collect, Back, BackClosed, Tick, TakeInward, Made, Limit, Entered, Entry, Journal, IsJournal, IsMade, after_entries}
 use Rattle.session_core.specs.Machine.{opened}
 use Rattle.session_core.specs.Points.{tested_at}
 use Rattle.session_core.specs.Rules.{asked_with, broken_rule}
-use Rattle.session_core.specs.Run.{IsFirstCopy, HasNot, arrivals_with, arrivals_of, key_after, state_testing}
+use Rattle.session_core.specs.Run.{IsReceived, placings_with, placings_of, key_after, state_testing}
 use Rattle.session_core.specs.State.{PlainSession, is_over}
 use Rattle.session_core.specs.Time.{time_applied}
 use Rattle.session_laws.specs.RunEnded.{IsTried, GoesNoFurther, AtTerminate, AtBreaker, AtEnd, IsRunOfEnded}
-use Rattle.session_laws.proofs.AckLemmas.{two_places, complete_one, not_earlier}
+use Rattle.session_laws.proofs.AckLemmas.{two_places, complete_one}
 use Rattle.session_laws.proofs.EndsBack.{over_or_on}
-use Rattle.session_laws.proofs.Grows.{grows_all, ending_stays, made_later, after_append, made_rest}
+use Rattle.session_laws.proofs.Grows.{grows_all, ending_stays, made_later, after_append}
 use Rattle.session_laws.proofs.Lists.{get_some, get_last}
-use Rattle.session_laws.proofs.OneRun.{one_first, same_elements}
+use Rattle.session_laws.proofs.OneRun.{same_elements}
+use Rattle.session_laws.proofs.Persist.{made_front, stays}
+use Rattle.session_laws.proofs.Received.{one_received}
 use Rattle.session_laws.proofs.Steadily.{steady-time}
 use Rattle.session_laws.proofs.Tests.{which, none_some, true_false}
 
@@ -39,16 +41,6 @@ tested_over s (Made (Tick now)) over = time_over s now over
 tested_over s (Made TakeInward) over = over
 tested_over s (Limit kind cost now) over = over
 
-made_first : {s : PlainSession} {entry : Entry} {entries : List Entry} → IsMade s (entry ∷ entries) → (call : Call) × IsAllowed call × (entered_by s call ≡ Some entry.entered)
-made_first (more call allowed is rest) = (call, allowed, is)
-
--- the first entries are made too
-made_front : (s : PlainSession) (past later : List Entry) → IsMade s (past ++ later) → IsMade s past
-made_front s [] later made = none
-made_front s (entry ∷ past) later made =
-    let first = made_first made in
-    more first.0 first.1 first.2 (made_front (after_entry s entry.entered) past later (made_rest made))
-
 -- after an ending no copy is tested by a session that goes on
 ended_before : (start : PlainSession) (before : List Entry) (entry : Entry) (m : List Entry) (e : Entry) (a : List Entry) → IsMade start ((before ++ entry ∷ []) ++ (m ++ e ∷ a)) → is_over (after_entries start (before ++ entry ∷ [])) ≡ true
     → is_over (after_entries start ((before ++ entry ∷ []) ++ m)) ≡ true
@@ -64,7 +56,7 @@ take_same (x ∷ run) (y ∷ other) within each = ap₂ (λ z l. z ∷ l) (sym (
 
 module _ (journal : Journal) (made : IsJournal journal) (run other : List RequestCopy) (r : IsRunOfEnded journal run) (q : IsRunOfEnded journal other) where
   same_at : (k : ℕ) (x y : RequestCopy) → slice_get run k ≡ Some x → slice_get other k ≡ Some y → x ≡ y
-  same_at k x y at also = one_first (arrivals_of journal) (journal.opening.request.rid + suc k) x y (r.each (suc k) x at) (q.each (suc k) y also)
+  same_at k x y at also = one_received (placings_of journal) (journal.opening.request.rid + suc k) x y (r.each (suc k) x at) (q.each (suc k) y also)
 
   -- the other goes no further
   stops_there : length run < length other → GoesNoFurther journal run → ⊥
@@ -77,9 +69,9 @@ module _ (journal : Journal) (made : IsJournal journal) (run other : List Reques
   stops_there longer (AtBreaker copy ending first tried) =
       let c = get_some other (length run) longer in
       let place : journal.opening.request.rid + suc (length run) ≡ journal.opening.request.rid + 1 + length run = omega arith in
-      let same : c.0 ≡ copy = one_first (arrivals_of journal) (journal.opening.request.rid + 1 + length run) c.0 copy (subst (λ rid. IsFirstCopy (arrivals_of journal) rid c.0) place (q.each (suc (length run)) c.0 c.1)) first in
+      let same : c.0 ≡ copy = one_received (placings_of journal) (journal.opening.request.rid + 1 + length run) c.0 copy (subst (λ rid. IsReceived (placings_of journal) rid c.0) place (q.each (suc (length run)) c.0 c.1)) first in
       let t : IsTried journal run c.0 None = subst (λ l. IsTried journal l c.0 None) (take_same run other (omega (arith, longer)) same_at) (q.rules.tried (length run) c.0 c.1) in
-      let one = complete_one journal.opening journal.entries run t.0 t.1 t.2 tried.0 tried.1 tried.2 t.3 tried.3 t.4 tried.4 in
+      let one = complete_one journal.opening journal.entries run t.0 t.1 t.2 tried.0 tried.1 tried.2 made.1 t.3 tried.3 t.4 tried.4 in
       let asked = ap₂ (λ b e. asked_with (state_testing journal.opening b e) (key_after journal.opening.request.newkey run) run) one.0 one.1 in
       none_some _ ending (ap₂ broken_rule (sym asked) (sym same) ∙ t.6) tried.6
   stops_there longer (AtEnd before entry after split ends nothing nothing_now) =
@@ -88,9 +80,12 @@ module _ (journal : Journal) (made : IsJournal journal) (run other : List Reques
       elim (two_places t.0 before t.1 entry t.2 after (sym t.3 ∙ split)) [
         | inl same ↦
             let goes : is_over (state_testing journal.opening before entry) ≡ false = ap is_over (ap₂ (state_testing journal.opening) (sym same.0) (sym same.1)) ∙ t.5 in
-            (t.4).arrived (length run) (omega arith) (subst (λ l. HasNot (arrivals_with journal.opening l) (journal.opening.request.rid + 1 + length run)) (ap₂ (λ b e. b ++ e ∷ []) (sym same.0) (sym same.1)) (nothing_now goes))
+            let here = (t.4).together (length run) (omega arith) in
+            nothing_now goes here.0 (subst (λ l. IsReceived (placings_with journal.opening l) (journal.opening.request.rid + 1 + length run) here.0) (ap₂ (λ b e. b ++ e ∷ []) same.0 same.1) here.1)
         | inr apart ↦ elim apart [
-          | inl later ↦ (t.4).arrived (length run) (omega arith) (not_earlier journal.opening t.0 t.1 later.0 before (journal.opening.request.rid + 1 + length run) later.1 nothing)
+          | inl later ↦
+              stays journal.opening t.0 t.1 later.0 before (length run) later.1 (made_front (opened journal.opening) before (entry ∷ after) (subst (IsMade (opened journal.opening)) split made.1)) (t.4).together nothing.0 nothing.1
+              nothing.2
           | inr earlier ↦
               let start : PlainSession = opened journal.opening in
               let b_is : t.0 ≡ (before ++ entry ∷ []) ++ earlier.0 = earlier.1 ∙ sym (append_assoc before (entry ∷ []) earlier.0) in
@@ -113,4 +108,4 @@ ended_run-one journal made run other r q =
         | inr other_within ↦ omega arith
       ]
     ] in
-    same_elements run other count (λ k x y at also. one_first (arrivals_of journal) (journal.opening.request.rid + suc k) x y (r.each (suc k) x at) (q.each (suc k) y also))
+    same_elements run other count (λ k x y at also. one_received (placings_of journal) (journal.opening.request.rid + suc k) x y (r.each (suc k) x at) (q.each (suc k) y also))

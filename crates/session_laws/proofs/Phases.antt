@@ -1,5 +1,5 @@
 -- What each phase of an entry keeps, every entry keeps: time, what is settled, a new copy, and what ends a session from outside.
-use Rattle.std.proofs.Common.{◌≡◌, ℕ, ◌+◌, ◌≤◌, false, not, List, [], ◌∷◌, ◌++◌, Option, Some, None, nat_le, map, slice_set}
+use Rattle.std.proofs.Common.{◌≡◌, ℕ, ◌+◌, ◌≤◌, false, not, List, [], ◌∷◌, ◌++◌, Option, Some, None, nat_le, refl, map, slice_set}
 use Rattle.bosh_types.specs.Rid.{greatest_rid}
 use Rattle.bosh_types.specs.declared.ending.Ending.{Ending}
 use Rattle.bosh_types.specs.declared.ending.Ending.TheVariants as endings
@@ -13,7 +13,7 @@ use Rattle.session_core.specs.declared.replies.Taken.{Taken}
 use Rattle.session_core.specs.Answers.{settled}
 use Rattle.session_core.specs.Copy.{id_of}
 use Rattle.session_core.specs.Endings.{ended}
-use Rattle.session_core.specs.Journal.{Call, Entered, IsAllowed, entered_by, after_entry}
+use Rattle.session_core.specs.Journal.{Entered, after_entry, MayEnter}
 use Rattle.session_core.specs.Kept.{lowest_kept}
 use Rattle.session_core.specs.Machine.{advanced, placed, bytes_for, wait_at, copy_now, arrived_in_time, with_cost, body_cost, stanza_cost, plain_cost, takes_items, has_room, with_item, replace}
 use Rattle.session_core.specs.State.{PlainSession, Issued, Waits, UsedUp, last_of, answered_of, is_over}
@@ -27,7 +27,7 @@ pub record Phases (P : PlainSession → Type 0) : Type 0 where
   pub time : (s : PlainSession) (now : ℕ) → is_over s ≡ false → P s → P (time_applied s now)
   pub settles : (s : PlainSession) → P s → P (settled s)
   pub places : (t : PlainSession) (copy : RequestCopy) → is_over t ≡ false → nat_le (id_of copy) (answered_of t) ≡ false → is_open t (id_of copy) ≡ false
-      → is_above t copy ≡ false → id_of copy ≤ greatest_rid → P t → P (advanced (placed t copy))
+      → is_above t copy ≡ false → id_of copy ≤ greatest_rid → copy.arrived ≡ t.now → P t → P (advanced (placed t copy))
   pub reopens : (t : PlainSession) (tickets : List Issued) → is_over t ≡ false → P t → P (record t { tickets = tickets; last_arrival = t.now })
   pub ends : (t : PlainSession) (ending : Ending) → is_over t ≡ false → P t → P (ended ending t)
   pub gives : (t : PlainSession) (item : Outward) → P t → P (record t { given = t.given ++ item ∷ [] })
@@ -54,14 +54,14 @@ module _ (P : PlainSession → Type 0) (phases : Phases P) where
         above = λ on later new beyond. phases.ends t (endings.Above (id_of copy) (last_of t) t.terms.requests) on p;
         fresh = λ on later new within.
             let u : PlainSession = settled (advanced (placed t copy)) in
-            phase-replied u (id_of copy) (phases.settles (advanced (placed t copy)) (phases.places t copy on later new within small p)) (bytes_for u (id_of copy));
+            phase-replied u (id_of copy) (phases.settles (advanced (placed t copy)) (phases.places t copy on later new within small refl p)) (bytes_for u (id_of copy));
       })
 
   phase-item : (s : PlainSession) (item : Outward) → P s → P (with_item s item).0
   phase-item s item p = phases.settles (record s { given = s.given ++ item ∷ [] }) (phases.gives s item p)
 
-  pub phase-entry : (s : PlainSession) (call : Call) → IsAllowed call → (entered : Entered) → entered_by s call ≡ Some entered → P s → P (after_entry s entered)
-  phase-entry s call allowed entered is p = entry-by s (λ e u. P u) (record {
+  pub phase-entry : (s : PlainSession) (entered : Entered) → MayEnter s entered → P s → P (after_entry s entered)
+  phase-entry s entered may p = entry-by s (λ e u. P u) (record {
     arrives = λ request body now allowed on room.
         phase-arrived (with_cost (body_cost request body) (time_applied s now)) request body (read-rid body request allowed.0).1 (phase-timed s now (body_cost request body) on p);
     backs = λ stream stanza now allowed on room.
@@ -77,4 +77,4 @@ module _ (P : PlainSession → Type 0) (phases : Phases P) where
     collects = λ index ticket is. phases.aside s (slice_set s.tickets index (record ticket { state = UsedUp })) s.passed s.counted p;
     takes = λ item is. phases.aside s s.tickets (s.passed + 1) s.counted p;
     limits = λ kind cost now on full. phases.ends s (endings.JournalFull s.counted cost) on p;
-  }) call allowed entered is
+  }) entered may

@@ -15,10 +15,12 @@ use Rattle.session_core.specs.declared.replies.Taken.{Taken}
 use Rattle.session_core.specs.Answers.{has_reason, has_reason_for, gives_reason, reasons, front_for, with_answer, closed_by, answer_to, answer_oldest, settled_in, settled}
 use Rattle.session_core.specs.Copy.{id_of}
 use Rattle.session_core.specs.Endings.{ended}
-use Rattle.session_core.specs.Journal.{Call, Entered, Journal, IsJournal, IsAllowed, entered_by, after_entry, state_of}
+use Rattle.session_core.specs.Gap.{strike, struck}
+use Rattle.session_core.specs.Journal.{Entered, Journal, IsJournal, after_entry, state_of, MayEnter}
 use Rattle.session_core.specs.Machine.{opened, advanced, placed, bytes_for, wait_at, copy_now, arrived_in_time, with_cost, body_cost, stanza_cost, plain_cost, takes_items, has_room, replace}
 use Rattle.session_core.specs.State.{PlainSession, Issued, Waits, UsedUp, held, is_over}
 use Rattle.session_core.specs.Time.{time_applied, is_silent, at_moment, quiet_of}
+use Rattle.session_laws.proofs.Moves.{struck-by}
 use Rattle.session_laws.proofs.Tests.{split}
 use Rattle.session_laws.proofs.Lists.{drop_next}
 use Rattle.session_laws.proofs.Steps.{arrival-by, entry-by, along}
@@ -32,6 +34,11 @@ aside_for : (s : PlainSession) (copies : List RequestCopy) (tickets : List Issue
     → has_reason_for (record s { tickets = tickets; last_arrival = last_arrival; passed = passed; counted = counted }) copies ≡ has_reason_for s copies
 aside_for s [] tickets last_arrival passed counted = refl
 aside_for s (oldest ∷ later) tickets last_arrival passed counted = refl
+
+-- nor for what stands beyond the gap
+struck_for : (s : PlainSession) (copies : List RequestCopy) (rid : ℕ) → has_reason_for (strike s rid) copies ≡ has_reason_for s copies
+struck_for s [] rid = refl
+struck_for s (oldest ∷ later) rid = refl
 
 pub record HasNoReason (s : PlainSession) : Type 0 where
   pub is : has_reason s ≡ false
@@ -73,8 +80,9 @@ settled_none s = settled_in_none (length (held s)) s (omega arith)
 
 pub time_none : (s : PlainSession) (now : ℕ) → HasNoReason (time_applied s now)
 time_none s now =
-    let u : PlainSession = settled (at_moment s now) in
-    split HasNoReason (not (is_over u) && is_silent u) _ _ (λ silent. ended_none (endings.Silent (quiet_of u) u.now) u) (λ other. settled_none (at_moment s now))
+    let u : PlainSession = struck (settled (at_moment s now)) in
+    split HasNoReason (not (is_over u) && is_silent u) _ _ (λ silent. ended_none (endings.Silent (quiet_of u) u.now) u)
+    (λ other. struck-by HasNoReason (λ t rid on holds is none. record { is = struck_for t (held t) rid ∙ none.is }) (settled (at_moment s now)) (settled_none (at_moment s now)))
 
 timed_none : (s : PlainSession) (now cost : ℕ) → HasNoReason (with_cost cost (time_applied s now))
 timed_none s now cost =
@@ -97,8 +105,8 @@ arrived_none t request body none = arrival-by t request body (λ r. HasNoReason 
       replied_none u request.rid (settled_none (advanced (placed t (copy_now t request body)))) (bytes_for u request.rid);
 })
 
-entry_none : (s : PlainSession) (call : Call) → IsAllowed call → (entered : Entered) → entered_by s call ≡ Some entered → HasNoReason s → HasNoReason (after_entry s entered)
-entry_none s call allowed entered is none = entry-by s (λ e u. HasNoReason u) (record {
+entry_none : (s : PlainSession) (entered : Entered) → MayEnter s entered → HasNoReason s → HasNoReason (after_entry s entered)
+entry_none s entered may none = entry-by s (λ e u. HasNoReason u) (record {
   arrives = λ request body now allowed on room. arrived_none (with_cost (body_cost request body) (time_applied s now)) request body (timed_none s now (body_cost request body));
   backs = λ stream stanza now allowed on room.
       let t : PlainSession = with_cost (stanza_cost stanza) (time_applied s now) in
@@ -113,7 +121,7 @@ entry_none s call allowed entered is none = entry-by s (λ e u. HasNoReason u) (
   collects = λ index ticket is. aside_none s (slice_set s.tickets index (record ticket { state = UsedUp })) s.last_arrival s.passed s.counted none;
   takes = λ item is. aside_none s s.tickets s.last_arrival (s.passed + 1) s.counted none;
   limits = λ kind cost now on full. ended_none (endings.JournalFull s.counted cost) s;
-}) call allowed entered is
+}) entered may
 
 pub every_settled : (journal : Journal) → IsJournal journal → has_reason (state_of journal) ≡ false
-every_settled journal made = (along (opened journal.opening) (λ past s. HasNoReason s) (λ past s call entry allowed same is none. entry_none s call allowed entry.entered is none) journal.entries made.1 (record { is = refl })).is
+every_settled journal made = (along (opened journal.opening) (λ past s. HasNoReason s) (λ past s entry may same none. entry_none s entry.entered may none) journal.entries made.1 (record { is = refl })).is

@@ -19,17 +19,19 @@ use Rattle.session_core.specs.declared.replies.Taken.TheVariants as takings
 use Rattle.session_core.specs.declared.replies.Ticked.{Ticked}
 use Rattle.session_core.specs.declared.replies.Ticked.TheVariants.{Changed, Quiet}
 use Rattle.session_core.specs.Answers.{settled}
-use Rattle.session_core.specs.Copy.{id_of}
+use Rattle.session_core.specs.Copy.{id_of, with_id}
 use Rattle.session_core.specs.Endings.{last_word, ended}
 use Rattle.session_core.specs.Kept.{kept_answer, answer_at, lowest_kept}
 use Rattle.session_core.specs.Machine.{advanced, placed, bytes_for, wait_at, copy_now, arrived_in_time, arrive, with_cost, body_cost, stanza_cost, plain_cost, is_full, reopened, replace, takes_items, has_room, back, tick, full_with, back_closed}
-use Rattle.session_core.specs.State.{PlainSession, Answered, answers, first_of, last_of, answered_of, standing_at, is_over}
+use Rattle.session_core.specs.State.{PlainSession, Answered, answers, first_of, last_of, answered_of, standing, standing_at, is_over}
 use Rattle.session_core.specs.Time.{time_applied, is_due}
 use Rattle.session_core.specs.Window.{is_open}
 use Rattle.session_laws.specs.Replies.{IsOpenId, IsToldTo, MayTake}
 use Rattle.session_laws.proofs.Tests.{if_true, if_false, is_or_not, which, neither, none_some, some_is, true_false}
 use Rattle.session_laws.proofs.Lists.{standing_now}
-use Rattle.session_laws.proofs.Frames.{settled_leaves, time_leaves, advanced_leaves}
+use Rattle.session_core.proofs.StruckLemmas.{standing_placed}
+use Rattle.session_laws.proofs.Frames.{settled_leaves, advanced_leaves}
+use Rattle.session_laws.proofs.TimeStruck.{strikes_of, struck_length, time_tickets}
 use Rattle.session_laws.proofs.SoundLemmas.{IsSound, sound_steady}
 use Rattle.session_laws.proofs.Steadily.{steady-settled, steady-advanced, steady-placed, is_none}
 use Rattle.session_laws.proofs.Bytes.{IsFirstAnswer, first_answer_steady, answer_within, kept_is}
@@ -178,7 +180,7 @@ arrived_told t request body small sound first =
           let apart = neither (nat_le (id_of copy) (last_of t)) (is_some (standing_at t (id_of copy))) new in
           let p_sound : IsSound p = steady-placed IsSound sound_steady t copy new small sound in
           let stands : standing_at u request.rid ≡ Some copy =
-          ap (λ (v : PlainSession). standing_at v request.rid) (settled_leaves (advanced p)) ∙ ap (λ (v : PlainSession). standing_at v request.rid) (advanced_leaves p) ∙ standing_now t.standing copy (is_none (standing_at t (id_of copy)) apart.1) in
+          ap (λ (v : PlainSession). standing_at v request.rid) (settled_leaves (advanced p)) ∙ ap (λ (v : PlainSession). standing_at v request.rid) (advanced_leaves p) ∙ ap (λ (copies : List RequestCopy). at_id (map with_id copies) request.rid) (standing_placed t copy) ∙ standing_now (standing t) copy (is_none (standing_at t (id_of copy)) apart.1) in
           let creation : u.creation ≡ t.creation = ap (λ (v : PlainSession). v.creation) (settled_leaves (advanced p)) ∙ ap (λ (v : PlainSession). v.creation) (advanced_leaves p) in
           told_replied (length t.tickets) request.rid u (steady-settled IsSound sound_steady (advanced p) (steady-advanced IsSound sound_steady p p_sound))
           (steady-settled IsFirstAnswer first_answer_steady (advanced p) (steady-advanced IsFirstAnswer first_answer_steady p first))
@@ -195,7 +197,7 @@ arrive_told s request body now small on sound first = elim (is_or_not (is_full s
   | inr room ↦
       let t : PlainSession = with_cost (body_cost request body) (time_applied s now) in
       subst (Told (length s.tickets) request.rid) (sym (arrive-in_time s request body now on room))
-      (subst (λ n. Told n request.rid (arrived_in_time t request body)) (ap (λ (v : PlainSession). length v.tickets) (time_leaves s now)) (arrived_told t request body small sound first))
+      (subst (λ n. Told n request.rid (arrived_in_time t request body)) (ap length (time_tickets s now) ∙ struck_length (strikes_of s now) s.tickets) (arrived_told t request body small sound first))
 ]
 
 pub arrive_over : (s : PlainSession) (request : Request) (body : List ℕ) (now : ℕ) → is_over s ≡ true → (arrive s request body now).1 ≡ arrivals.Over

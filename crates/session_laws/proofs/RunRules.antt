@@ -10,14 +10,14 @@ use Rattle.key_sequence.specs.Current.{current_after}
 use Rattle.session_attrs.specs.declared.request.Request.{Request}
 use Rattle.session_core.specs.declared.copy.RequestCopy.{RequestCopy}
 use Rattle.session_core.specs.Copy.{id_of, with_id}
-use Rattle.session_core.specs.Journal.{Arrive, Made, Entered, Entry, Journal, after_entries}
+use Rattle.session_core.specs.Journal.{Arrive, Made, Entered, Entry, IsMade, Journal, after_entries}
 use Rattle.session_core.specs.Machine.{opened, creation_of, with_copy}
 use Rattle.session_core.specs.declared.opening.Opening.{Opening}
 use Rattle.session_core.specs.Points.{tested_at}
 use Rattle.session_core.specs.Rules.{Asks, asked_with, asked_of, broken_rule, prior_mark}
-use Rattle.session_core.specs.Run.{arrival_in, arrivals_with, IsFirstCopy, HasNot, key_after, state_testing}
-use Rattle.session_laws.specs.RunEnded.{IsTried, BreaksNoRule, GoesNoFurther, AtTerminate, AtBreaker, AtEnd}
-use Rattle.session_core.specs.State.{PlainSession, Answered, first_of, last_of, answered_of, standing_at, is_over}
+use Rattle.session_core.specs.Run.{IsReceived, Lacks, placings_with, key_after, state_testing}
+use Rattle.session_laws.specs.RunEnded.{IsTried, BreaksNoRule, LacksOne, GoesNoFurther, AtTerminate, AtBreaker, AtEnd}
+use Rattle.session_core.specs.State.{PlainSession, Answered, Placing, Stands, standing_after, first_of, last_of, answered_of, standing_at, is_over}
 use Rattle.session_core.specs.Time.{time_applied}
 use Rattle.session_core.specs.Kept.{keep_of}
 use Rattle.session_laws.proofs.AckLemmas.{Acknowledges, acks_push, last_answered}
@@ -28,9 +28,9 @@ use Rattle.session_laws.proofs.Lists.{get_push, get_within, get_some}
 use Rattle.session_laws.proofs.Moves.{Steady, Processing}
 use Rattle.session_laws.proofs.SoundLemmas.{IsSound}
 use Rattle.session_laws.proofs.Clear.{IsClear}
-use Rattle.session_laws.proofs.Followed.{IsFollowed, first_later, moment_of, arrivals-push}
+use Rattle.session_laws.proofs.Followed.{IsFollowed, lacks_later, lacks_none}
+use Rattle.session_laws.proofs.Received.{received_after}
 use Rattle.session_laws.proofs.EndsBack.{Processed, processed_processing, over_or_on}
-use Rattle.session_laws.proofs.Carried.{all_first}
 
 -- the key is the one that the processed copies leave
 key-push : (key : Option (List ℕ)) (copies : List RequestCopy) (copy : RequestCopy) → key_after key (copies ++ copy ∷ []) ≡ current_after (key_after key copies) copy.request.key copy.request.newkey
@@ -47,6 +47,7 @@ key_steady newkey = record {
   answers = λ t oldest later front is on reason taken p. p;
   processes = λ t copy on stands broken p. ap (λ key. current_after key copy.request.key copy.request.newkey) p ∙ sym (key-push newkey t.processed copy);
   stands = λ t copy above none small p. p;
+  strikes = λ t rid on is p. p;
   gives = λ t item p. p;
 }
 
@@ -62,19 +63,14 @@ keeps_more o past entry later keeps = record {
   terminate = keeps.terminate;
 }
 
-pub arrivals_more : (o : Opening) (past : List Entry) (entry : Entry) → arrivals_with o (past ++ entry ∷ []) ≡ arrivals_with o past ++ arrival_in (moment_of o.at past) entry.entered
-arrivals_more o past entry = ap (λ arrivals. creation_of o ∷ arrivals) (arrivals-push o.at past entry)
-
-pub stops_more : (o : Opening) (past : List Entry) (entry : Entry) (later : List RequestCopy) → GoesNoFurther (journal_with o past) later → GoesNoFurther (journal_with o (past ++ entry ∷ [])) later
-stops_more o past entry later (AtTerminate before copy same last) = AtTerminate before copy same last
-stops_more o past entry later (AtBreaker copy ending first judged) =
-    AtBreaker copy ending (subst (λ arrivals. IsFirstCopy arrivals (o.request.rid + 1 + length later) copy) (sym (arrivals_more o past entry)) (first_later (arrivals_with o past) _ (o.request.rid + 1 + length later) copy first))
-    (judged_more o past entry later copy (Some ending) judged)
-stops_more o past entry later (AtEnd before last after same ends none none_now) =
+-- one that brought nothing
+pub stops_more : (o : Opening) (past : List Entry) (entry : Entry) (later : List RequestCopy) → placings_with o past ≡ placings_with o (past ++ entry ∷ []) → GoesNoFurther (journal_with o past) later
+    → GoesNoFurther (journal_with o (past ++ entry ∷ [])) later
+stops_more o past entry later still (AtTerminate before copy same last) = AtTerminate before copy same last
+stops_more o past entry later still (AtBreaker copy ending received judged) =
+    AtBreaker copy ending (subst (λ placings. IsReceived placings (o.request.rid + 1 + length later) copy) still received) (judged_more o past entry later copy (Some ending) judged)
+stops_more o past entry later still (AtEnd before last after same ends none none_now) =
     AtEnd before last (after ++ entry ∷ []) (ap (λ es. es ++ entry ∷ []) same ∙ append_assoc before (last ∷ after) (entry ∷ [])) ends none none_now
-
-pub first_not : (arrivals : List RequestCopy) (rid : ℕ) (copy : RequestCopy) → IsFirstCopy arrivals rid copy → HasNot arrivals rid → ⊥
-first_not arrivals rid copy first none = all_first (λ (c : RequestCopy). id_of c ≢ rid) arrivals rid copy none first first.0
 
 -- the same terms and answers ask the same
 asked_same : (s t : PlainSession) (key : Option (List ℕ)) (copies : List RequestCopy) → t.creation ≡ s.creation → t.terms ≡ s.terms → t.created ≡ s.created → t.answered ≡ s.answered → asked_with s key copies ≡ asked_with t key copies
@@ -97,18 +93,22 @@ any_none (first ∷ copies) (suc k) copy none is last = any_none copies k copy (
 pub next_place : (o : Opening) (s : PlainSession) → s.creation ≡ creation_of o → last_of s + 1 ≡ o.request.rid + 1 + length s.processed
 next_place o s creation = omega (arith, ap id_of creation)
 
--- nothing arrived with the id after the run of a session that goes on
-pub next_not : (o : Opening) (arrived : List RequestCopy) (s : PlainSession) → s.creation ≡ creation_of o → IsFollowed arrived s → IsClear s → is_over s ≡ false → HasNot arrived (o.request.rid + 1 + length s.processed)
-next_not o arrived s creation follows clear on =
-    subst (HasNot arrived) (next_place o s creation) (follows.all on (last_of s + 1) (omega arith) (clear on))
+-- what came to the places of ids in a session, the creation first
+abbrev pub placings_in : Opening → PlainSession → List Placing
+placings_in o s = Stands (creation_of o) ∷ s.placings
+
+-- no copy was received with the id after the run of a session that goes on
+pub next_not : (o : Opening) (s : PlainSession) → s.creation ≡ creation_of o → IsFollowed s → IsClear s → is_over s ≡ false → Lacks (placings_in o s) (o.request.rid + 1 + length s.processed)
+next_not o s creation follows clear on =
+    subst (Lacks (placings_in o s)) (next_place o s creation) (lacks_later o s (last_of s + 1) (omega (arith, ap id_of creation)) (lacks_none s (last_of s + 1) follows (clear on)))
 
 module _ (o : Opening) (past : List Entry) (entry : Entry) (s : PlainSession) (same : s ≡ after_entries (opened o) past) where
   pub testing_is : (e : Entered) → entry.entered ≡ e → state_testing o past entry ≡ tested_at s e
   testing_is e is = ap₂ (λ u x. tested_at u x) (sym same) is
 
   -- the session ended with this entry, and nothing had come that could be processed
-  pub at_end : (e : Entered) → entry.entered ≡ e → is_over s ≡ false → is_over (after_entries (opened o) (past ++ entry ∷ [])) ≡ true → (later : List RequestCopy) → HasNot (arrivals_with o past) (o.request.rid + 1 + length later)
-      → (is_over (tested_at s e) ≡ false → HasNot (arrivals_with o (past ++ entry ∷ [])) (o.request.rid + 1 + length later)) → GoesNoFurther (journal_with o (past ++ entry ∷ [])) later
+  pub at_end : (e : Entered) → entry.entered ≡ e → is_over s ≡ false → is_over (after_entries (opened o) (past ++ entry ∷ [])) ≡ true → (later : List RequestCopy) → LacksOne o past later
+      → (is_over (tested_at s e) ≡ false → Lacks (placings_with o (past ++ entry ∷ [])) (o.request.rid + 1 + length later)) → GoesNoFurther (journal_with o (past ++ entry ∷ [])) later
   at_end e is on over later none none_now =
       AtEnd past entry [] refl (record { goes_on = ap is_over (sym same) ∙ on; ends = over }) none (λ goes. none_now (ap is_over (sym (testing_is e is)) ∙ goes))
 
@@ -121,29 +121,31 @@ module _ (o : Opening) (past : List Entry) (entry : Entry) (s : PlainSession) (s
   journal' = journal_with o (past ++ entry ∷ [])
 
   -- what holds of each state in between
-  pub record Walks (p : PlainSession) (creation : RequestCopy) (terms : Terms) (created : Answered) (answered : List Answered) (standing processed : List RequestCopy) (key : Option (List ℕ)) : Type 0 where
+  pub record Walks (p : PlainSession) (creation : RequestCopy) (terms : Terms) (created : Answered) (answered : List Answered) (placings : List Placing) (processed : List RequestCopy) (key : Option (List ℕ)) : Type 0 where
     pub creation_is : creation ≡ tested.creation
     pub terms_are : terms ≡ tested.terms
     pub created_is : created ≡ tested.created
     pub answered_are : answered ≡ tested.answered
-    pub standing_is : standing ≡ p.standing
+    pub placings_are : placings ≡ p.placings
     pub key_is : key ≡ key_after o.request.newkey processed
     pub longer : length tested.processed ≤ length processed
     pub keeps : BreaksNoRule journal' processed
 
   abbrev pub Walk : PlainSession → PlainSession → Type 0
   Walk p u =
-      Walks p u.creation u.terms u.created u.answered u.standing u.processed u.key × (is_over u ≡ true → GoesNoFurther journal' u.processed)
+      Walks p u.creation u.terms u.created u.answered u.placings u.processed u.key × (is_over u ≡ true → GoesNoFurther journal' u.processed)
       × Acknowledges journal' u.reporting.on u.acknowledged u.processed
 
-  module _ (p : PlainSession) (creation : tested.creation ≡ creation_of o) (p_creation : p.creation ≡ tested.creation) (follows : IsFollowed (arrivals_with o (past ++ entry ∷ [])) p) (none : HasNot (arrivals_with o past) (o.request.rid + 1 + length tested.processed)) (first : IsFirstAnswer tested) (goes : is_over tested ≡ false) where
+  module _ (p : PlainSession) (creation : tested.creation ≡ creation_of o) (p_creation : p.creation ≡ tested.creation) (follows : IsFollowed p) (reached : placings_in o p ≡ placings_with o (past ++ entry ∷ [])) (made : IsMade (opened o) (past ++ entry ∷ [])) (none : Lacks (placings_with o past) (o.request.rid + 1 + length tested.processed)) (first : IsFirstAnswer tested) (goes : is_over tested ≡ false) where
     place : (u : PlainSession) (k : ℕ) → u.creation ≡ tested.creation → first_of u + 1 + k ≡ o.request.rid + 1 + k
     place u k is_creation = ap (λ (c : RequestCopy). id_of c + 1 + k) (is_creation ∙ creation)
 
-    stood : (u : PlainSession) (k : ℕ) (x : RequestCopy) → u.creation ≡ tested.creation → u.standing ≡ p.standing → standing_at u (first_of u + 1 + k) ≡ Some x → IsFirstCopy (arrivals_with o (past ++ entry ∷ [])) (o.request.rid + 1 + k) x
-    stood u k x is_creation is_standing stands =
-        subst (λ rid. IsFirstCopy (arrivals_with o (past ++ entry ∷ [])) rid x) (place u k is_creation)
-        (follows.each (first_of u + 1 + k) x (ap (λ copies. at_id (map with_id copies) (first_of u + 1 + k)) (sym is_standing) ∙ stands))
+    stood : (u : PlainSession) (k : ℕ) (x : RequestCopy) → u.creation ≡ tested.creation → u.placings ≡ p.placings → standing_at u (first_of u + 1 + k) ≡ Some x → IsReceived (placings_with o (past ++ entry ∷ [])) (o.request.rid + 1 + k) x
+    stood u k x is_creation are_placings stands =
+        subst (λ l. IsReceived l (o.request.rid + 1 + k) x) reached
+        (received_after (Stands (creation_of o)) p.placings (o.request.rid + 1 + k) x
+        (subst (λ rid. IsReceived p.placings rid x) (place u k is_creation)
+        (follows.each (first_of u + 1 + k) x (ap (λ (l : List Placing). at_id (map with_id (standing_after [] l)) (first_of u + 1 + k)) (sym are_placings) ∙ stands))))
 
     -- the copy is judged with this entry
     pub judged_now : (u : PlainSession) (c : RequestCopy) (verdict : Option Ending) → IsSound u → Walk p u → standing_at u (last_of u + 1) ≡ Some c → broken_rule (asked_of u) c ≡ verdict → IsTried journal' u.processed c verdict
@@ -159,14 +161,13 @@ module _ (o : Opening) (past : List Entry) (entry : Entry) (s : PlainSession) (s
           [],
           refl,
           record {
-            arrived = λ k within nothing. elim (cases_lt k (length u.processed)) [
-              | inl earlier ↦
+            together = λ k within. elim (cases_lt k (length u.processed)) [
+              | inl earlier ↦ (
                   let x = get_some u.processed k earlier in
-                  first_not (arrivals_with o (past ++ entry ∷ [])) (o.request.rid + 1 + k) x.0 (stood u k x.0 w.creation_is w.standing_is (sound.stand k x.0 x.1)) nothing
-              | inr last ↦
+                  (x.0, stood u k x.0 w.creation_is w.placings_are (sound.stand k x.0 x.1)))
+              | inr last ↦ (
                   let k_is : k ≡ length u.processed = omega arith in
-                  first_not (arrivals_with o (past ++ entry ∷ [])) (o.request.rid + 1 + k) c
-                  (stood u k c w.creation_is w.standing_is (ap (standing_at u) (ap (λ n. first_of u + 1 + n) k_is ∙ next) ∙ stands)) nothing
+                  (c, stood u k c w.creation_is w.placings_are (ap (standing_at u) (ap (λ n. first_of u + 1 + n) k_is ∙ next) ∙ stands)))
             ];
             not_yet = (length tested.processed, w.longer, none);
           },
@@ -182,7 +183,7 @@ module _ (o : Opening) (past : List Entry) (entry : Entry) (s : PlainSession) (s
         let j = judged_now u c None sound walk stands broken in
         let u_first : IsFirstAnswer u = ap (λ (a : Answered). a.rid) w.created_is ∙ first ∙ ap id_of (sym w.creation_is) in
         let count : answered_of u ≡ answered_of tested = ap₂ (λ (x : RequestCopy) (l : List Answered). id_of x + length l) w.creation_is w.answered_are in
-        acks_push o past entry u.processed c j.4 u.reporting.on (keep_of u)
+        acks_push o past entry u.processed c made j.4 u.reporting.on (keep_of u)
         (last_answered u sound u_first ∙ count ∙ ap answered_of (sym (testing_is o past entry s same (Made (Arrive request body now)) is))) walk.2 c.request.ack refl
 
     keeps_push : (u : PlainSession) (c : RequestCopy) → BreaksNoRule journal' u.processed → list_any (λ (x : RequestCopy). x.request.terminate) u.processed ≡ false → IsTried journal' u.processed c None → BreaksNoRule journal' (u.processed ++ c ∷ [])
@@ -201,7 +202,7 @@ module _ (o : Opening) (past : List Entry) (entry : Entry) (s : PlainSession) (s
     }
 
     walks_push : (u : PlainSession) (c : RequestCopy) → is_over u ≡ false → standing_at u (last_of u + 1) ≡ Some c → broken_rule (asked_of u) c ≡ None → Processed u × Walk p u
-        → Walks p u.creation u.terms u.created u.answered u.standing (u.processed ++ c ∷ []) (with_copy u c).key
+        → Walks p u.creation u.terms u.created u.answered u.placings (u.processed ++ c ∷ []) (with_copy u c).key
     walks_push u c on stands broken q =
         let w = (q.1).0 in
         record {
@@ -209,7 +210,7 @@ module _ (o : Opening) (past : List Entry) (entry : Entry) (s : PlainSession) (s
           terms_are = w.terms_are;
           created_is = w.created_is;
           answered_are = w.answered_are;
-          standing_is = w.standing_is;
+          placings_are = w.placings_are;
           key_is = ap (λ key. current_after key c.request.key c.request.newkey) w.key_is ∙ sym (key-push o.request.newkey u.processed c);
           longer = omega (arith, w.longer, length_push u.processed c);
           keeps = keeps_push u c w.keeps ((q.0).1 on) (judged_now u c None (q.0).0 q.1 stands broken);
@@ -231,7 +232,7 @@ module _ (o : Opening) (past : List Entry) (entry : Entry) (s : PlainSession) (s
           (q.1).0,
           λ over.
               let next : first_of u + 1 + length u.processed ≡ last_of u + 1 = omega arith in
-              AtBreaker c ending (stood u (length u.processed) c ((q.1).0).creation_is ((q.1).0).standing_is (ap (standing_at u) next ∙ stands)) (judged_now u c (Some ending) (q.0).0 q.1 stands broken),
+              AtBreaker c ending (stood u (length u.processed) c ((q.1).0).creation_is ((q.1).0).placings_are (ap (standing_at u) next ∙ stands)) (judged_now u c (Some ending) (q.0).0 q.1 stands broken),
           (q.1).2,
         ),
       );

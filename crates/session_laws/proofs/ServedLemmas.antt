@@ -17,7 +17,7 @@ use Rattle.session_core.specs.declared.replies.Taken.{Taken}
 use Rattle.session_core.specs.declared.replies.Taken.TheVariants as takings
 use Rattle.session_core.specs.Answers.{front_of, fit_one_answer}
 use Rattle.session_core.specs.Copy.{is_pause, unnamed}
-use Rattle.session_core.specs.Journal.{Call, Entered, Journal, IsJournal, IsAllowed, entered_by, state_of}
+use Rattle.session_core.specs.Journal.{Entered, Journal, IsJournal, state_of, MayEnter}
 use Rattle.session_core.specs.Machine.{opened, back, back_closed}
 use Rattle.session_core.specs.Outward.{items_in, size_of}
 use Rattle.session_core.specs.Passed.{given_by, if_done}
@@ -46,8 +46,8 @@ done_small item takings.Done small = All-cons IsSmall item [] small (All-nil IsS
 done_small item takings.Full small = All-nil IsSmall
 done_small item takings.Over small = All-nil IsSmall
 
-entry_small : (s : PlainSession) (call : Call) → IsAllowed call → (entered : Entered) → entered_by s call ≡ Some entered → All IsSmall (one (given_by s entered))
-entry_small s call allowed entered is = entry-by s (λ e u. All IsSmall (one (given_by s e))) (record {
+entry_small : (s : PlainSession) (entered : Entered) → MayEnter s entered → All IsSmall (one (given_by s entered))
+entry_small s entered may = entry-by s (λ e u. All IsSmall (one (given_by s e))) (record {
   arrives = λ request body now allowed on room. All-nil IsSmall;
   backs = λ stream stanza now allowed on room. done_small (Stanza stream stanza) (back s stream stanza now).1 (stanza_small stream stanza allowed);
   closes = λ stream closing now on room. done_small (Close stream closing) (back_closed s stream closing now).1 (close_small stream closing);
@@ -55,7 +55,7 @@ entry_small s call allowed entered is = entry-by s (λ e u. All IsSmall (one (gi
   collects = λ index ticket is. All-nil IsSmall;
   takes = λ item is. All-nil IsSmall;
   limits = λ kind cost now on full. All-nil IsSmall;
-}) call allowed entered is
+}) entered may
 
 greeting_small : (greeting : List (List ℕ)) → IsTrue (list_all is_stanza greeting) → All IsSmall (map (Stanza unnamed) greeting)
 greeting_small [] all = All-nil IsSmall
@@ -65,8 +65,8 @@ greeting_small (stanza ∷ greeting) all =
 
 every_small : (journal : Journal) → IsJournal journal → All IsSmall (state_of journal).given
 every_small journal made = along (opened journal.opening) (λ past s. All IsSmall s.given)
-    (λ past s call entry allowed same is small.
-    subst (All IsSmall) (sym (entry_gives s call allowed entry.entered is)) (All-append IsSmall s.given (one (given_by s entry.entered)) small (entry_small s call allowed entry.entered is)))
+    (λ past s entry may same small.
+    subst (All IsSmall) (sym (entry_gives s entry.entered may)) (All-append IsSmall s.given (one (given_by s entry.entered)) small (entry_small s entry.entered may)))
     journal.entries made.1 (greeting_small journal.opening.greeting ((made.0).greeting).0)
 
 begins_small : (xs ys : List Outward) → Begins xs ys → All IsSmall ys → All IsSmall xs

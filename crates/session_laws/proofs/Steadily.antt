@@ -12,10 +12,10 @@ use Rattle.session_core.specs.declared.replies.Arrived.TheVariants as arrivals
 use Rattle.session_core.specs.declared.replies.Taken.{Taken}
 use Rattle.session_core.specs.Answers.{settled}
 use Rattle.session_core.specs.Copy.{id_of}
-use Rattle.session_core.specs.Journal.{Call, Entered, IsAllowed, entered_by, after_entry}
+use Rattle.session_core.specs.Journal.{Entered, after_entry, MayEnter}
 use Rattle.session_core.specs.Kept.{lowest_kept}
 use Rattle.session_core.specs.Machine.{advanced, placed, bytes_for, wait_at, copy_now, arrived_in_time, with_cost, body_cost, stanza_cost, plain_cost, takes_items, has_room, with_item, replace}
-use Rattle.session_core.specs.State.{PlainSession, Waits, UsedUp, last_of, standing_at}
+use Rattle.session_core.specs.State.{PlainSession, Stands, Waits, UsedUp, last_of, standing_at}
 use Rattle.session_core.specs.Time.{time_applied}
 use Rattle.session_core.specs.Window.{is_open}
 use Rattle.session_laws.proofs.Tests.{split, neither}
@@ -47,7 +47,7 @@ module _ (P : PlainSession → Type 0) (steady : Steady P) where
   pub steady-placed : (s : PlainSession) (copy : RequestCopy) → is_open s (id_of copy) ≡ false → id_of copy ≤ greatest_rid → P s → P (placed s copy)
   steady-placed s copy new small p =
       let apart = neither (nat_le (id_of copy) (last_of s)) (is_some (standing_at s (id_of copy))) new in
-      let stood : PlainSession = record s { standing = s.standing ++ copy ∷ [] } in
+      let stood : PlainSession = record s { placings = s.placings ++ Stands copy ∷ [] } in
       steady.aside stood s.tickets s.now s.now s.passed s.counted
       (steady.stands s copy (leb-false (id_of copy) (last_of s) apart.0) (is_none (standing_at s (id_of copy)) apart.1) small p)
 
@@ -68,8 +68,8 @@ module _ (P : PlainSession → Type 0) (steady : Steady P) where
   steady-item : (s : PlainSession) (item : Outward) → P s → P (with_item s item).0
   steady-item s item p = steady-settled (record s { given = s.given ++ item ∷ [] }) (steady.gives s item p)
 
-  pub steady-entry : (s : PlainSession) (call : Call) → IsAllowed call → (entered : Entered) → entered_by s call ≡ Some entered → P s → P (after_entry s entered)
-  steady-entry s call allowed entered is p = entry-by s (λ e u. P u) (record {
+  pub steady-entry : (s : PlainSession) (entered : Entered) → MayEnter s entered → P s → P (after_entry s entered)
+  steady-entry s entered may p = entry-by s (λ e u. P u) (record {
     arrives = λ request body now allowed on room.
         steady-arrived (with_cost (body_cost request body) (time_applied s now)) request body (read-rid body request allowed.0).1 (steady-cost (body_cost request body) (time_applied s now) (steady-time s now p));
     backs = λ stream stanza now allowed on room.
@@ -85,4 +85,4 @@ module _ (P : PlainSession → Type 0) (steady : Steady P) where
     collects = λ index ticket is. steady.aside s (slice_set s.tickets index (record ticket { state = UsedUp })) s.now s.last_arrival s.passed s.counted p;
     takes = λ item is. steady.aside s s.tickets s.now s.last_arrival (s.passed + 1) s.counted p;
     limits = λ kind cost now on full. steady.ends s (endings.JournalFull s.counted cost) on p;
-  }) call allowed entered is
+  }) entered may

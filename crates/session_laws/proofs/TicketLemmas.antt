@@ -3,18 +3,19 @@ use Rattle.std.proofs.Common.{◌≡◌, ℕ, zero, suc, List, Option, Some, Non
 use Rattle.session_core.specs.declared.replies.Collected.{Collected}
 use Rattle.session_core.specs.declared.replies.Collected.TheVariants as collections
 use Rattle.session_core.specs.Machine.{bytes_for, collected_bytes, collected_by, collected_from, collect}
-use Rattle.session_core.specs.State.{PlainSession, Issued, TicketState, Waits, Replaced, UsedUp}
+use Rattle.session_core.specs.State.{PlainSession, Issued, TicketState, Waits, Replaced, Struck, UsedUp}
 use Rattle.session_core.specs.TicketsOut.{issued_at}
 use Rattle.session_laws.specs.Tickets.{Tells}
 
 module _ (s : PlainSession) (index : ℕ) where
   tells_bytes : (ticket : Issued) → slice_get s.tickets index ≡ Some ticket → ticket.state ≡ Waits → (o : Option (List ℕ)) → bytes_for s ticket.rid ≡ o → Tells s (suc index) (collected_bytes s index ticket o).1
   tells_bytes ticket at waits None is = (ticket, at, waits, is)
-  tells_bytes ticket at waits (Some bytes) is = (ticket, at, waits, is)
+  tells_bytes ticket at waits (Some bytes) is = (ticket, at, inl (waits, is))
 
   tells_by : (ticket : Issued) → slice_get s.tickets index ≡ Some ticket → (state : TicketState) → ticket.state ≡ state → Tells s (suc index) (collected_by s index ticket state).1
   tells_by ticket at Waits is = tells_bytes ticket at is (bytes_for s ticket.rid) refl
   tells_by ticket at Replaced is = (ticket, at, is)
+  tells_by ticket at Struck is = (ticket, at, inr (is, refl))
   tells_by ticket at UsedUp is = inr (ticket, at, is)
 
   tells_from : (o : Option Issued) → slice_get s.tickets index ≡ o → Tells s (suc index) (collected_from s index o).1
@@ -39,7 +40,10 @@ module _ (s : PlainSession) where
   tells_reply zero collections.NotYet t = absurd (cc (t.1))
   tells_reply zero collections.Superseded t = absurd (cc (t.1))
   tells_reply zero collections.UnknownTicket t = refl
-  tells_reply (suc index) (collections.Answer bytes) t = state_gives (suc index) t.0 Waits t.1 t.2 index refl ∙ ap (λ (o : Option (List ℕ)). (collected_bytes s index t.0 o).1) t.3
+  tells_reply (suc index) (collections.Answer bytes) t = elim t.2 [
+    | inl waits ↦ state_gives (suc index) t.0 Waits t.1 waits.0 index refl ∙ ap (λ (o : Option (List ℕ)). (collected_bytes s index t.0 o).1) waits.1
+    | inr struck ↦ state_gives (suc index) t.0 Struck t.1 struck.0 index refl ∙ ap collections.Answer (sym struck.1)
+  ]
   tells_reply (suc index) collections.NotYet t = state_gives (suc index) t.0 Waits t.1 t.2 index refl ∙ ap (λ (o : Option (List ℕ)). (collected_bytes s index t.0 o).1) t.3
   tells_reply (suc index) collections.Superseded t = state_gives (suc index) t.0 Replaced t.1 t.2 index refl
   tells_reply (suc index) collections.UnknownTicket t = elim t [

@@ -8,7 +8,7 @@ use Rattle.session_core.specs.declared.outward.Outward.{Outward}
 use Rattle.session_core.specs.Answers.{has_reason, with_answer, answer_parts, front_for}
 use Rattle.session_core.specs.Copy.{id_of}
 use Rattle.session_core.specs.Machine.{opened, copy_now}
-use Rattle.session_core.specs.State.{PlainSession, Answered}
+use Rattle.session_core.specs.State.{PlainSession, Answered, Stands}
 use Rattle.session_core.proofs.RowTools.{opening, empty, bodies_compute}
 use Rattle.session_laws.specs.Answering.{WasGiven}
 use Rattle.session_laws.proofs.Steadily.{is_none}
@@ -19,7 +19,7 @@ abbrev asking : RequestCopy
 asking = copy_now (opened opening) (empty 1001) (codes "<body/>")
 
 abbrev held_one : PlainSession
-held_one = record (opened opening) { standing = asking ∷ []; processed = asking ∷ [] }
+held_one = record (opened opening) { placings = Stands asking ∷ []; processed = asking ∷ [] }
 
 -- it is answered all the same
 abbrev unasked : PlainSession

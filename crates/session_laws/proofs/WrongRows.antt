@@ -1,6 +1,7 @@
 -- The laws are strong: of a machine with one line turned, the law that it breaks.
-use Rattle.std.proofs.Common.{◌≡◌, ◌≢◌, ℕ, ◌≤◌, List, [], ◌∷◌, ◌++◌, Option, Some, None, length, refl, sym, ◌∙◌, ap, arith}
+use Rattle.std.proofs.Common.{◌≡◌, ◌≢◌, ℕ, ◌≤◌, List, [], ◌∷◌, ◌++◌, Option, Some, None, length, refl, sym, ◌∙◌, ap, arith, inl, inr}
 use Rattle.std.specs.Prelude.{codes}
+use Rattle.std.proofs.lemmas.List.Elements.{All-nil}
 use Rattle.bosh_types.specs.declared.ending.Ending.TheVariants as endings
 use Rattle.bosh_types.specs.declared.kept.KeptAnswer.{KeptAnswer}
 use Rattle.session_core.specs.declared.copy.RequestCopy.{RequestCopy}
@@ -17,8 +18,8 @@ use Rattle.session_core.specs.Facts.{Fact}
 use Rattle.session_core.specs.Journal.{Call, Back, Tick, Made, step}
 use Rattle.session_core.specs.Kept.{kept_of}
 use Rattle.session_core.specs.Machine.{opened, placed, copy_now, bytes_for}
-use Rattle.session_core.specs.Run.{IsRun, HasNot}
-use Rattle.session_core.specs.State.{PlainSession, Answered, Issued, answers, waiting}
+use Rattle.session_core.specs.Run.{IsRun, Lacks, id_in}
+use Rattle.session_core.specs.State.{PlainSession, Placing, Stands, Answered, Issued, TicketState, Waits, Replaced, Struck, UsedUp, answers, waiting}
 use Rattle.session_core.specs.Time.{at_moment}
 use Rattle.session_core.proofs.RowTools.{opening, empty, carrying, plain, empty_body, bodies_compute}
 use Rattle.session_core.specs.Outward.{items_in}
@@ -58,7 +59,7 @@ a_fresh_answer_to_a_repeat answer kept told =
 
 -- two stanzas wait, and a request is held that takes only the second of them: the law `given`
 abbrev two_wait : PlainSession
-two_wait = after (opened opening) (Back 0 (codes "<iq/>") 0 ∷ Back 0 (codes "<presence/>") 0 ∷ [])
+two_wait = record (opened opening) { given = (opened opening).given ++ Stanza 0 (codes "<iq/>") ∷ Stanza 0 (codes "<presence/>") ∷ [] }
 
 abbrev lost_one : PlainSession
 lost_one = with_answer two_wait 1001 (OfStanzas (Stanza 0 (codes "<presence/>") ∷ []))
@@ -97,12 +98,13 @@ a_pause_that_takes_items takes = absurd (omega (arith, ap items_of_front takes))
 abbrev pub after_gap : RequestCopy
 after_gap = copy_now (opened opening) (empty 1002) (codes "<body/>")
 
-pub a_run_that_skips_a_gap : (arrived : List RequestCopy) → IsRun 1000 arrived ((opened opening).creation ∷ after_gap ∷ []) → ⊥
-a_run_that_skips_a_gap arrived is = absurd (omega (arith, (is 1 after_gap refl).0))
+pub a_run_that_skips_a_gap : (placings : List Placing) → IsRun 1000 placings ((opened opening).creation ∷ after_gap ∷ []) → ⊥
+a_run_that_skips_a_gap placings is = absurd (omega (arith, (is 1 after_gap refl).0))
 
 -- a copy beyond a gap that stands for nothing, so that the run ends too early: the law `run`
-a_run_that_ends_too_early : HasNot ((opened opening).creation ∷ copy_now (opened opening) (empty 1001) (codes "<body/>") ∷ []) 1001 → ⊥
-a_run_that_ends_too_early none = none 1 (opened opening).creation (omega arith) refl
+a_run_that_ends_too_early : Lacks (Stands (opened opening).creation ∷ Stands (copy_now (opened opening) (empty 1001) (codes "<body/>")) ∷ []) 1001 → ⊥
+a_run_that_ends_too_early none =
+    none (copy_now (opened opening) (empty 1001) (codes "<body/>")) (refl, Stands (opened opening).creation ∷ [], [], refl, All-nil (λ placing. id_in placing ≢ 1001))
 
 -- a key that is tested where its copy arrives, and not where it is processed: the law `ends`
 abbrev beyond : PlainSession
@@ -122,7 +124,7 @@ quiet_long = settled (at_moment (opened opening) 30001)
 
 silence_that_never_comes : (Fact quiet_long (Made (Tick 30001)) quiet_long (endings.Silent 0 30001) → quiet_long.ending ≡ Some (endings.Silent 0 30001)) → ⊥
 unfolding bodies_compute
-silence_that_never_comes ends = no_ending (ends (refl, refl, refl, omega arith))
+silence_that_never_comes ends = no_ending (ends (refl, (λ holds. refl), refl, refl, omega arith))
   where
     no_ending : (None ≡ Some (endings.Silent 0 30001)) → ⊥
     no_ending is = cc
@@ -149,9 +151,24 @@ abbrev rid_of_issued : Option Issued → ℕ
 rid_of_issued None = 0
 rid_of_issued (Some ticket) = ticket.rid
 
+abbrev struck_mark : TicketState → ℕ
+struck_mark Waits = 0
+struck_mark Replaced = 0
+struck_mark Struck = 1
+struck_mark UsedUp = 0
+
+abbrev struck_mark_of : Option Issued → ℕ
+struck_mark_of None = 0
+struck_mark_of (Some ticket) = struck_mark ticket.state
+
 another_ids_bytes : Tells answered_once 1 (collections.Answer empty_body) → ⊥
 unfolding bodies_compute
 another_ids_bytes told =
     let rid : 1001 ≡ (told.0).rid = ap rid_of_issued told.1 in
-    let count : 110 ≡ 51 = ap (λ r. words_length (bytes_for answered_once r)) rid ∙ ap words_length told.3 in
-    absurd (omega (arith, count))
+    let mark : 0 ≡ struck_mark (told.0).state = ap struck_mark_of told.1 in
+    elim told.2 [
+      | inl waits ↦ (
+          let count : 110 ≡ 51 = ap (λ r. words_length (bytes_for answered_once r)) rid ∙ ap words_length waits.1 in
+          absurd (omega (arith, count)))
+      | inr struck ↦ absurd (omega (arith, mark, ap struck_mark struck.0))
+    ]

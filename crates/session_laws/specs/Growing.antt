@@ -8,10 +8,10 @@ use Rattle.session_core.specs.State.{PlainSession, inward}
 abbrev pub Begins : {X : Type 0} → List X → List X → Type 0
 Begins {X} xs ys = (later : List X) × (ys ≡ xs ++ later)
 
--- what was processed, passed on, given and answered begins with what it was before, and an ending stays
+-- what came to the places of ids, was processed, passed on, given and answered begins with what it was before, and an ending stays
 pub record Grows (s t : PlainSession) : Type 0 where
   pub told : (t.creation ≡ s.creation) × (t.terms ≡ s.terms) × (t.created ≡ s.created) × (t.reporting.on ≡ s.reporting.on)
-  pub standing : Begins s.standing t.standing
+  pub placings : Begins s.placings t.placings
   pub processed : Begins s.processed t.processed
   pub inward_items : Begins (inward s) (inward t)
   pub given : Begins s.given t.given

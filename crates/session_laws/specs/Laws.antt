@@ -16,14 +16,15 @@ use Rattle.session_core.specs.Answers.{has_reason, front_of}
 use Rattle.session_core.specs.Copy.{is_pause}
 use Rattle.session_core.specs.Endings.{last_word}
 use Rattle.session_core.specs.Facts.{Fact}
-use Rattle.session_core.specs.Journal.{Call, Arrive, Collect, Back, BackClosed, Tick, TakeInward, Entry, Entered, Journal, IsJournal, IsAllowed, ToArrive, ToCollect, ToBack, ToTick, ToTakeInward, counted, state_of, step, entered_by, after_entry, reply_of}
+use Rattle.session_core.specs.Journal.{Call, Arrive, Collect, Back, BackClosed, Tick, TakeInward, Entry, Entered, Limit, Limited, Journal, IsJournal, IsAllowed, MayEnter, ToArrive, ToCollect, ToBack, ToTick, ToTakeInward, counted, state_of, step, entered_by, after_entry, reply_of}
 use Rattle.session_core.specs.Kept.{kept_of}
 use Rattle.session_core.specs.Machine.{first_answer, body_cost, is_full, plain_cost, bytes_for, has_room, takes_items}
 use Rattle.session_core.specs.Outward.{items_in}
 use Rattle.session_core.specs.Passed.{passed_of, given_in}
 use Rattle.session_core.specs.Points.{tested_at}
-use Rattle.session_core.specs.Run.{IsRun, IsLongestRun, arrivals_of, run_of}
-use Rattle.session_core.specs.State.{Answered, answers, answered_of, inward, waiting, is_over}
+use Rattle.session_core.specs.Placed.{ArePlaced, AreStruckAt, AreStruckBy}
+use Rattle.session_core.specs.Run.{IsReceived, IsRun, IsLongestRun, arrivals_of, placings_of, run_of}
+use Rattle.session_core.specs.State.{Answered, answers, answered_of, inward, standing_at, waiting, is_over}
 use Rattle.session_core.specs.Time.{time_applied, is_due}
 use Rattle.session_laws.specs.Acknowledging.{IsKept}
 use Rattle.session_laws.specs.Answering.{WasGiven, IsLongestFront}
@@ -35,12 +36,24 @@ use Rattle.session_laws.specs.RunEnded.{BreaksNoRule, IsRunOfEnded}
 use Rattle.session_laws.specs.Tickets.{Tells, tickets_after}
 
 pub record KeptLaws (journal : Journal) : Type 0 where
-  -- what was processed is, while the session goes on, the longest unbroken run of the ids that arrived, each with what
-  -- arrived first; and each copy of it is the first that arrived with its id whether the session goes on or not
-  pub run : is_over (state_of journal) ≡ false → IsLongestRun journal.opening.request.rid (arrivals_of journal) (run_of journal)
-  pub run_each : IsRun journal.opening.request.rid (arrivals_of journal) (run_of journal)
-  -- each copy of the run after the creation broke no rule when it and all lower ids had come, and only the last may be a
-  -- terminate; once the session has ended, the run stops there, before a copy that broke a rule, or where nothing more had come
+  -- with each entry these copies come to stand for their ids, and these are struck, and no other
+  pub placed : (call : Call) (entered : Entered) → IsAllowed call → entered_by (state_of journal) call ≡ Some entered
+      → ArePlaced (state_of journal) entered (after_entry (state_of journal) entered)
+  pub placed_at_limit : (kind : Limited) (cost now : ℕ) → MayEnter (state_of journal) (Limit kind cost now)
+      → (after_entry (state_of journal) (Limit kind cost now)).placings ≡ (state_of journal).placings
+  -- no copy is left that should have been struck: neither at the session's own moment, nor at one at which time changes nothing
+  pub struck : AreStruckAt (state_of journal) []
+  pub struck_in_time : (now : ℕ) → reply_of journal (Tick now) ≡ ToTick Quiet → is_over (state_of journal) ≡ false
+      → AreStruckBy (state_of journal) now []
+  -- a copy that stands arrived, and one stands for an id exactly where it was received
+  pub arrived : (rid : ℕ) (copy : RequestCopy) → IsReceived (placings_of journal) rid copy → (k : ℕ) × (slice_get (arrivals_of journal) k ≡ Some copy)
+  pub stands : (rid : ℕ) (copy : RequestCopy) → (standing_at (state_of journal) rid ≡ Some copy) ↔ IsReceived (state_of journal).placings rid copy
+  -- what was processed is, while the session goes on, the longest unbroken run of the ids that were received, each with the copy
+  -- that was; and each copy of it is the one that was received with its id whether the session goes on or not
+  pub run : is_over (state_of journal) ≡ false → IsLongestRun journal.opening.request.rid (placings_of journal) (run_of journal)
+  pub run_each : IsRun journal.opening.request.rid (placings_of journal) (run_of journal)
+  -- each copy of the run after the creation broke no rule when it and copies of all lower ids first stood together, and only the last may be a
+  -- terminate; once the session has ended, the run stops there, before a copy that broke a rule, or where no more had been received
   pub run_rules : BreaksNoRule journal (state_of journal).processed
   pub run_at_end : is_over (state_of journal) ≡ true → IsRunOfEnded journal (state_of journal).processed
   -- of a client that sends one body for each id, what may go inward is what the bodies of the run's ids carry, each once
@@ -57,6 +70,10 @@ pub record KeptLaws (journal : Journal) : Type 0 where
       → is_over (state_of journal) ≡ false
       → ((after_entry (state_of journal) entered).ending ≡ Some ending)
       ↔ Fact (tested_at (state_of journal) entered) entered (after_entry (state_of journal) entered) ending
+  -- the same of every limit that may be entered, whatever its cost
+  pub ends_at_limit : (kind : Limited) (cost now : ℕ) (ending : Ending) → MayEnter (state_of journal) (Limit kind cost now)
+      → ((after_entry (state_of journal) (Limit kind cost now)).ending ≡ Some ending)
+      ↔ Fact (state_of journal) (Limit kind cost now) (after_entry (state_of journal) (Limit kind cost now)) ending
   -- after the ending nothing changes but what was collected and passed on
   pub ended : (call : Call) (entered : Entered) → IsAllowed call → entered_by (state_of journal) call ≡ Some entered
       → is_over (state_of journal) ≡ true
@@ -65,9 +82,10 @@ pub record KeptLaws (journal : Journal) : Type 0 where
         tickets = (after_entry (state_of journal) entered).tickets;
         passed = (after_entry (state_of journal) entered).passed;
       }
-  -- the counted bytes are those of the entries, and how many there may be is what the opening says
+  -- the counted bytes are those of the entries; how many there may be, and how long a copy may wait beyond a gap, is what the opening says
   pub counts : (state_of journal).counted ≡ counted journal
   pub limit : (state_of journal).limit ≡ journal.opening.limit
+  pub gap_waits : (state_of journal).gap_waits ≡ journal.opening.gap_waits
   -- what was passed on are the first items of what may go inward, as many as were taken, and what is taken is the next
   pub passed : take (state_of journal).passed (inward (state_of journal)) ≡ passed_of journal
   pub takes : reply_of journal TakeInward ≡ ToTakeInward (slice_get (inward (state_of journal)) (state_of journal).passed)
@@ -89,8 +107,10 @@ pub record KeptLaws (journal : Journal) : Type 0 where
   -- of a ticket this is told, and nothing else
   pub collects : (number : ℕ) (told : Collected)
       → (reply_of journal (Collect number) ≡ ToCollect told) ↔ Tells (state_of journal) number told
-  -- the tickets after a call are these, by what it is told
-  pub tickets : (call : Call) → (step (state_of journal) call).0.tickets ≡ tickets_after (state_of journal) call
+  -- the tickets after a call are these, by what it is told and by what was struck with its entry
+  pub tickets : (call : Call) (entered : Entered) (placed : ArePlaced (state_of journal) entered (after_entry (state_of journal) entered))
+      → entered_by (state_of journal) call ≡ Some entered
+      → (step (state_of journal) call).0.tickets ≡ tickets_after (state_of journal) placed.struck call
   -- the creation has its own answer; the others go on by one from its id, and only what was processed is answered
   pub created : (state_of journal).created ≡ first_answer journal.opening
   pub answer_ids : (k : ℕ) (answer : Answered) → slice_get (answers (state_of journal)) k ≡ Some answer

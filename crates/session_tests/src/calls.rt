@@ -55,7 +55,7 @@ fn given(alloc: Global, session: &mut Session, stanza: &[u8], now: Moment) -> Re
 
 // One call. A request has its id, more attributes, its stanzas and its moment.
 #[derive(Clone, Copy)]
-enum Call {
+pub(crate) enum Call {
     Arrive(u64, &'static str, &'static str, u64),
     Collect(u32),
     Back(&'static str, u64),
@@ -65,6 +65,7 @@ enum Call {
     Take,
     Waiting,
     Ending,
+    Due,
 }
 
 fn words(alloc: Global, word: &str, text: &SharedText) -> Result<String, Fail> {
@@ -106,7 +107,18 @@ fn told_of_ending(alloc: Global, ending: Option<Ending>) -> Result<String, Fail>
     Ok(format!(in alloc; "{ending:?}")?)
 }
 
-fn told_of_call(alloc: Global, session: &mut Session, call: Call) -> Result<String, Fail> {
+fn told_of_moment(alloc: Global, due: Option<Moment>) -> Result<String, Fail> {
+    match due {
+        Some(moment) => Ok(format!(in alloc; "{}", moment.millis())?),
+        None => Ok(format!(in alloc; "never")?),
+    }
+}
+
+pub(crate) fn told_of_call(
+    alloc: Global,
+    session: &mut Session,
+    call: Call,
+) -> Result<String, Fail> {
     match call {
         Call::Arrive(rid, attrs, stanzas, millis) => {
             let body = format!(in alloc;
@@ -146,17 +158,19 @@ fn told_of_call(alloc: Global, session: &mut Session, call: Call) -> Result<Stri
             Ok(format!(in alloc; "{} of {}", counts.items, counts.bytes)?)
         }
         Call::Ending => told_of_ending(alloc, session.ending()),
+        Call::Due => told_of_moment(alloc, session.due()),
     }
 }
 
-const EMPTY: &str = "Answer <body xmlns='http://jabber.org/protocol/httpbind'/>";
+pub(crate) const EMPTY: &str = "Answer <body xmlns='http://jabber.org/protocol/httpbind'/>";
 
 const IQ: &str =
     "Answer <body xmlns='http://jabber.org/protocol/httpbind' xmlns:stream='http://etherx.jabber.org/streams'><iq/></body>";
 
-const LAST: &str = "Answer <body xmlns='http://jabber.org/protocol/httpbind' type='terminate'/>";
+pub(crate) const LAST: &str =
+    "Answer <body xmlns='http://jabber.org/protocol/httpbind' type='terminate'/>";
 
-const NOT_FOUND: &str =
+pub(crate) const NOT_FOUND: &str =
     "Answer <body xmlns='http://jabber.org/protocol/httpbind' type='terminate' condition='item-not-found'/>";
 
 const TOP: u64 = 9007199254740991;

@@ -4,8 +4,12 @@
 #[cfg(test)]
 mod calls;
 #[cfg(test)]
+mod gaps;
+#[cfg(test)]
 mod journals;
 #[cfg(test)]
 mod openings;
 #[cfg(test)]
 mod parts;
+#[cfg(test)]
+mod redoing;

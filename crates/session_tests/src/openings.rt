@@ -1,5 +1,5 @@
 // What the tests open a session with, and the requests that bodies are.
-ghost use Rattle.std.specs.Prelude.{◌≡◌, ℕ, IfOk, IfSome, List, [], true};
+ghost use Rattle.std.specs.Prelude.{◌≡◌, ◌≤◌, ℕ, IfOk, IfSome, List, [], true};
 ghost use Rattle.session_attrs.specs.declared.request.Kind.TheVariants as kinds;
 ghost use Rattle.session_core.specs.Journal.{IsOpening, IsReadFrom};
 
@@ -57,8 +57,21 @@ fn no_stanzas(alloc: Global) -> Stanzas
 }
 
 /// The session `s1` of this creation for `example.org`, with no greeting, at the moment 0; its journal may have so many
-/// counted bytes.
+/// counted bytes, and a copy beyond a gap is struck after `wait`.
 pub(crate) fn opening_with(alloc: Global, body: &[u8], limit: u64) -> Result<Opening, Fail>
+    ensures { IfOk result IsOpening }
+{
+    opening_that_waits(alloc, body, limit, 1)
+}
+
+/// The same, where a copy beyond a gap is struck after so many times `wait`.
+pub(crate) fn opening_that_waits(
+    alloc: Global,
+    body: &[u8],
+    limit: u64,
+    gap_waits: u32,
+) -> Result<Opening, Fail>
+    requires { (1 ≤ gap_waits) × (gap_waits ≤ 10) }
     ensures { IfOk result IsOpening }
 {
     let Some(request) = request_in(alloc, body) else {
@@ -76,5 +89,6 @@ pub(crate) fn opening_with(alloc: Global, body: &[u8], limit: u64) -> Result<Ope
         greeting: no_stanzas(alloc),
         at: Moment::from_millis(0),
         limit,
+        gap_waits,
     })
 }

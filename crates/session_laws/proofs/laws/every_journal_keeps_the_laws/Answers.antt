@@ -1,5 +1,5 @@
-use Rattle.std.proofs.Common.{arith, ◌∙◌, ap, take, slice_get}
-use Rattle.session_core.specs.Journal.{state_of, ToArrive, ToTakeInward}
+use Rattle.std.proofs.Common.{arith, refl, ◌∙◌, ap, take, slice_get}
+use Rattle.session_core.specs.Journal.{Limit, state_of, ToArrive, ToTakeInward}
 use Rattle.session_core.specs.Machine.{opened}
 use Rattle.session_core.specs.State.{inward}
 use Rattle.session_core.specs.Time.{time_applied}
@@ -9,16 +9,18 @@ use Rattle.session_laws.proofs.Carried.{every_one_body}
 use Rattle.session_laws.proofs.Clear.{every_clear}
 use Rattle.session_laws.proofs.Counts.{every_counts}
 use Rattle.session_laws.proofs.Ended.{ended_stays}
-use Rattle.session_laws.proofs.Followed.{every_run, every_longest}
+use Rattle.session_laws.proofs.Followed.{every_run, every_longest, every_stands}
+use Rattle.session_laws.proofs.Arrivals.{every_arrived}
+use Rattle.session_laws.proofs.PlacedLemmas.{entry_places, every_plain}
+use Rattle.session_laws.proofs.Waited.{every_struck}
 use Rattle.session_laws.proofs.GivenIn.{every_given}
 use Rattle.session_laws.proofs.GivenLemmas.{IsGiven, given_steady, given_is, opened_given}
 use Rattle.session_laws.proofs.Grows.{steady-all, every_grows, ending_stays}
-use Rattle.session_laws.proofs.LawsOf.{every_created, every_answer_id, every_parked, every_answer_told, every_over, every_limit, every_full, every_done, every_closed, every_quiet, collects_both, every_first_answer, every_same_bytes, living_before}
+use Rattle.session_laws.proofs.LawsOf.{every_created, ends_both, every_answer_id, every_parked, every_answer_told, every_over, every_gap_waits, every_limit, every_struck_in_time, every_full, every_done, every_closed, every_quiet, collects_both, every_first_answer, every_same_bytes, living_before}
 use Rattle.session_laws.proofs.Reasons.{every_settled}
 use Rattle.session_laws.proofs.SoundLemmas.{IsSound, sound_steady}
 use Rattle.session_laws.proofs.Steadily.{steady-time}
-use Rattle.session_laws.proofs.EndsBack.{every_ends}
-use Rattle.session_laws.proofs.EndsForth.{ending_fact, fact_ending}
+use Rattle.session_laws.proofs.Steps.{may_enter}
 use Rattle.session_laws.proofs.RunAtEnd.{every_at_end, every_ruled}
 use Rattle.session_laws.proofs.AnswersGiven.{every_answer, front_longest}
 use Rattle.session_laws.proofs.ReplyLemmas.{last_words}
@@ -31,6 +33,12 @@ use Rattle.session_laws.proofs.laws.every_journal_keeps_the_laws.Goals as goal
 pub returns : goal.returns
 returns c = record {
   laws = λ journal made. record {
+    placed = λ call entered allowed is. (entry_places (state_of journal) entered (may_enter (state_of journal) call allowed entered is) (every_plain journal made)).placed;
+    placed_at_limit = λ kind cost now may. refl;
+    struck = every_struck journal made;
+    struck_in_time = every_struck_in_time journal made;
+    arrived = every_arrived journal made;
+    stands = every_stands journal made;
     run = every_longest journal made;
     run_each = every_run journal made;
     run_rules = (every_ruled journal made).0;
@@ -39,13 +47,12 @@ returns c = record {
     entered = as_entered (state_of journal);
     unentered = unentered (state_of journal);
     grows = every_grows journal;
-    ends = λ call entered ending allowed is on. (
-      λ ends_so. ending_fact (state_of journal) call allowed entered is on (every_ends journal made) ending ends_so,
-      λ fact. fact_ending (state_of journal) call allowed entered is (every_ends journal made) ending fact,
-    );
-    ended = λ call entered allowed is over. ended_stays (state_of journal) call allowed entered is over;
+    ends = λ call entered ending allowed is on. ends_both journal made entered (may_enter (state_of journal) call allowed entered is) on ending;
+    ends_at_limit = λ kind cost now ending may. ends_both journal made (Limit kind cost now) may may.0 ending;
+    ended = λ call entered allowed is over. ended_stays (state_of journal) entered (may_enter (state_of journal) call allowed entered is) over;
     counts = (every_counts journal made).0;
     limit = every_limit journal made;
+    gap_waits = every_gap_waits journal made;
     passed = ap (λ n. take n (inward (state_of journal))) (every_counts journal made).1;
     takes = ap ToTakeInward (takes_next (state_of journal) (slice_get (inward (state_of journal)) (state_of journal).passed));
     given = given_is (state_of journal) (steady-all IsGiven given_steady (opened journal.opening) journal.entries made.1 (opened_given journal.opening)) ∙ every_given journal made;
