@@ -26,6 +26,7 @@ fn open(alloc: Global) -> Result<Entered, AllocError> {
         body: shared(alloc, b"<body/>")?,
         now: at(258),
         limit: 16777216,
+        gap_waits: 1,
     })
 }
 
@@ -48,7 +49,7 @@ fn writes_each_kind(rt: HostRuntime) -> Result<(), Fail> {
     let rows = [
         (
             open(alloc)?,
-            b"\x08\0\0\0\0\0\0\x01\x02\0\x01\0\0\0\0\x01\0\0\0\0\0\0\x02s1\0\0\0\x01h\0\0\0\x01\0\0\0\x04<f/>\0\0\0\x07<body/>".as_slice(),
+            b"\x08\0\0\0\0\0\0\x01\x02\0\x02\0\0\0\0\x01\0\0\0\0\0\0\x01\0\0\0\x02s1\0\0\0\x01h\0\0\0\x01\0\0\0\x04<f/>\0\0\0\x07<body/>".as_slice(),
         ),
         (
             Entered::Arrive {
@@ -106,9 +107,10 @@ fn refuses_what_is_no_entry(rt: HostRuntime) -> Result<(), Fail> {
     let rows = [
         b"".as_slice(),
         b"\0\0\0\x03\0\0\0\x04",
-        // a creation of older rules, and one of a later version
+        // a creation of older rules, and of versions before and after this one
         b"\0\0\0\x03\0\0\0\x04\0\0\0\0\0\0\0\0\0\0\0\0\0\0\0\0\0\0\0\0\0\0\0\0\0",
-        b"\0\0\0\x03\0\0\0\x04\x08\0\0\0\0\0\0\0\0\0\x02\0\0\0\0\0\0\0\0\0\0\0\0\0\0\0\0\0\0\0\0\0\0\0\0",
+        b"\0\0\0\x03\0\0\0\x04\x08\0\0\0\0\0\0\0\0\0\x01\0\0\0\0\0\0\0\0\0\0\0\0\0\0\0\0\0\0\0\0\0\0\0\0",
+        b"\0\0\0\x03\0\0\0\x04\x08\0\0\0\0\0\0\0\0\0\x03\0\0\0\0\0\0\0\0\0\0\0\0\0\0\0\0\0\0\0\0\0\0\0\0\0\0\0\0",
         // no kind
         b"\0\0\0\x03\0\0\0\x04\x09\0\0\0\0\0\0\0\0",
         // a byte too many, and one too few
@@ -129,6 +131,6 @@ fn refuses_what_is_no_entry(rt: HostRuntime) -> Result<(), Fail> {
             refused = refused.saturating_add(1);
         }
     }
-    assert_eq!(rt; refused, 12);
+    assert_eq!(rt; refused, 13);
     Ok(())
 }

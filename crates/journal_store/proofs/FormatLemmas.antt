@@ -131,30 +131,32 @@ limit_again kind cost now small =
     ∙ ap (λ (l : List ℕ). number8_at l >>= last kind) (sym (append-nil (number8 cost)))
     ∙ ap (λ (read : Option (ℕ × List ℕ)). read >>= last kind) (number8_again cost [] small)
 
-six : (a b c d e f : List ℕ) → ((((a ++ b) ++ c) ++ d) ++ e) ++ f ≡ a ++ (b ++ (c ++ (d ++ (e ++ (f ++ [])))))
-six a b c d e f = simp (append_assoc, append-nil)
+seven : (a b c d e f g : List ℕ) → (((((a ++ b) ++ c) ++ d) ++ e) ++ f) ++ g ≡ a ++ (b ++ (c ++ (d ++ (e ++ (f ++ (g ++ []))))))
+seven a b c d e f g = simp (append_assoc, append-nil)
 
-open_again : (sid host : List ℕ) (greeting : List (List ℕ)) (body : List ℕ) (now limit : ℕ) → HasLengths (stored.Open sid host greeting body now limit) → limit < 2 ^ 64
-    → open_at now (fields_of (stored.Open sid host greeting body now limit)) ≡ Some (stored.Open sid host greeting body now limit)
+open_again : (sid host : List ℕ) (greeting : List (List ℕ)) (body : List ℕ) (now limit gap_waits : ℕ) → HasLengths (stored.Open sid host greeting body now limit gap_waits) → limit < 2 ^ 64 → gap_waits < 2 ^ 32
+    → open_at now (fields_of (stored.Open sid host greeting body now limit gap_waits)) ≡ Some (stored.Open sid host greeting body now limit gap_waits)
 unfolding open_at
-open_again sid host greeting body now limit fits small =
-    let by_body : ℕ × List ℕ → List ℕ × List ℕ → List ℕ × List ℕ → List (List ℕ) × List ℕ → List ℕ × List ℕ → Option Entered = λ l s h g b. whole (stored.Open s.0 h.0 g.0 b.0 now l.0) b.1 in
+open_again sid host greeting body now limit gap_waits fits small few =
+    let by_body : ℕ × List ℕ → ℕ × List ℕ → List ℕ × List ℕ → List ℕ × List ℕ → List (List ℕ) × List ℕ → List ℕ × List ℕ → Option Entered = λ l w s h g b. whole (stored.Open s.0 h.0 g.0 b.0 now l.0 w.0) b.1 in
     let after_host = texts_bytes greeting ++ (framed body ++ []) in
     let after_sid = framed host ++ after_host in
-    let after_limit = framed sid ++ after_sid in
+    let after_waits = framed sid ++ after_sid in
+    let after_limit = number4 gap_waits ++ after_waits in
     let after_version = number8 limit ++ after_limit in
-    ap (λ (l : List ℕ). open_at now l) (six (number2 rules_version) (number8 limit) (framed sid) (framed host) (texts_bytes greeting) (framed body))
-    ∙ ap (λ (read : Option (ℕ × List ℕ)). read >>= (λ v. (if v.0 == rules_version then number8_at v.1 else None) >>= (λ l. text_at l.1 >>= (λ s. text_at s.1 >>= (λ h. greeting_at h.1 >>= (λ g. text_at g.1 >>= by_body l s h g))))))
+    ap (λ (l : List ℕ). open_at now l) (seven (number2 rules_version) (number8 limit) (number4 gap_waits) (framed sid) (framed host) (texts_bytes greeting) (framed body))
+    ∙ ap (λ (read : Option (ℕ × List ℕ)). read >>= (λ v. (if v.0 == rules_version then number8_at v.1 else None) >>= (λ l. number4_at l.1 >>= (λ w. text_at w.1 >>= (λ s. text_at s.1 >>= (λ h. greeting_at h.1 >>= (λ g. text_at g.1 >>= by_body l w s h g)))))))
     (number2_again rules_version after_version (omega arith))
-    ∙ ap (λ (read : Option (ℕ × List ℕ)). read >>= (λ l. text_at l.1 >>= (λ s. text_at s.1 >>= (λ h. greeting_at h.1 >>= (λ g. text_at g.1 >>= by_body l s h g))))) (number8_again limit after_limit small)
-    ∙ ap (λ (read : Option (List ℕ × List ℕ)). read >>= (λ s. text_at s.1 >>= (λ h. greeting_at h.1 >>= (λ g. text_at g.1 >>= by_body (limit, after_limit) s h g)))) (text_again sid after_sid fits.0)
-    ∙ ap (λ (read : Option (List ℕ × List ℕ)). read >>= (λ h. greeting_at h.1 >>= (λ g. text_at g.1 >>= by_body (limit, after_limit) (sid, after_sid) h g))) (text_again host after_host fits.1)
-    ∙ ap (λ (read : Option (List (List ℕ) × List ℕ)). read >>= (λ g. text_at g.1 >>= by_body (limit, after_limit) (sid, after_sid) (host, after_host) g)) (greeting_again greeting (framed body ++ []) fits.2 fits.3)
-    ∙ ap (λ (read : Option (List ℕ × List ℕ)). read >>= by_body (limit, after_limit) (sid, after_sid) (host, after_host) (greeting, framed body ++ [])) (text_again body [] fits.4)
+    ∙ ap (λ (read : Option (ℕ × List ℕ)). read >>= (λ l. number4_at l.1 >>= (λ w. text_at w.1 >>= (λ s. text_at s.1 >>= (λ h. greeting_at h.1 >>= (λ g. text_at g.1 >>= by_body l w s h g)))))) (number8_again limit after_limit small)
+    ∙ ap (λ (read : Option (ℕ × List ℕ)). read >>= (λ w. text_at w.1 >>= (λ s. text_at s.1 >>= (λ h. greeting_at h.1 >>= (λ g. text_at g.1 >>= by_body (limit, after_limit) w s h g))))) (number4_again gap_waits after_waits few)
+    ∙ ap (λ (read : Option (List ℕ × List ℕ)). read >>= (λ s. text_at s.1 >>= (λ h. greeting_at h.1 >>= (λ g. text_at g.1 >>= by_body (limit, after_limit) (gap_waits, after_waits) s h g)))) (text_again sid after_sid fits.0)
+    ∙ ap (λ (read : Option (List ℕ × List ℕ)). read >>= (λ h. greeting_at h.1 >>= (λ g. text_at g.1 >>= by_body (limit, after_limit) (gap_waits, after_waits) (sid, after_sid) h g))) (text_again host after_host fits.1)
+    ∙ ap (λ (read : Option (List (List ℕ) × List ℕ)). read >>= (λ g. text_at g.1 >>= by_body (limit, after_limit) (gap_waits, after_waits) (sid, after_sid) (host, after_host) g)) (greeting_again greeting (framed body ++ []) fits.2 fits.3)
+    ∙ ap (λ (read : Option (List ℕ × List ℕ)). read >>= by_body (limit, after_limit) (gap_waits, after_waits) (sid, after_sid) (host, after_host) (greeting, framed body ++ [])) (text_again body [] fits.4)
 
 -- each kind of call is read as it was written
 call_again : (call : Entered) → HasLengths call → HasRanges call → (kind : Kind) × (kind_in (kind_of call) ≡ Some kind) × (call_at kind (moment_of call) (fields_of call) ≡ Some call)
-call_again (stored.Open sid host greeting body now limit) fits ranges = (kinds.Open, refl, open_again sid host greeting body now limit fits ranges.1)
+call_again (stored.Open sid host greeting body now limit gap_waits) fits ranges = (kinds.Open, refl, open_again sid host greeting body now limit gap_waits fits ranges.1 ranges.2)
 call_again (stored.Arrive body now) fits ranges = (kinds.Arrive, refl, arrive_again body now fits)
 call_again (stored.Collect ticket) fits ranges = (kinds.Collect, refl, collect_again ticket ranges)
 call_again (stored.Back stream stanza now) fits ranges = (kinds.Back, refl, back_again stream stanza now ranges.0 fits)
@@ -164,7 +166,7 @@ call_again stored.TakeInward fits ranges = (kinds.TakeInward, refl, refl)
 call_again (stored.Limit kind cost now) fits ranges = (kinds.Limit, refl, limit_again kind cost now ranges.0)
 
 moment_small : (call : Entered) → HasRanges call → moment_of call < 2 ^ 64
-moment_small (stored.Open sid host greeting body now limit) ranges = ranges.0
+moment_small (stored.Open sid host greeting body now limit gap_waits) ranges = ranges.0
 moment_small (stored.Arrive body now) ranges = ranges
 moment_small (stored.Collect ticket) ranges = omega arith
 moment_small (stored.Back stream stanza now) ranges = ranges.1

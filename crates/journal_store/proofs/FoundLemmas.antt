@@ -336,45 +336,79 @@ limit_found now bytes call fits small is =
     }
     )
 
-open_found : (now : ℕ) (bytes : List ℕ) (call : Entered) → IsBytes bytes → now < 2 ^ 64 → open_at now bytes ≡ Some call → IsCall kinds.Open now bytes call
-unfolding open_at
-open_found now bytes call fits small is =
-    let by_body : ℕ → List ℕ → List ℕ → List (List ℕ) → List ℕ × List ℕ → Option Entered = λ l s h g b. whole (stored.Open s h g b.0 now l) b.1 in
-    let by_greeting : ℕ → List ℕ → List ℕ → List (List ℕ) × List ℕ → Option Entered = λ l s h g. text_at g.1 >>= by_body l s h g.0 in
-    let by_host : ℕ → List ℕ → List ℕ × List ℕ → Option Entered = λ l s h. greeting_at h.1 >>= by_greeting l s h.0 in
-    let by_sid : ℕ → List ℕ × List ℕ → Option Entered = λ l s. text_at s.1 >>= by_host l s.0 in
-    let by_limit : ℕ × List ℕ → Option Entered = λ l. text_at l.1 >>= by_sid l.0 in
-    let first = bind_some (number2_at bytes) (λ (v : ℕ × List ℕ). (if v.0 == rules_version then number8_at v.1 else None) >>= by_limit) call is in
-    let version = number2_found bytes first.0 fits first.1 in
-    let second = bind_some (if first.0.0 == rules_version then number8_at first.0.1 else None) by_limit call first.2 in
-    let right = if_some (first.0.0 == rules_version) (number8_at first.0.1) second.0 second.1 in
-    let limit = number8_found first.0.1 second.0 version.0.behind right.1 in
-    let third = bind_some (text_at second.0.1) (by_sid second.0.0) call second.2 in
-    let sid = text_found second.0.1 third.0 limit.0.behind third.1 in
-    let fourth = bind_some (text_at third.0.1) (by_host second.0.0 third.0.0) call third.2 in
-    let host = text_found third.0.1 fourth.0 sid.0.behind fourth.1 in
-    let fifth = bind_some (greeting_at fourth.0.1) (by_greeting second.0.0 third.0.0 fourth.0.0) call fourth.2 in
-    let greeting = greeting_found fourth.0.1 fifth.0 host.0.behind fifth.1 in
-    let sixth = bind_some (text_at fifth.0.1) (by_body second.0.0 third.0.0 fourth.0.0 fifth.0.0) call fifth.2 in
-    let body = text_found fifth.0.1 sixth.0 greeting.0.behind sixth.1 in
-    let last = whole_found (stored.Open third.0.0 fourth.0.0 fifth.0.0 sixth.0.0 now second.0.0) call sixth.0.1 sixth.2 in
-    let a = two bytes (number2 first.0.0) (number8 second.0.0) first.0.1 second.0.1 version.0 limit.0 in
-    let b = two bytes (number2 first.0.0 ++ number8 second.0.0) (framed third.0.0) second.0.1 third.0.1 a sid.0 in
-    let c = two bytes (number2 first.0.0 ++ number8 second.0.0 ++ framed third.0.0) (framed fourth.0.0) third.0.1 fourth.0.1 b host.0 in
-    let d = two bytes (number2 first.0.0 ++ number8 second.0.0 ++ framed third.0.0 ++ framed fourth.0.0) (texts_bytes fifth.0.0) fourth.0.1 fifth.0.1 c greeting.0 in
-    let e = two bytes (number2 first.0.0 ++ number8 second.0.0 ++ framed third.0.0 ++ framed fourth.0.0 ++ texts_bytes fifth.0.0) (framed sixth.0.0) fifth.0.1 sixth.0.1 d body.0 in
+-- The fields of an opening, one after the other: each lemma has those before its own as they were read.
+
+abbrev version_and_limit : ℕ → List ℕ
+version_and_limit l = number2 rules_version ++ number8 l
+
+body_found : (now l w : ℕ) (s h : List ℕ) (g : List (List ℕ)) (bytes rest : List ℕ) (call : Entered)
+    → Takes bytes (version_and_limit l ++ number4 w ++ framed s ++ framed h ++ texts_bytes g) rest
+    → (HasLength s × HasLength h × (length g < 2 ^ 32) × AllByRecursion HasLength g) → (now < 2 ^ 64) × (l < 2 ^ 64) × (w < 2 ^ 32)
+    → (text_at rest >>= (λ b. whole (stored.Open s h g b.0 now l w) b.1)) ≡ Some call → IsCall kinds.Open now bytes call
+body_found now l w s h g bytes rest call takes lengths ranges is =
+    let read = bind_some (text_at rest) (λ (b : List ℕ × List ℕ). whole (stored.Open s h g b.0 now l w) b.1) call is in
+    let body = text_found rest read.0 takes.behind read.1 in
+    let last = whole_found (stored.Open s h g read.0.0 now l w) call read.0.1 read.2 in
+    let all = two bytes (version_and_limit l ++ number4 w ++ framed s ++ framed h ++ texts_bytes g) (framed read.0.0) rest read.0.1 takes body.0 in
     subst (λ (k : Entered). IsCall kinds.Open now bytes k) last.1
     (
     record {
       kind_is = refl;
       now_is = refl;
-      fields =
-          ends_at bytes (number2 first.0.0 ++ number8 second.0.0 ++ framed third.0.0 ++ framed fourth.0.0 ++ texts_bytes fifth.0.0 ++ framed sixth.0.0) sixth.0.1 e last.0
-          ∙ ap (λ (n : ℕ). number2 n ++ number8 second.0.0 ++ framed third.0.0 ++ framed fourth.0.0 ++ texts_bytes fifth.0.0 ++ framed sixth.0.0) (is_number first.0.0 rules_version right.0);
-      lengths = (sid.1, host.1, greeting.1, greeting.2, body.1);
-      ranges = (small, limit.1);
+      fields = ends_at bytes (version_and_limit l ++ number4 w ++ framed s ++ framed h ++ texts_bytes g ++ framed read.0.0) read.0.1 all last.0;
+      lengths = (lengths.0, lengths.1, lengths.2, lengths.3, body.1);
+      ranges = ranges;
     }
     )
+
+behind_host : (now l w : ℕ) (s h : List ℕ) (bytes rest : List ℕ) (call : Entered) → Takes bytes (version_and_limit l ++ number4 w ++ framed s ++ framed h) rest
+    → HasLength s × HasLength h → (now < 2 ^ 64) × (l < 2 ^ 64) × (w < 2 ^ 32)
+    → (greeting_at rest >>= (λ g. text_at g.1 >>= (λ b. whole (stored.Open s h g.0 b.0 now l w) b.1))) ≡ Some call → IsCall kinds.Open now bytes call
+behind_host now l w s h bytes rest call takes lengths ranges is =
+    let read = bind_some (greeting_at rest) (λ (g : List (List ℕ) × List ℕ). text_at g.1 >>= (λ b. whole (stored.Open s h g.0 b.0 now l w) b.1)) call is in
+    let greeting = greeting_found rest read.0 takes.behind read.1 in
+    body_found now l w s h read.0.0 bytes read.0.1 call
+    (two bytes (version_and_limit l ++ number4 w ++ framed s ++ framed h) (texts_bytes read.0.0) rest read.0.1 takes greeting.0) (lengths.0, lengths.1, greeting.1, greeting.2) ranges read.2
+
+behind_sid : (now l w : ℕ) (s : List ℕ) (bytes rest : List ℕ) (call : Entered) → Takes bytes (version_and_limit l ++ number4 w ++ framed s) rest
+    → HasLength s → (now < 2 ^ 64) × (l < 2 ^ 64) × (w < 2 ^ 32)
+    → (text_at rest >>= (λ h. greeting_at h.1 >>= (λ g. text_at g.1 >>= (λ b. whole (stored.Open s h.0 g.0 b.0 now l w) b.1)))) ≡ Some call → IsCall kinds.Open now bytes call
+behind_sid now l w s bytes rest call takes lengths ranges is =
+    let read = bind_some (text_at rest) (λ (h : List ℕ × List ℕ). greeting_at h.1 >>= (λ g. text_at g.1 >>= (λ b. whole (stored.Open s h.0 g.0 b.0 now l w) b.1))) call is in
+    let host = text_found rest read.0 takes.behind read.1 in
+    behind_host now l w s read.0.0 bytes read.0.1 call
+    (two bytes (version_and_limit l ++ number4 w ++ framed s) (framed read.0.0) rest read.0.1 takes host.0) (lengths, host.1) ranges read.2
+
+behind_waits : (now l w : ℕ) (bytes rest : List ℕ) (call : Entered) → Takes bytes (version_and_limit l ++ number4 w) rest → (now < 2 ^ 64) × (l < 2 ^ 64) × (w < 2 ^ 32)
+    → (text_at rest >>= (λ s. text_at s.1 >>= (λ h. greeting_at h.1 >>= (λ g. text_at g.1 >>= (λ b. whole (stored.Open s.0 h.0 g.0 b.0 now l w) b.1))))) ≡ Some call
+    → IsCall kinds.Open now bytes call
+behind_waits now l w bytes rest call takes ranges is =
+    let read = bind_some (text_at rest) (λ (s : List ℕ × List ℕ). text_at s.1 >>= (λ h. greeting_at h.1 >>= (λ g. text_at g.1 >>= (λ b. whole (stored.Open s.0 h.0 g.0 b.0 now l w) b.1)))) call is in
+    let sid = text_found rest read.0 takes.behind read.1 in
+    behind_sid now l w read.0.0 bytes read.0.1 call (two bytes (version_and_limit l ++ number4 w) (framed read.0.0) rest read.0.1 takes sid.0) sid.1 ranges read.2
+
+behind_limit : (now l : ℕ) (bytes rest : List ℕ) (call : Entered) → Takes bytes (version_and_limit l) rest → (now < 2 ^ 64) × (l < 2 ^ 64)
+    → (number4_at rest >>= (λ w. text_at w.1 >>= (λ s. text_at s.1 >>= (λ h. greeting_at h.1 >>= (λ g. text_at g.1 >>= (λ b. whole (stored.Open s.0 h.0 g.0 b.0 now l w.0) b.1)))))) ≡ Some call
+    → IsCall kinds.Open now bytes call
+behind_limit now l bytes rest call takes ranges is =
+    let read = bind_some (number4_at rest) (λ (w : ℕ × List ℕ). text_at w.1 >>= (λ s. text_at s.1 >>= (λ h. greeting_at h.1 >>= (λ g. text_at g.1 >>= (λ b. whole (stored.Open s.0 h.0 g.0 b.0 now l w.0) b.1))))) call is in
+    let waits = number4_found rest read.0 takes.behind read.1 in
+    behind_waits now l read.0.0 bytes read.0.1 call (two bytes (version_and_limit l) (number4 read.0.0) rest read.0.1 takes waits.0) (ranges.0, ranges.1, waits.1) read.2
+
+abbrev by_limit : ℕ → ℕ × List ℕ → Option Entered
+by_limit now l = number4_at l.1 >>= (λ w. text_at w.1 >>= (λ s. text_at s.1 >>= (λ h. greeting_at h.1 >>= (λ g. text_at g.1 >>= (λ b. whole (stored.Open s.0 h.0 g.0 b.0 now l.0 w.0) b.1)))))
+
+open_found : (now : ℕ) (bytes : List ℕ) (call : Entered) → IsBytes bytes → now < 2 ^ 64 → open_at now bytes ≡ Some call → IsCall kinds.Open now bytes call
+unfolding open_at
+open_found now bytes call fits small is =
+    let first = bind_some (number2_at bytes) (λ (v : ℕ × List ℕ). (if v.0 == rules_version then number8_at v.1 else None) >>= by_limit now) call is in
+    let version = number2_found bytes first.0 fits first.1 in
+    let second = bind_some (if first.0.0 == rules_version then number8_at first.0.1 else None) (by_limit now) call first.2 in
+    let right = if_some (first.0.0 == rules_version) (number8_at first.0.1) second.0 second.1 in
+    let limit = number8_found first.0.1 second.0 version.0.behind right.1 in
+    let both = two bytes (number2 first.0.0) (number8 second.0.0) first.0.1 second.0.1 version.0 limit.0 in
+    behind_limit now second.0.0 bytes second.0.1 call
+    (subst (λ (n : ℕ). Takes bytes (number2 n ++ number8 second.0.0) second.0.1) (is_number first.0.0 rules_version right.0) both) (small, limit.1) second.2
 
 tick_found : (now : ℕ) (bytes : List ℕ) (call : Entered) → now < 2 ^ 64 → whole (stored.Tick now) bytes ≡ Some call → IsCall kinds.Tick now bytes call
 tick_found now bytes call small is =

@@ -14,7 +14,7 @@ use Rattle.journal_store.specs.Records.{HasLength, number4, framed}
 
 -- the version of the rules by which a journal is replayed
 abbrev pub rules_version : ℕ
-rules_version = 1
+rules_version = 2
 
 -- numbers of two and of eight bytes, the greatest first
 unfoldable pub number2 : ℕ → List ℕ
@@ -47,7 +47,7 @@ limited_kind limits.Time = 5
 
 -- 0 is kept for the creations of older rules
 abbrev pub kind_of : Entered → ℕ
-kind_of (stored.Open sid host greeting body now limit) = 8
+kind_of (stored.Open sid host greeting body now limit gap_waits) = 8
 kind_of (stored.Arrive body now) = 1
 kind_of (stored.Collect ticket) = 2
 kind_of (stored.Back stream stanza now) = 3
@@ -58,7 +58,7 @@ kind_of (stored.Limit kind cost now) = 7
 
 -- the moment of a call, and 0 where it has none
 abbrev pub moment_of : Entered → ℕ
-moment_of (stored.Open sid host greeting body now limit) = now
+moment_of (stored.Open sid host greeting body now limit gap_waits) = now
 moment_of (stored.Arrive body now) = now
 moment_of (stored.Collect ticket) = 0
 moment_of (stored.Back stream stanza now) = now
@@ -69,7 +69,7 @@ moment_of (stored.Limit kind cost now) = now
 
 -- what else an entry has
 abbrev pub fields_of : Entered → List ℕ
-fields_of (stored.Open sid host greeting body now limit) = number2 rules_version ++ number8 limit ++ framed sid ++ framed host ++ texts_bytes greeting ++ framed body
+fields_of (stored.Open sid host greeting body now limit gap_waits) = number2 rules_version ++ number8 limit ++ number4 gap_waits ++ framed sid ++ framed host ++ texts_bytes greeting ++ framed body
 fields_of (stored.Arrive body now) = framed body
 fields_of (stored.Collect ticket) = number4 ticket
 fields_of (stored.Back stream stanza now) = number2 stream ++ framed stanza
@@ -84,14 +84,14 @@ content_of session e = number4 session ++ number4 e.caller ++ kind_of e.call ∷
 
 -- each text has a length of four bytes
 abbrev pub HasLengths : Entered → Type 0
-HasLengths (stored.Open sid host greeting body now limit) = HasLength sid × HasLength host × (length greeting < 2 ^ 32) × AllByRecursion HasLength greeting × HasLength body
+HasLengths (stored.Open sid host greeting body now limit gap_waits) = HasLength sid × HasLength host × (length greeting < 2 ^ 32) × AllByRecursion HasLength greeting × HasLength body
 HasLengths (stored.Arrive body now) = HasLength body
 HasLengths (stored.Back stream stanza now) = HasLength stanza
 HasLengths _ = Unit {0}
 
 -- each number of a call fits the bytes that it has
 abbrev pub HasRanges : Entered → Type 0
-HasRanges (stored.Open sid host greeting body now limit) = (now < 2 ^ 64) × (limit < 2 ^ 64)
+HasRanges (stored.Open sid host greeting body now limit gap_waits) = (now < 2 ^ 64) × (limit < 2 ^ 64) × (gap_waits < 2 ^ 32)
 HasRanges (stored.Arrive body now) = now < 2 ^ 64
 HasRanges (stored.Collect ticket) = ticket < 2 ^ 32
 HasRanges (stored.Back stream stanza now) = (stream < most_streams) × (now < 2 ^ 64)

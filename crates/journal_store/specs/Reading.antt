@@ -96,11 +96,12 @@ unfoldable pub open_at : ℕ → List ℕ → Option Entered
 open_at now bytes = do
   version ← number2_at bytes
   limit ← (if version.0 == rules_version then number8_at version.1 else None)
-  sid ← text_at limit.1
+  gap_waits ← number4_at limit.1
+  sid ← text_at gap_waits.1
   host ← text_at sid.1
   greeting ← greeting_at host.1
   body ← text_at greeting.1
-  whole (stored.Open sid.0 host.0 greeting.0 body.0 now limit.0) body.1
+  whole (stored.Open sid.0 host.0 greeting.0 body.0 now limit.0 gap_waits.0) body.1
 
 unfoldable pub arrive_at : ℕ → List ℕ → Option Entered
 arrive_at now bytes = do

@@ -10,7 +10,7 @@ use session_journal::{Entered, Entry, Limited};
 use std::alloc::AllocError;
 
 // The version of the rules by which a journal is replayed. It changes with them.
-pub(crate) const RULES_VERSION: u16 = 1;
+pub(crate) const RULES_VERSION: u16 = 2;
 
 /// Puts the content of an entry of a session in the place of what the buffer has. After an error the buffer has something else.
 #[tactic(auto, unfolding(crate::specs::Contents::content_of))]
@@ -148,10 +148,12 @@ fn push_fields(into: &mut Vec<u8>, call: &Entered) -> Result<(), AddError>
             greeting,
             body,
             limit,
+            gap_waits,
             ..
         } => {
             push_number2(into, RULES_VERSION)?;
             push_number8(into, *limit)?;
+            push_number4(into, *gap_waits)?;
             push_text(into, sid.as_slice())?;
             push_text(into, host.as_slice())?;
             push_texts(into, greeting.as_slice())?;

@@ -178,6 +178,7 @@ impl<D: Disk> Opening<D> {
         requires ended { IsTrue self.has_ended }
         ensures opened { D.told → (contents : List (List ℕ)) → HasRead D.seen D.time D.left self contents →
             IfFinished result (λ file. IsAtRest D.seen D.time D.left file contents) }
+        ensures unspent { IfFinished result (λ file. file.is_spent ≡ false) }
         // A crash at any moment of the call leaves the row that was read.
         ensures any_moment { D.told → (contents : List (List ℕ)) → HasRead D.seen D.time D.left self contents →
             EachCrash D.time D.left self.disk (disk_of result) (λ image. IsRowOf image contents) }

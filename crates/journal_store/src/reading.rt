@@ -102,6 +102,7 @@ fn open_of(alloc: Global, now: u64, bytes: &[u8]) -> Result<Entered, ReadError>
         return Err(ReadError::NoEntry);
     }
     let (limit, rest) = number8_of(rest)?;
+    let (gap_waits, rest) = number4_of(rest)?;
     let (sid, rest) = text_of(alloc, rest)?;
     let (host, rest) = shared_of(alloc, rest)?;
     let (greeting, rest) = greeting_of(alloc, rest)?;
@@ -114,6 +115,7 @@ fn open_of(alloc: Global, now: u64, bytes: &[u8]) -> Result<Entered, ReadError>
         body,
         now: Moment::from_millis(now),
         limit,
+        gap_waits,
     })
 }
 
