@@ -16,6 +16,8 @@ class BoshSession {
     // Answers may come in another order than their requests: each is read once those before it were.
     this.answers = new Map();
     this.next = this.rid;
+    // The requests that have no answer yet: their texts, and how many copies of each were sent.
+    this.asked = new Map();
   }
 
   open() {
@@ -55,34 +57,58 @@ class BoshSession {
     for (const stanza of stanzas) {
       body.documentElement.append(body.importNode(stanza, true));
     }
-    this.post(rid, new XMLSerializer().serializeToString(body), 3);
+    this.asked.set(rid, { text: new XMLSerializer().serializeToString(body), copies: 0 });
+    this.post(rid, 3);
   }
 
-  // A request that failed is sent again as it was: the manager knows it by its number and does nothing twice.
-  async post(rid, text, tries) {
+  // A request that failed is sent again as it was: the manager knows it by its number and does nothing twice. The manager lets go of a
+  // copy when a later one comes, so a copy that isn't the last one may fail.
+  async post(rid, tries) {
+    const asked = this.asked.get(rid);
+    asked.copies += 1;
+    const copy = asked.copies;
+    const isLast = () => !this.over && this.asked.has(rid) && asked.copies === copy;
     try {
       const response = await fetch(this.url, {
         method: 'POST',
         headers: { 'Content-Type': 'text/xml; charset=utf-8' },
-        body: text,
+        body: asked.text,
       });
       if (!response.ok) {
         throw new Error(`status ${response.status}`);
       }
-      this.take(rid, await response.text());
+      const text = await response.text();
+      if (typeOf(text) !== 'error') {
+        this.take(rid, text);
+      } else if (isLast()) {
+        this.again(rid);
+      }
     } catch (error) {
-      if (this.over) {
+      if (!isLast()) {
         return;
       }
       if (tries > 1) {
-        setTimeout(() => this.post(rid, text, tries - 1), 1000);
+        setTimeout(() => isLast() && this.post(rid, tries - 1), 1000);
       } else {
         this.end(error.message);
       }
     }
   }
 
+  // The manager didn't receive this request, since an earlier one is missing (XEP-0124, section 17.3). An error is no answer: this
+  // request and all earlier ones without an answer are sent again as they were, the lowest first.
+  again(last) {
+    for (const rid of [...this.asked.keys()].sort((one, other) => one - other)) {
+      if (rid <= last) {
+        this.post(rid, 3);
+      }
+    }
+  }
+
   take(rid, text) {
+    if (!this.asked.delete(rid)) {
+      return;
+    }
     this.answers.set(rid, text);
     while (this.answers.has(this.next)) {
       const answer = this.answers.get(this.next);
@@ -115,6 +141,11 @@ class BoshSession {
       this.events.ended(why);
     }
   }
+}
+
+// What an answer means for its session: it goes on where there is no type.
+function typeOf(text) {
+  return new DOMParser().parseFromString(text, 'text/xml').documentElement.getAttribute('type');
 }
 
 // The page.

@@ -33,8 +33,8 @@ next_carries c (Some a) = record { payloads = refl; restart = refl; pause = refl
 carries_step : (c : PlainClient) (call : Call) → All Carries c.requests → All Carries (step c call).0.requests
 carries_step c call all =
     step_by c (λ p. All Carries p.0.requests) (λ reply quiet. all) (λ item. all)
-    (λ now due left. All-append Carries c.requests (next_made c (agreed c) ∷ []) all (All-cons Carries (next_made c (agreed c)) [] (next_carries c (agreed c)) (All-nil Carries)))
-    (λ rid t made none reads. all) (λ payload next. all) call
+    (λ now due left next. All-append Carries c.requests (next_made c (agreed c) ∷ []) all (All-cons Carries (next_made c (agreed c)) [] (next_carries c (agreed c)) (All-nil Carries)))
+    (λ rid t made none reads fine. all) (λ payload next. all) call
 
 carries_after : (c : PlainClient) (calls : List Call) → All Carries c.requests → All Carries (after c calls).requests
 carries_after c [] all = all

@@ -10,21 +10,21 @@ use Rattle.hex.specs.Hex.{encode_with}
 use Rattle.key_sequence.specs.Chain.{hex_digest}
 use Rattle.sha1.specs.Sha1.{first_words, schedule, rounds, compress, hash_after, digest_bytes, sha1}
 use Rattle.session_attrs.specs.Attributes.{is_named, value_of}
-use Rattle.session_attrs.specs.Forms.{is_httpbind, number_of, terminate_of}
+use Rattle.session_attrs.specs.Forms.{is_httpbind, number_of}
 use Rattle.bosh_types.specs.declared.condition.Condition.TheVariants.{UndefinedCondition}
 use Rattle.bosh_client.specs.declared.replies.Answered.TheVariants as answerings
 use Rattle.bosh_client.specs.declared.replies.Next.TheVariants.{Nothing, RidsSpent, Request}
 use Rattle.bosh_client.specs.declared.replies.Queued.TheVariants.{Done, Over, TooLong}
 use Rattle.bosh_client.specs.declared.replies.Why.TheVariants.{Namespace, Attribute, NoSid}
 use Rattle.bosh_client.specs.declared.setup.ClientSetup.{ClientSetup}
-use Rattle.bosh_client.specs.AnswerMeaning.{condition_of}
+use Rattle.bosh_client.specs.AnswerMeaning.{condition_of, type_of}
 use Rattle.bosh_client.specs.AnswerReading.{answer_of, answer_with, said_in}
 use Rattle.bosh_client.specs.PlainClient.{end_of}
 use Rattle.bosh_client.specs.Runs.{Call, Put, Restart, Pause, Terminate, NextRequest, Answer, HandOut, Reply, ToQueue, ToNext, ToAnswer, ToHandOut, client_after, replies}
 use Rattle.bosh_client.specs.Machine.{new_client}
 
 unfoldable pub clients_compute : ⊤
-unfolding digits cuts_compute request_text request_attributes xmpp_rows sid_rows creation_rows number_rows key_rows terminate_rows version_rows restart_rows attribute escaped_byte closed_with hex_digest encode_with first_words schedule rounds compress hash_after digest_bytes sha1 is_named value_of is_httpbind number_of terminate_of condition_of answer_of answer_with said_in
+unfolding digits cuts_compute request_text request_attributes xmpp_rows sid_rows creation_rows number_rows key_rows terminate_rows version_rows restart_rows attribute escaped_byte closed_with hex_digest encode_with first_words schedule rounds compress hash_after digest_bytes sha1 is_named value_of is_httpbind number_of type_of condition_of answer_of answer_with said_in
 clients_compute = tt
 
 -- a client as scripts begin one: the id, the wait, the hold, acknowledgements, keys
@@ -122,6 +122,20 @@ terminal_answer :
 unfolding clients_compute
 terminal_answer = refl
 
+-- an error is no answer: it asks for all requests again that have none, up to its own, and changes nothing
+again_from_the_lowest :
+    outcome (setup_of 1000 60 0)
+    (NextRequest 0 ∷ Answer 1000 created 0 ∷ HandOut ∷ Put (codes "<a/>") ∷ NextRequest 0 ∷ Put (codes "<b/>") ∷ NextRequest 0
+    ∷ Answer 1002 (codes "<body " ++ httpbind ++ codes " type='error'/>") 0 ∷ Answer 1001 (carrying (codes "<x/>")) 0
+    ∷ Answer 1002 (codes "<body " ++ httpbind ++ codes " type='error'/>") 0 ∷ Answer 1002 (carrying (codes "<y/>")) 0
+    ∷ Answer 1002 (codes "<body " ++ httpbind ++ codes " type='error'/>") 0 ∷ HandOut ∷ HandOut ∷ HandOut ∷ [])
+    ≡ request 1000 (codes " xmlns:xmpp='urn:xmpp:xbosh' rid='1000' to='example.org' xml:lang='en' wait='60' hold='1' ver='1.11' content='text/xml; charset=utf-8' ack='1' xmpp:version='1.0'/>")
+    ∷ took ∷ got (codes "<stream:features/>") ∷ done ∷ request 1001 (codes " rid='1001' sid='s1'><a/></body>") ∷ done ∷ request 1002 (codes " rid='1002' sid='s1' ack='1000'><b/></body>")
+    ∷ ToAnswer (answerings.Again 1001 1002) ∷ took ∷ ToAnswer (answerings.Again 1002 1002) ∷ took
+    ∷ ToAnswer answerings.Stale ∷ got (codes "<x/>") ∷ got (codes "<y/>") ∷ ToHandOut None ∷ []
+unfolding clients_compute
+again_from_the_lowest = refl
+
 -- what is no answer changes nothing
 no_answers :
     outcome (setup_of 1000 60 0)
@@ -130,7 +144,7 @@ no_answers :
     ∷ Answer 1000 (codes "<body " ++ httpbind ++ codes " sid='s1' requests='0' condition='none'/>") 0 ∷ Put (codes "<a/>") ∷ NextRequest 0 ∷ Put (codes "<b/>") ∷ NextRequest 0 ∷ [])
     ≡ ToAnswer answerings.Unmade
     ∷ request 1000 (codes " xmlns:xmpp='urn:xmpp:xbosh' rid='1000' to='example.org' xml:lang='en' wait='60' hold='1' ver='1.11' content='text/xml; charset=utf-8' ack='1' xmpp:version='1.0'/>")
-    ∷ ToAnswer (answerings.Broken Namespace) ∷ ToAnswer (answerings.Broken Attribute) ∷ ToAnswer (answerings.Broken Attribute) ∷ ToAnswer (answerings.Broken Attribute) ∷ ToAnswer (answerings.Broken NoSid)
+    ∷ ToAnswer (answerings.Broken Namespace) ∷ ToAnswer (answerings.Again 1000 1000) ∷ ToAnswer (answerings.Broken Attribute) ∷ ToAnswer (answerings.Broken Attribute) ∷ ToAnswer (answerings.Broken NoSid)
     ∷ took ∷ done ∷ request 1001 (codes " rid='1001' sid='s1'><a/></body>") ∷ done ∷ ToNext Nothing ∷ []
 unfolding clients_compute
 no_answers = refl

@@ -436,7 +436,7 @@ formed_step setup c call is allowed client h =
     let valid : is_setup c.setup ≡ true = ap is_setup client.begins ∙ is in
     step_with c IsItem (λ p. IsFormed p.0) (λ reply quiet. h)
     (λ item such. record { items = All-append IsItem c.accepted (item ∷ []) h.items (All-cons IsItem item [] such (All-nil IsItem)); forms = h.forms })
-    (λ now due left. made_form setup c valid client left h) (λ rid t made none reads. answered_form c rid t none h)
+    (λ now due left next. made_form setup c valid client left h) (λ rid t made none reads fine. answered_form c rid t none h)
     (λ payload next. record { items = h.items; forms = h.forms }) call (queues setup c call client allowed)
 
 formed_after : (setup : ClientSetup) (c : PlainClient) (calls : List Call) → is_setup setup ≡ true → All IsAllowed calls → IsClient setup c → IsFormed c → IsFormed (after c calls)

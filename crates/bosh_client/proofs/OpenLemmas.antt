@@ -125,8 +125,8 @@ answers_few c rid t ids none few = by (taken c c.setup.first) refl few
 
 few_step : (setup : ClientSetup) (c : PlainClient) (call : Call) → IsClient setup c → HasFewOpen c → HasFewOpen (step c call).0
 few_step setup c call h few =
-    step_by c (λ p. HasFewOpen p.0) (λ reply quiet. few) (λ item. few) (λ now due left. requests_few c now due)
-    (λ rid t made none reads. answers_few c rid t h.ids none few) (λ payload next. few) call
+    step_by c (λ p. HasFewOpen p.0) (λ reply quiet. few) (λ item. few) (λ now due left next. requests_few c now due)
+    (λ rid t made none reads fine. answers_few c rid t h.ids none few) (λ payload next. few) call
 
 few_after : (setup : ClientSetup) (c : PlainClient) (calls : List Call) → IsClient setup c → HasFewOpen c → HasFewOpen (after c calls)
 few_after setup c [] h few = few

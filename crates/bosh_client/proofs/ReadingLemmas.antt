@@ -1,18 +1,19 @@
 -- Reading an answer gives exactly its meaning, and the first reason for which it has none.
 use Rattle.std.proofs.Common.{◌≡◌, ℕ, Bool, true, false, ◌||◌, List, Some, None, refl, sym, ◌∙◌, ap, subst}
-use Rattle.std.specs.Str.{bytes_eq}
-use Rattle.std.specs.Prelude.{codes, Option, Ok, Err, IsTrue, is_none, is_some, not, ◌↔◌, cond, if◌then◌else◌}
+use Rattle.std.specs.Prelude.{Option, Ok, Err, IsTrue, is_none, is_some, not, ◌↔◌, cond, if◌then◌else◌}
 use Rattle.std.specs.Option.{ok_or, option_map}
 use Rattle.bosh_types.specs.Rid.{rid_of}
-use Rattle.session_attrs.specs.Forms.{number_of, says_httpbind, terminate_of}
+use Rattle.session_attrs.specs.Forms.{number_of, says_httpbind}
 use Rattle.session_attrs.specs.Rows.{Says, is_bad, told}
 use Rattle.bosh_client.specs.declared.replies.ClientEnd.{ClientEnd}
 use Rattle.bosh_client.specs.declared.replies.Why.{Why}
 use Rattle.bosh_client.specs.declared.replies.Why.TheVariants as whys
+use Rattle.bosh_client.specs.declared.said.AnswerType.{AnswerType}
+use Rattle.bosh_client.specs.declared.said.AnswerType.TheVariants.{Terminate, Error}
 use Rattle.bosh_client.specs.declared.said.Said.{Said}
 use Rattle.bosh_client.specs.declared.told.Told.{Told}
-use Rattle.bosh_client.specs.AnswerMeaning.{MeansAck, MeansAnswer, MeansEnd, broken_values, has_bad_attribute}
-use Rattle.bosh_client.specs.AnswerReading.{◌>>=◌, answer_with, end_by, said, said_in, told_from}
+use Rattle.bosh_client.specs.AnswerMeaning.{HasType, MeansAck, MeansAnswer, MeansEnd, broken_values, has_bad_attribute, type_of}
+use Rattle.bosh_client.specs.AnswerReading.{◌>>=◌, answer_with, end_by, is_error, said, said_in, told_from}
 use Rattle.bosh_client.specs.AnswerValues.{AnswerValues}
 
 -- A row both ways.
@@ -33,7 +34,7 @@ bind_of (Some x) f y is = (x, refl, is)
 
 -- each attribute says what is read of it
 record Says5 (v : AnswerValues) (s : Said) : Type 0 where
-  terminal : said terminate_of v.type ≡ Some s.terminal
+  kind : said type_of v.type ≡ Some s.kind
   ack : said rid_of v.ack ≡ Some s.ack
   requests : said number_of v.requests ≡ Some s.requests
   polling : said number_of v.polling ≡ Some s.polling
@@ -41,20 +42,20 @@ record Says5 (v : AnswerValues) (s : Said) : Type 0 where
 
 all_said : (v : AnswerValues) (s : Said) → Says5 v s → said_in v ≡ Some s
 unfolding said_in
-all_said v s is = rw (is.terminal, is.ack, is.requests, is.polling, is.maxpause) refl
+all_said v s is = rw (is.kind, is.ack, is.requests, is.polling, is.maxpause) refl
 
 said_all : (v : AnswerValues) (s : Said) → said_in v ≡ Some s → Says5 v s
 unfolding said_in
 said_all v s is =
-    let one = bind_of (said terminate_of v.type) _ s is in
+    let one = bind_of (said type_of v.type) _ s is in
     let two = bind_of (said rid_of v.ack) _ s one.2 in
     let three = bind_of (said number_of v.requests) _ s two.2 in
     let four = bind_of (said number_of v.polling) _ s three.2 in
     let five = bind_of (said number_of v.maxpause) _ s four.2 in
-    let whole : Some (record { terminal = one.0; ack = two.0; requests = three.0; polling = four.0; maxpause = five.0 }) ≡ Some s = five.2 in
-    let same : (let made : Said = record { terminal = one.0; ack = two.0; requests = three.0; polling = four.0; maxpause = five.0 } in made) ≡ s = cc in
+    let whole : Some (record { kind = one.0; ack = two.0; requests = three.0; polling = four.0; maxpause = five.0 }) ≡ Some s = five.2 in
+    let same : (let made : Said = record { kind = one.0; ack = two.0; requests = three.0; polling = four.0; maxpause = five.0 } in made) ≡ s = cc in
     record {
-      terminal = one.1 ∙ ap (λ (x : Said). Some x.terminal) same;
+      kind = one.1 ∙ ap (λ (x : Said). Some x.kind) same;
       ack = two.1 ∙ ap (λ (x : Said). Some x.ack) same;
       requests = three.1 ∙ ap (λ (x : Said). Some x.requests) same;
       polling = four.1 ∙ ap (λ (x : Said). Some x.polling) same;
@@ -63,30 +64,21 @@ said_all v s is =
 
 -- What says this means that.
 
-terminate_true : (text : List ℕ) (b : Bool) → terminate_of text ≡ Some b → b ≡ true
-unfolding terminate_of
-terminate_true text b is = by (bytes_eq text (codes "terminate")) is
-  where
-    by : (test : Bool) → (if test then Some true else None) ≡ Some b → b ≡ true
-    by true is = cc
-    by false is = absurd (cc)
+same_type : (o : Option AnswerType) (kind : AnswerType) → option_map Some o ≡ Some (Some kind) → o ≡ Some kind
+same_type None kind is = absurd (cc)
+same_type (Some other) kind is = cc
 
-end_of_type : (v : AnswerValues) (type : Option (List ℕ)) (terminal : Option Bool) → v.type ≡ type → said terminate_of type ≡ Some terminal → MeansEnd v (end_by v.condition terminal)
+end_of_type : (v : AnswerValues) (type : Option (List ℕ)) (kind : Option AnswerType) → v.type ≡ type → said type_of type ≡ Some kind
+    → MeansEnd v (end_by v.condition kind) (is_error kind)
 end_of_type v None None type is = type
-end_of_type v None (Some b) type is = absurd (cc)
-end_of_type v (Some text) None type is = absurd (by (terminate_of text) is)
+end_of_type v None (Some kind) type is = absurd (cc)
+end_of_type v (Some text) None type is = absurd (by (type_of text) is)
   where
-    by : (o : Option Bool) → option_map Some o ≡ Some None → ⊥
+    by : (o : Option AnswerType) → option_map Some o ≡ Some None → ⊥
     by None is = cc
-    by (Some b) is = cc
-end_of_type v (Some text) (Some b) type is =
-    let reads : terminate_of text ≡ Some b = by (terminate_of text) is in
-    let yes_ : terminate_of text ≡ Some true = reads ∙ ap Some (terminate_true text b reads) in
-    (subst (λ (o : Option (List ℕ)). Says terminate_of false o true) (sym type) yes_, refl)
-  where
-    by : (o : Option Bool) → option_map Some o ≡ Some (Some b) → o ≡ Some b
-    by None is = absurd (cc)
-    by (Some other) is = cc
+    by (Some kind) is = cc
+end_of_type v (Some text) (Some Terminate) type is = ((text, type, same_type (type_of text) Terminate is), refl, refl)
+end_of_type v (Some text) (Some Error) type is = (text, type, same_type (type_of text) Error is)
 
 ack_of_text : (ack : Option (List ℕ)) (rid : Option ℕ) → said rid_of ack ≡ Some rid → MeansAck ack (is_some rid)
 ack_of_text None rid is =
@@ -105,7 +97,7 @@ told_means v payloads s httpbind is =
     let all = said_all v s is in
     record {
       xmlns = httpbind;
-      end = end_of_type v v.type s.terminal refl all.terminal;
+      end = end_of_type v v.type s.kind refl all.kind;
       sid = refl;
       requests = says_of number_of v.requests s.requests all.requests;
       polling = says_of number_of v.polling s.polling all.polling;
@@ -116,21 +108,33 @@ told_means v payloads s httpbind is =
 
 -- What means that says this.
 
-abbrev terminal_of : Option ClientEnd → Option Bool
-terminal_of None = None
-terminal_of (Some end) = Some true
+abbrev kind_of : Option ClientEnd → Bool → Option AnswerType
+kind_of None false = None
+kind_of None true = Some Error
+kind_of (Some end) error = Some Terminate
 
-type_said : (v : AnswerValues) (type : Option (List ℕ)) (end : Option ClientEnd) → v.type ≡ type → MeansEnd v end → said terminate_of type ≡ Some (terminal_of end)
-type_said v None None type means = refl
-type_said v (Some text) None type means = absurd (cc)
-type_said v None (Some end) type means =
-    let never : false ≡ true = sym (subst (λ (o : Option (List ℕ)). Says terminate_of false o true) type means.0) in
-    absurd (cc)
-type_said v (Some text) (Some end) type means = ap (option_map Some) (subst (λ (o : Option (List ℕ)). Says terminate_of false o true) type means.0)
+has_said : (v : AnswerValues) (type : Option (List ℕ)) (kind : AnswerType) → v.type ≡ type → HasType v kind → said type_of type ≡ Some (Some kind)
+has_said v None kind type (text, is, reads) = absurd (cc)
+has_said v (Some text) kind type (own, is, reads) =
+    let same : text ≡ own = cc in
+    ap (λ (t : List ℕ). option_map Some (type_of t)) same ∙ ap (option_map Some) reads
 
-end_same : (v : AnswerValues) (end : Option ClientEnd) → MeansEnd v end → end_by v.condition (terminal_of end) ≡ end
-end_same v None means = refl
-end_same v (Some end) means = λ i. Some (record { condition = sym means.1 i })
+type_said : (v : AnswerValues) (type : Option (List ℕ)) (end : Option ClientEnd) (error : Bool) → v.type ≡ type → MeansEnd v end error
+    → said type_of type ≡ Some (kind_of end error)
+type_said v None None false type means = refl
+type_said v (Some text) None false type means = absurd (cc)
+type_said v type None true is means = has_said v type Error is means
+type_said v type (Some end) error is means = has_said v type Terminate is means.0
+
+end_same : (v : AnswerValues) (end : Option ClientEnd) (error : Bool) → MeansEnd v end error → end_by v.condition (kind_of end error) ≡ end
+end_same v None false means = refl
+end_same v None true means = refl
+end_same v (Some end) error means = λ i. Some (record { condition = sym means.1 i })
+
+error_same : (v : AnswerValues) (end : Option ClientEnd) (error : Bool) → MeansEnd v end error → is_error (kind_of end error) ≡ error
+error_same v None false means = refl
+error_same v None true means = refl
+error_same v (Some end) error means = sym means.2
 
 ack_said : (ack : Option (List ℕ)) (acknowledges : Bool) → MeansAck ack acknowledges → (rid : Option ℕ) × (said rid_of ack ≡ Some rid) × (is_some rid ≡ acknowledges)
 ack_said None acknowledges means = (None, refl, sym means)
@@ -144,16 +148,17 @@ pub means_told : (v : AnswerValues) (payloads : List (List ℕ)) (t : Told) → 
 unfolding answer_with
 means_told v payloads t means =
     let ack = ack_said v.ack t.acknowledges means.ack in
-    let s : Said = record { terminal = terminal_of t.end; ack = ack.0; requests = t.requests; polling = t.polling; maxpause = t.maxpause } in
+    let s : Said = record { kind = kind_of t.end t.error; ack = ack.0; requests = t.requests; polling = t.polling; maxpause = t.maxpause } in
     let is : said_in v ≡ Some s = all_said v s (record {
-      terminal = type_said v v.type t.end refl means.end;
+      kind = type_said v v.type t.end t.error refl means.end;
       ack = ack.1;
       requests = said_of number_of v.requests t.requests means.requests;
       polling = said_of number_of v.polling t.polling means.polling;
       maxpause = said_of number_of v.maxpause t.maxpause means.maxpause;
     }) in
     let same : told_from v payloads s ≡ t = λ i. record {
-      end = end_same v t.end means.end i;
+      end = end_same v t.end t.error means.end i;
+      error = error_same v t.end t.error means.end i;
       sid = sym means.sid i;
       requests = t.requests;
       polling = t.polling;
@@ -206,9 +211,9 @@ or_five false false false false false = refl
 none_said : (v : AnswerValues) → is_none (said_in v) ≡ has_bad_attribute v
 unfolding said_in
 none_said v =
-    none_of (said terminate_of v.type) _ _ (λ terminal. none_of (said rid_of v.ack) _ _ (λ ack. none_of (said number_of v.requests) _ _ (λ requests. none_of (said number_of v.polling) _ _ (λ polling. none_of (said number_of v.maxpause) _ false (λ maxpause. refl)))))
-    ∙ or_five (is_none (said terminate_of v.type)) (is_none (said rid_of v.ack)) (is_none (said number_of v.requests)) (is_none (said number_of v.polling)) (is_none (said number_of v.maxpause))
-    ∙ sym (rw (bad_is terminate_of v.type, bad_is rid_of v.ack, bad_is number_of v.requests, bad_is number_of v.polling, bad_is number_of v.maxpause) refl)
+    none_of (said type_of v.type) _ _ (λ kind. none_of (said rid_of v.ack) _ _ (λ ack. none_of (said number_of v.requests) _ _ (λ requests. none_of (said number_of v.polling) _ _ (λ polling. none_of (said number_of v.maxpause) _ false (λ maxpause. refl)))))
+    ∙ or_five (is_none (said type_of v.type)) (is_none (said rid_of v.ack)) (is_none (said number_of v.requests)) (is_none (said number_of v.polling)) (is_none (said number_of v.maxpause))
+    ∙ sym (rw (bad_is type_of v.type, bad_is rid_of v.ack, bad_is number_of v.requests, bad_is number_of v.polling, bad_is number_of v.maxpause) refl)
 
 broken_both : (b : Bool) (o : Option Said) (bad : Bool) (f : Said → Told) (why : Why) → is_none o ≡ bad
     → ((if b then ok_or (option_map f o) whys.Attribute else Err whys.Namespace) ≡ Err why) ↔ (cond (not b) (Some whys.Namespace) (cond bad (Some whys.Attribute) None) ≡ Some why)

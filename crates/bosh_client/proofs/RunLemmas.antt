@@ -30,7 +30,7 @@ use Rattle.bosh_client.specs.Promises.{Acknowledges, AllTaken, Begins, is_queued
 use Rattle.bosh_client.specs.Requests.{agreed}
 use Rattle.bosh_client.specs.Runs.{Call, Put, Restart, Pause, Terminate, NextRequest, Answer, HandOut, Reply, ToQueue, ToNext, ToAnswer, ToHandOut, after, called, client_after, replies, step}
 use Rattle.bosh_client.specs.StandsFor.{AreFrom}
-use Rattle.bosh_client.proofs.FoundLemmas.{unmade_high}
+use Rattle.bosh_client.proofs.FoundLemmas.{unmade_high, unmade_low}
 use Rattle.bosh_client.proofs.Fronts.{front_take}
 use Rattle.bosh_client.proofs.RequestLemmas.{from-push}
 
@@ -44,7 +44,7 @@ both_of : (a b : Bool) → (a || b) ≡ false → (a ≡ false) × (b ≡ false)
 both_of true b is = absurd (cc)
 both_of false b is = (refl, is)
 
-not_false : (b : Bool) → not b ≡ false → b ≡ true
+pub not_false : (b : Bool) → not b ≡ false → b ≡ true
 not_false true is = refl
 not_false false is = absurd (cc)
 
@@ -62,8 +62,8 @@ MayQueue c Such HandOut = ⊤
 module _ (c : PlainClient) (Such : Outgoing → Type 0) (P : PlainClient × Reply → Type 0)
     (same : (reply : Reply) → payloads_in (reply ∷ []) ≡ [] → P (c, reply))
     (accepts : (item : Outgoing) → Such item → P (called ToQueue (accept c item)))
-    (requests : (now : ℕ) → is_due c now ≡ true → next_id c ≤ greatest_rid → P (called ToNext (with_request c (next_made c (agreed c)))))
-    (answers : (rid : ℕ) (t : Taken) → is_some (request_at c rid) ≡ true → taken c rid ≡ None → answer_of t.body ≡ Ok t.tells → P (with_answer c rid t, ToAnswer answerings.Done))
+    (requests : (now : ℕ) → is_due c now ≡ true → next_id c ≤ greatest_rid → next_request c now ≡ with_request c (next_made c (agreed c)) → P (called ToNext (with_request c (next_made c (agreed c)))))
+    (answers : (rid : ℕ) (t : Taken) → is_some (request_at c rid) ≡ true → taken c rid ≡ None → answer_of t.body ≡ Ok t.tells → t.tells.error ≡ false → P (with_answer c rid t, ToAnswer answerings.Done))
     (hands : (payload : List ℕ) → slice_get (deliverable c) c.handed_out ≡ Some payload → P (record c { handed_out = c.handed_out + 1 }, ToHandOut (Some payload))) where
   put_by : (stanza : List ℕ) → Such (items.Stanza stanza) → P (called ToQueue (put c stanza))
   put_by stanza such =
@@ -83,15 +83,16 @@ module _ (c : PlainClient) (Such : Outgoing → Type 0) (P : PlainClient × Repl
 
   next_by : (now : ℕ) → P (called ToNext (next_request c now))
   next_by now =
-      by_if (λ p. P (called ToNext p)) (has_ended c || not (is_due c now)) _ _ (λ _. same (ToNext nexts.Nothing) refl)
-      (λ due. by_if (λ p. P (called ToNext p)) (nat_lt greatest_rid (next_id c)) _ _ (λ _. same (ToNext nexts.RidsSpent) refl)
-      (λ left. requests now (not_false (is_due c now) (both_of (has_ended c) (not (is_due c now)) due).1) (grind (arith, nat_tests, left))))
+      by_if (λ p. next_request c now ≡ p → P (called ToNext p)) (has_ended c || not (is_due c now)) _ _ (λ _ is. same (ToNext nexts.Nothing) refl)
+      (λ due. by_if (λ p. next_request c now ≡ p → P (called ToNext p)) (nat_lt greatest_rid (next_id c)) _ _ (λ _ is. same (ToNext nexts.RidsSpent) refl)
+      (λ left is. requests now (not_false (is_due c now) (both_of (has_ended c) (not (is_due c now)) due).1) (grind (arith, nat_tests, left)) is)) refl
 
   taken_by : (rid : ℕ) (body : List ℕ) (now : ℕ) (told : Result Told Why) → is_some (request_at c rid) ≡ true → taken c rid ≡ None → answer_of body ≡ told → P (called ToAnswer (take_answer c rid body now told))
   taken_by rid body now (Err why) made none reads = same (ToAnswer (answerings.Broken why)) refl
   taken_by rid body now (Ok tells) made none reads =
-      by_if (λ p. P (called ToAnswer p)) (lacks_sid c rid tells) _ _ (λ _. same (ToAnswer (answerings.Broken _)) refl)
-      (λ _. answers rid (record { body = body; tells = tells; moment = now }) made none reads)
+      by_if (λ p. P (called ToAnswer p)) tells.error _ _ (λ _. same (ToAnswer (answerings.Again _ _)) refl)
+      (λ fine. by_if (λ p. P (called ToAnswer p)) (lacks_sid c rid tells) _ _ (λ _. same (ToAnswer (answerings.Broken _)) refl)
+      (λ _. answers rid (record { body = body; tells = tells; moment = now }) made none reads fine))
 
   absent : {X : Type 0} (o : Option X) → is_some o ≡ false → o ≡ None
   absent None is = refl
@@ -129,8 +130,8 @@ anything c HandOut = tt
 pub step_by : (c : PlainClient) (P : PlainClient × Reply → Type 0)
     → ((reply : Reply) → payloads_in (reply ∷ []) ≡ [] → P (c, reply))
     → ((item : Outgoing) → P (called ToQueue (accept c item)))
-    → ((now : ℕ) → is_due c now ≡ true → next_id c ≤ greatest_rid → P (called ToNext (with_request c (next_made c (agreed c)))))
-    → ((rid : ℕ) (t : Taken) → is_some (request_at c rid) ≡ true → taken c rid ≡ None → answer_of t.body ≡ Ok t.tells → P (with_answer c rid t, ToAnswer answerings.Done))
+    → ((now : ℕ) → is_due c now ≡ true → next_id c ≤ greatest_rid → next_request c now ≡ with_request c (next_made c (agreed c)) → P (called ToNext (with_request c (next_made c (agreed c)))))
+    → ((rid : ℕ) (t : Taken) → is_some (request_at c rid) ≡ true → taken c rid ≡ None → answer_of t.body ≡ Ok t.tells → t.tells.error ≡ false → P (with_answer c rid t, ToAnswer answerings.Done))
     → ((payload : List ℕ) → slice_get (deliverable c) c.handed_out ≡ Some payload → P (record c { handed_out = c.handed_out + 1 }, ToHandOut (Some payload)))
     → (call : Call) → P (step c call)
 step_by c P same accepts requests answers hands call = step_with c (λ item. ⊤) P same (λ item such. accepts item) requests answers hands call (anything c call)
@@ -237,6 +238,23 @@ taken_below c rid next id (x ∷ xs) are is low high = by (is_some (taken c (id_
           ap (λ n. is_some (taken c n)) same ∙ has
     ]
 
+-- the lowest id without an answer is no higher than another one
+pub lowest_at_most : (c : PlainClient) (rid : ℕ) → AreFrom c.setup.first c.requests → is_some (request_at c rid) ≡ true → is_some (taken c rid) ≡ false → lowest c ≤ rid
+lowest_at_most c rid ids made none = elim (cases_lt rid (lowest c)) [
+  | inl below ↦
+      let has : is_some (taken c rid) ≡ true = taken_below c c.setup.first (next_id c) rid c.requests ids refl low below in
+      absurd (cc)
+  | inr above ↦ above
+]
+  where
+    low : c.setup.first ≤ rid
+    low = elim (cases_lt rid c.setup.first) [
+      | inl below ↦
+          let no : is_some (request_at c rid) ≡ false = unmade_low c rid ids below in
+          absurd (cc)
+      | inr above ↦ above
+    ]
+
 new_acknowledges : (c : PlainClient) (a : Agreed) → 1 ≤ c.setup.first → AreFrom c.setup.first c.requests → Acknowledges c (next_made c (Some a))
 new_acknowledges c a some ids = by (a.acks && nat_lt (lowest c) (next_id c)) refl
   where
@@ -262,6 +280,7 @@ pub record IsClient (setup : ClientSetup) (c : PlainClient) : Type 0 where
   pub within : c.handed_out ≤ length (deliverable c)
   pub acks : All (Acknowledges c) c.requests
   pub reads : All (λ (a : ℕ × Taken). answer_of a.1.body ≡ Ok a.1.tells) c.answers
+  pub no_errors : All (λ (a : ℕ × Taken). a.1.tells.error ≡ false) c.answers
 
 begins_long : {X : Type 0} (xs ys : List X) → Begins xs ys → length xs ≤ length ys
 begins_long xs ys b = omega (arith, ap length b.1, length-append xs b.0)
@@ -276,6 +295,7 @@ new_is setup some = record {
   within = omega arith;
   acks = All-nil (Acknowledges (new_client setup));
   reads = All-nil (λ (a : ℕ × Taken). answer_of a.1.body ≡ Ok a.1.tells);
+  no_errors = All-nil (λ (a : ℕ × Taken). a.1.tells.error ≡ false);
 }
 
 accepts_is : (setup : ClientSetup) (c : PlainClient) (item : Outgoing) → IsClient setup c → IsClient setup (record c { accepted = c.accepted ++ item ∷ [] })
@@ -292,6 +312,7 @@ accepts_is setup c item h =
       within = h.within;
       acks = h.acks;
       reads = h.reads;
+      no_errors = h.no_errors;
     }
 
 known_more : (answers : List (ℕ × Taken)) (n m : ℕ) → n ≤ m → All (λ (a : ℕ × Taken). a.0 < n) answers → All (λ (a : ℕ × Taken). a.0 < m) answers
@@ -318,6 +339,7 @@ requests_is setup c request h id front acks =
       within = omega (arith, h.within, begins_long (deliverable c) (deliverable d) (grows_requests c request));
       acks = All-append (Acknowledges d) c.requests (request ∷ []) h.acks (All-cons (Acknowledges d) request [] acks (All-nil (Acknowledges d)));
       reads = h.reads;
+      no_errors = h.no_errors;
     }
 
 made_lower : (c : PlainClient) (rid : ℕ) → AreFrom c.setup.first c.requests → is_some (request_at c rid) ≡ true → rid < next_id c
@@ -328,10 +350,12 @@ made_lower c rid ids made = elim (cases_lt rid (next_id c)) [
       absurd (cc)
 ]
 
-answers_is : (setup : ClientSetup) (c : PlainClient) (rid : ℕ) (t : Taken) → IsClient setup c → is_some (request_at c rid) ≡ true → taken c rid ≡ None → answer_of t.body ≡ Ok t.tells → IsClient setup (with_answer c rid t)
-answers_is setup c rid t h made none reads =
+answers_is : (setup : ClientSetup) (c : PlainClient) (rid : ℕ) (t : Taken) → IsClient setup c → is_some (request_at c rid) ≡ true → taken c rid ≡ None → answer_of t.body ≡ Ok t.tells → t.tells.error ≡ false
+    → IsClient setup (with_answer c rid t)
+answers_is setup c rid t h made none reads fine =
     let P : ℕ × Taken → Type 0 = λ a. a.0 < next_id c in
     let R : ℕ × Taken → Type 0 = λ a. answer_of a.1.body ≡ Ok a.1.tells in
+    let E : ℕ × Taken → Type 0 = λ a. a.1.tells.error ≡ false in
     record {
       begins = h.begins;
       first = h.first;
@@ -341,6 +365,7 @@ answers_is setup c rid t h made none reads =
       within = omega (arith, h.within, begins_long (deliverable c) (deliverable (with_answer c rid t)) (grows_answers c rid t none));
       acks = all_still c rid t c.requests none h.acks;
       reads = All-append R c.answers ((rid, t) ∷ []) h.reads (All-cons R (rid, t) [] reads (All-nil R));
+      no_errors = All-append E c.answers ((rid, t) ∷ []) h.no_errors (All-cons E (rid, t) [] fine (All-nil E));
     }
 
 hands_is : (setup : ClientSetup) (c : PlainClient) (payload : List ℕ) → IsClient setup c → slice_get (deliverable c) c.handed_out ≡ Some payload → IsClient setup (record c { handed_out = c.handed_out + 1 })
@@ -353,6 +378,7 @@ hands_is setup c payload h next = record {
   within = omega (arith, slice_get_within (deliverable c) c.handed_out payload next);
   acks = h.acks;
   reads = h.reads;
+  no_errors = h.no_errors;
 }
 
 -- the request that comes next is such a one
@@ -367,8 +393,8 @@ next_is_made setup c now h due = by (agreed c) refl due
 
 pub step_is : (setup : ClientSetup) (c : PlainClient) (call : Call) → IsClient setup c → IsClient setup (step c call).0
 step_is setup c call h =
-    step_by c (λ p. IsClient setup p.0) (λ reply quiet. h) (λ item. accepts_is setup c item h) (λ now due left. next_is_made setup c now h due)
-    (λ rid t made none reads. answers_is setup c rid t h made none reads) (λ payload next. hands_is setup c payload h next) call
+    step_by c (λ p. IsClient setup p.0) (λ reply quiet. h) (λ item. accepts_is setup c item h) (λ now due left next. next_is_made setup c now h due)
+    (λ rid t made none reads fine. answers_is setup c rid t h made none reads fine) (λ payload next. hands_is setup c payload h next) call
 
 pub after_is : (setup : ClientSetup) (c : PlainClient) (calls : List Call) → IsClient setup c → IsClient setup (after c calls)
 after_is setup c [] h = h
@@ -408,10 +434,10 @@ handed_step : (setup : ClientSetup) (c : PlainClient) (call : Call) → IsClient
 handed_step setup c call h =
     let P : PlainClient × Reply → Type 0 = λ p. was_handed p.0 ≡ was_handed c ++ payloads_in (p.1 ∷ []) in
     step_by c P (λ reply quiet. sym (append-nil (was_handed c)) ∙ ap (λ ps. was_handed c ++ ps) (sym quiet)) (λ item. sym (append-nil (was_handed c)))
-    (λ now due left.
+    (λ now due left next.
     let request = next_made c (agreed c) in
     take-same c.handed_out (deliverable c) _ (grows_requests c request) h.within ∙ sym (append-nil (was_handed c)))
-    (λ rid t made none reads. take-same c.handed_out (deliverable c) _ (grows_answers c rid t none) h.within ∙ sym (append-nil (was_handed c)))
+    (λ rid t made none reads fine. take-same c.handed_out (deliverable c) _ (grows_answers c rid t none) h.within ∙ sym (append-nil (was_handed c)))
     (λ payload next. take-next c.handed_out (deliverable c) payload next) call
 
 payloads_cons : (reply : Reply) (rest : List Reply) → payloads_in (reply ∷ rest) ≡ payloads_in (reply ∷ []) ++ payloads_in rest
@@ -431,7 +457,7 @@ handed_after setup c (call ∷ calls) h =
 pub grows_step : (c : PlainClient) (call : Call) → Begins (deliverable c) (deliverable (step c call).0)
 grows_step c call =
     step_by c (λ p. Begins (deliverable c) (deliverable p.0)) (λ reply quiet. begins-self (deliverable c)) (λ item. begins-self (deliverable c))
-    (λ now due left. grows_requests c (next_made c (agreed c))) (λ rid t made none reads. grows_answers c rid t none) (λ payload next. begins-self (deliverable c)) call
+    (λ now due left next. grows_requests c (next_made c (agreed c))) (λ rid t made none reads fine. grows_answers c rid t none) (λ payload next. begins-self (deliverable c)) call
 
 pub grows_after : (c : PlainClient) (calls : List Call) → Begins (deliverable c) (deliverable (after c calls))
 grows_after c [] = begins-self (deliverable c)
@@ -442,8 +468,8 @@ grows_after c (call ∷ calls) = begins-trans (deliverable c) (deliverable (step
 fixed_step : (c : PlainClient) (call : Call) (rid : ℕ) (request : Made) → request_at c rid ≡ Some request → request_at (step c call).0 rid ≡ Some request
 fixed_step c call rid request at =
     step_by c (λ p. request_at p.0 rid ≡ Some request) (λ reply quiet. at) (λ item. at)
-    (λ now due left. find-append (λ r. id_of r == rid) c.requests (next_made c (agreed c) ∷ []) ∙ ap (λ o. option_or o (find (λ r. id_of r == rid) (next_made c (agreed c) ∷ []))) at)
-    (λ other t made none reads. at) (λ payload next. at) call
+    (λ now due left next. find-append (λ r. id_of r == rid) c.requests (next_made c (agreed c) ∷ []) ∙ ap (λ o. option_or o (find (λ r. id_of r == rid) (next_made c (agreed c) ∷ []))) at)
+    (λ other t made none reads fine. at) (λ payload next. at) call
 
 pub fixed_after : (c : PlainClient) (calls : List Call) (rid : ℕ) (request : Made) → request_at c rid ≡ Some request → request_at (after c calls) rid ≡ Some request
 fixed_after c [] rid request at = at

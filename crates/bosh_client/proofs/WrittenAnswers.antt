@@ -17,7 +17,7 @@ use Rattle.body_cutter.specs.Pieces.{IsNamed}
 use Rattle.body_cutter.proofs.Cuts.{body_cut}
 use Rattle.body_cutter.proofs.NamePieces.{attributes_are_named}
 use Rattle.body_writer.specs.declared.answer.AnswerKind.{AnswerKind}
-use Rattle.body_writer.specs.declared.answer.AnswerKind.TheVariants.{Usual, Terminate}
+use Rattle.body_writer.specs.declared.answer.AnswerKind.TheVariants.{Usual, Terminate, Error}
 use Rattle.body_writer.specs.declared.answer.AnswerParts.{AnswerParts}
 use Rattle.body_writer.specs.declared.answer.Created.{Created}
 use Rattle.body_writer.specs.Answer.{answer_text}
@@ -25,14 +25,16 @@ use Rattle.body_writer.specs.AnswerRows.{answer_attributes, xmpp_rows, stream_ro
 use Rattle.body_writer.specs.Rows.{httpbind_row}
 use Rattle.body_writer.specs.ReadBack.{IsAnswer}
 use Rattle.body_writer.proofs.AnswerBlocks.{answer_reads}
-use Rattle.session_attrs.specs.Forms.{is_httpbind, number_of, terminate_of}
+use Rattle.session_attrs.specs.Forms.{is_httpbind, number_of}
 use Rattle.session_attrs.specs.Rows.{Says, told}
 use Rattle.session_attrs.proofs.NamedValues.{value_in, value_of_written, first, Looks, look_for, looks_none, looks_one, looks_both}
 use Rattle.session_attrs.proofs.WrittenNumbers.{told_number}
-use Rattle.bosh_client.specs.AnswerMeaning.{MeansAck, MeansAnswer, MeansEnd, condition_of}
+use Rattle.bosh_client.specs.AnswerMeaning.{HasType, MeansAck, MeansAnswer, MeansEnd, condition_of, type_of}
+use Rattle.bosh_client.specs.declared.said.AnswerType.{AnswerType}
+use Rattle.bosh_client.specs.declared.said.AnswerType.TheVariants as types
 use Rattle.bosh_client.specs.AnswerReading.{answer_in, answer_of, answer_with, payloads_at}
 use Rattle.bosh_client.specs.AnswerValues.{AnswerValues, values_by, values_of}
-use Rattle.bosh_client.specs.ReadBack.{IsInForm, end_in, told_of}
+use Rattle.bosh_client.specs.ReadBack.{IsInForm, end_in, is_error_kind, told_of}
 use Rattle.bosh_client.proofs.ReadingLemmas.{means_told}
 
 -- Each value by its name, block by block.
@@ -59,10 +61,12 @@ looks_stream (Some created) payloads = looks_one _
 abbrev type_value : AnswerKind → Option (List ℕ)
 type_value Usual = None
 type_value Terminate = Some (codes "terminate")
+type_value Error = Some (codes "error")
 
 abbrev condition_value : AnswerKind → Option Condition → Option (List ℕ)
 condition_value Usual condition = None
 condition_value Terminate condition = option_map name_of condition
+condition_value Error condition = None
 
 abbrev look_kind : AnswerKind → Option Condition → List ℕ → Option (List ℕ) → Option (List ℕ)
 look_kind kind condition name rest = look_for (codes "type") (type_value kind) name (look_for (codes "condition") (condition_value kind condition) name rest)
@@ -72,6 +76,7 @@ unfolding kind_rows
 looks_kind Usual condition = looks_both (looks_none (codes "type")) (looks_none (codes "condition"))
 looks_kind Terminate None = looks_both (looks_one _) (looks_none (codes "condition"))
 looks_kind Terminate (Some condition) = looks_both (looks_one _) (looks_one _)
+looks_kind Error condition = looks_both (looks_one _) (looks_none (codes "condition"))
 
 abbrev number_in : (Created → ℕ) → Option Created → Option (List ℕ)
 number_in field created = option_map (λ c. decimal (field c)) created
@@ -160,17 +165,25 @@ condition_of-name UndefinedCondition = refl
 abbrev values_in : AnswerParts → AnswerValues
 values_in parts = values_by (look_in parts)
 
-end_means : (parts : AnswerParts) (kind : AnswerKind) (condition : Option Condition) → parts.kind ≡ kind → parts.condition ≡ condition → MeansEnd (values_in parts) (end_in kind condition)
-unfolding terminate_of
+type_means : (parts : AnswerParts) (kind : AnswerKind) (says : AnswerType) (text : List ℕ) → parts.kind ≡ kind → type_value kind ≡ Some text → type_of text ≡ Some says
+    → HasType (values_in parts) says
+type_means parts kind says text is value reads = (text, ap (λ k. first (type_value k) None) is ∙ ap (λ o. first o None) value, reads)
+
+end_means : (parts : AnswerParts) (kind : AnswerKind) (condition : Option Condition) → parts.kind ≡ kind → parts.condition ≡ condition
+    → MeansEnd (values_in parts) (end_in kind condition) (is_error_kind kind)
+unfolding type_of
 end_means parts Usual condition kind is = ap (λ k. first (type_value k) None) kind
 end_means parts Terminate None kind is = (
-  subst (λ (o : Option (List ℕ)). Says terminate_of false o true) (sym (ap (λ k. first (type_value k) None) kind)) refl,
+  type_means parts Terminate types.Terminate (codes "terminate") kind refl refl,
   sym (ap (option_map condition_of) (ap (λ k. first (condition_value k parts.condition) None) kind ∙ ap (λ c. first (condition_value Terminate c) None) is)),
+  refl,
 )
 end_means parts Terminate (Some condition) kind is = (
-  subst (λ (o : Option (List ℕ)). Says terminate_of false o true) (sym (ap (λ k. first (type_value k) None) kind)) refl,
+  type_means parts Terminate types.Terminate (codes "terminate") kind refl refl,
   ap Some (sym (condition_of-name condition)) ∙ sym (ap (option_map condition_of) (ap (λ k. first (condition_value k parts.condition) None) kind ∙ ap (λ c. first (condition_value Terminate c) None) is)),
+  refl,
 )
+end_means parts Error condition kind is = type_means parts Error types.Error (codes "error") kind refl refl
 
 number_means : (field : Created → ℕ) (created : Option Created) → IfSome created (λ c. field c ≤ 999999999) → Says (told number_of) None (first (number_in field created) None) (option_map field created)
 number_means field None within = refl

@@ -1,5 +1,5 @@
 -- What the values and the payloads of an answer mean to a client, attribute by attribute.
-use Rattle.std.specs.Prelude.{◌≡◌, ℕ, Bool, true, false, ◌||◌, not, IsTrue, List, [], ◌∷◌, Option, None, Some, is_some}
+use Rattle.std.specs.Prelude.{◌≡◌, ℕ, Bool, true, false, ◌||◌, not, IsTrue, List, [], ◌∷◌, Option, None, Some, is_some, codes, if◌then◌else◌}
 use Rattle.std.specs.List.{find}
 use Rattle.std.specs.Option.{option_map, unwrap_or}
 use Rattle.std.specs.Str.{bytes_eq}
@@ -7,11 +7,13 @@ use Rattle.bosh_types.specs.Condition.{name_of}
 use Rattle.bosh_types.specs.Rid.{rid_of}
 use Rattle.bosh_types.specs.declared.condition.Condition.{Condition}
 use Rattle.bosh_types.specs.declared.condition.Condition.TheVariants.{BadRequest, HostUnknown, ImproperAddressing, ItemNotFound, OtherRequest, PolicyViolation, RemoteConnectionFailed, RemoteStreamError, SystemShutdown, UndefinedCondition}
-use Rattle.session_attrs.specs.Forms.{number_of, says_httpbind, terminate_of}
+use Rattle.session_attrs.specs.Forms.{number_of, says_httpbind}
 use Rattle.session_attrs.specs.Rows.{Says, is_bad, told}
 use Rattle.bosh_client.specs.declared.replies.ClientEnd.{ClientEnd}
 use Rattle.bosh_client.specs.declared.replies.Why.{Why}
 use Rattle.bosh_client.specs.declared.replies.Why.TheVariants.{Cut, Namespace, Attribute, NoSid}
+use Rattle.bosh_client.specs.declared.said.AnswerType.{AnswerType}
+use Rattle.bosh_client.specs.declared.said.AnswerType.TheVariants.{Terminate, Error}
 use Rattle.bosh_client.specs.declared.told.Told.{Told}
 use Rattle.bosh_client.specs.AnswerValues.{AnswerValues}
 
@@ -24,10 +26,21 @@ conditions =
 unfoldable pub condition_of : List ℕ → Condition
 condition_of text = unwrap_or (find (λ condition. bytes_eq (name_of condition) text) conditions) UndefinedCondition
 
--- an answer is terminal exactly where its type says so, XEP-0124 sections 13 and 17, and only then its condition is read
-abbrev pub MeansEnd : AnswerValues → Option ClientEnd → Type 0
-MeansEnd v None = v.type ≡ None
-MeansEnd v (Some end) = (Says terminate_of false v.type true) × (end.condition ≡ option_map condition_of v.condition)
+-- `type`, XEP-0124 section 17: the session ends, or the request counts as not received
+unfoldable pub type_of : List ℕ → Option AnswerType
+type_of text =
+    if bytes_eq text (codes "terminate") then Some Terminate else if bytes_eq text (codes "error") then Some Error else None
+
+-- its type says this
+abbrev pub HasType : AnswerValues → AnswerType → Type 0
+HasType v kind = (text : List ℕ) × (v.type ≡ Some text) × (type_of text ≡ Some kind)
+
+-- an answer is terminal exactly where its type says so, XEP-0124 sections 13 and 17, and only then its condition is read; it is an
+-- error exactly where its type says so, and says nothing of the session's end then
+abbrev pub MeansEnd : AnswerValues → Option ClientEnd → Bool → Type 0
+MeansEnd v None false = v.type ≡ None
+MeansEnd v None true = HasType v Error
+MeansEnd v (Some end) error = HasType v Terminate × (end.condition ≡ option_map condition_of v.condition) × (error ≡ false)
 
 -- an acknowledgement is a request id, XEP-0124 section 9
 abbrev pub MeansAck : Option (List ℕ) → Bool → Type 0
@@ -38,7 +51,7 @@ MeansAck (Some text) acknowledges = IsTrue (is_some (rid_of text)) × (acknowled
 pub record MeansAnswer (v : AnswerValues) (payloads : List (List ℕ)) (t : Told) : Type 0 where
   -- XEP-0124 section 6
   pub xmlns : IsTrue (says_httpbind v.xmlns)
-  pub end : MeansEnd v t.end
+  pub end : MeansEnd v t.end t.error
   -- XEP-0124 section 7.2
   pub sid : t.sid ≡ v.sid
   -- XEP-0124 sections 7.2, 10 and 11
@@ -51,7 +64,7 @@ pub record MeansAnswer (v : AnswerValues) (payloads : List (List ℕ)) (t : Told
 -- an attribute is out of form
 abbrev pub has_bad_attribute : AnswerValues → Bool
 has_bad_attribute v =
-    (((is_bad terminate_of v.type || is_bad rid_of v.ack) || is_bad number_of v.requests) || is_bad number_of v.polling) || is_bad number_of v.maxpause
+    (((is_bad type_of v.type || is_bad rid_of v.ack) || is_bad number_of v.requests) || is_bad number_of v.polling) || is_bad number_of v.maxpause
 
 -- the fact of each reason that values can give
 abbrev pub fact : AnswerValues → Why → Bool

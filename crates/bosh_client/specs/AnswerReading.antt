@@ -1,5 +1,5 @@
 -- How an answer is read.
-use Rattle.std.specs.Prelude.{◌≡◌, ℕ, Bool, List, map, Option, None, Some, is_some, Result, Ok, Err, if◌then◌else◌}
+use Rattle.std.specs.Prelude.{◌≡◌, ℕ, Bool, true, false, List, map, Option, None, Some, is_some, Result, Ok, Err, if◌then◌else◌}
 use Rattle.std.specs.Option.{ok_or, option_map}
 use Rattle.bosh_types.specs.Rid.{rid_of}
 use Rattle.body_cutter.specs.Cutting.{body_cut_of}
@@ -7,15 +7,17 @@ use Rattle.body_cutter.specs.Pieces.{bytes_at}
 use Rattle.body_cutter.specs.declared.parts.Cut.{Cut}
 use Rattle.body_cutter.specs.declared.parts.CutRefusal.{CutRefusal}
 use Rattle.body_cutter.specs.declared.parts.Span.{Span}
-use Rattle.session_attrs.specs.Forms.{number_of, says_httpbind, terminate_of}
+use Rattle.session_attrs.specs.Forms.{number_of, says_httpbind}
 use Rattle.bosh_client.specs.declared.replies.ClientEnd.{ClientEnd}
 use Rattle.bosh_client.specs.declared.replies.Why.{Why}
 use Rattle.bosh_client.specs.declared.replies.Why.TheVariants as whys
 use Rattle.bosh_client.specs.declared.reading.AnswerError.{AnswerError}
 use Rattle.bosh_client.specs.declared.reading.AnswerError.TheVariants.{Memory, Broken}
+use Rattle.bosh_client.specs.declared.said.AnswerType.{AnswerType}
+use Rattle.bosh_client.specs.declared.said.AnswerType.TheVariants.{Terminate, Error}
 use Rattle.bosh_client.specs.declared.said.Said.{Said}
 use Rattle.bosh_client.specs.declared.told.Told.{Told}
-use Rattle.bosh_client.specs.AnswerMeaning.{condition_of}
+use Rattle.bosh_client.specs.AnswerMeaning.{condition_of, type_of}
 use Rattle.bosh_client.specs.AnswerValues.{AnswerValues, values_of}
 
 -- first this, then the rest, unless a value is out of form
@@ -32,22 +34,30 @@ said read (Some text) = option_map Some (read text)
 -- the attributes that have a form; none where one is out of form
 unfoldable pub said_in : AnswerValues → Option Said
 said_in v = do
-  terminal ← said terminate_of v.type
+  kind ← said type_of v.type
   ack ← said rid_of v.ack
   requests ← said number_of v.requests
   polling ← said number_of v.polling
   maxpause ← said number_of v.maxpause
-  Some (record { terminal = terminal; ack = ack; requests = requests; polling = polling; maxpause = maxpause })
+  Some (record { kind = kind; ack = ack; requests = requests; polling = polling; maxpause = maxpause })
 
 -- how a terminal answer ends the client; another one's condition is not looked at
-abbrev pub end_by : Option (List ℕ) → Option Bool → Option ClientEnd
+abbrev pub end_by : Option (List ℕ) → Option AnswerType → Option ClientEnd
 end_by condition None = None
-end_by condition (Some terminal) = Some (record { condition = option_map condition_of condition })
+end_by condition (Some Terminate) = Some (record { condition = option_map condition_of condition })
+end_by condition (Some Error) = None
+
+-- whether it says that its request counts as not received
+abbrev pub is_error : Option AnswerType → Bool
+is_error None = false
+is_error (Some Terminate) = false
+is_error (Some Error) = true
 
 -- what an answer tells that says this
 abbrev pub told_from : AnswerValues → List (List ℕ) → Said → Told
 told_from v payloads s = record {
-  end = end_by v.condition s.terminal;
+  end = end_by v.condition s.kind;
+  error = is_error s.kind;
   sid = v.sid;
   requests = s.requests;
   polling = s.polling;

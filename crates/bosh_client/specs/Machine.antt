@@ -119,10 +119,12 @@ lacks_sid c rid tells = (rid == c.setup.first) && (is_none tells.end && is_none 
 abbrev pub with_answer : PlainClient → ℕ → Taken → PlainClient
 with_answer c rid answer = record c { answers = c.answers ++ (rid, answer) ∷ [] }
 
+-- an error is no answer of its id: it asks for copies of all requests without one up to this id, XEP-0124 section 17.3
 abbrev pub take_answer : PlainClient → ℕ → List ℕ → ℕ → Result Told Why → PlainClient × Answered
 take_answer c rid body now (Err why) = (c, answerings.Broken why)
 take_answer c rid body now (Ok tells) =
-    if lacks_sid c rid tells then (c, answerings.Broken NoSid)
+    if tells.error then (c, answerings.Again (lowest c) rid)
+    else if lacks_sid c rid tells then (c, answerings.Broken NoSid)
     else (with_answer c rid (record { body = body; tells = tells; moment = now }), answerings.Done)
 
 abbrev pub answer : PlainClient → ℕ → List ℕ → ℕ → PlainClient × Answered

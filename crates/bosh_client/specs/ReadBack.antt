@@ -1,10 +1,10 @@
 -- What the text of an answer tells the client that reads it.
-use Rattle.std.specs.Prelude.{ℕ, ◌≤◌, Option, None, Some, is_some, IfSome}
+use Rattle.std.specs.Prelude.{ℕ, ◌≤◌, Bool, true, false, Option, None, Some, is_some, IfSome}
 use Rattle.std.specs.Option.{option_map}
 use Rattle.bosh_types.specs.Rid.{IsRid}
 use Rattle.bosh_types.specs.declared.condition.Condition.{Condition}
 use Rattle.body_writer.specs.declared.answer.AnswerKind.{AnswerKind}
-use Rattle.body_writer.specs.declared.answer.AnswerKind.TheVariants.{Usual, Terminate}
+use Rattle.body_writer.specs.declared.answer.AnswerKind.TheVariants.{Usual, Terminate, Error}
 use Rattle.body_writer.specs.declared.answer.AnswerParts.{AnswerParts}
 use Rattle.body_writer.specs.declared.answer.Created.{Created}
 use Rattle.bosh_client.specs.declared.replies.ClientEnd.{ClientEnd}
@@ -24,11 +24,18 @@ pub record IsInForm (parts : AnswerParts) : Type 0 where
 abbrev pub end_in : AnswerKind → Option Condition → Option ClientEnd
 end_in Usual condition = None
 end_in Terminate condition = Some (record { condition = condition })
+end_in Error condition = None
+
+abbrev pub is_error_kind : AnswerKind → Bool
+is_error_kind Usual = false
+is_error_kind Terminate = false
+is_error_kind Error = true
 
 -- what an answer with these parts tells
 abbrev pub told_of : AnswerParts → Told
 told_of parts = record {
   end = end_in parts.kind parts.condition;
+  error = is_error_kind parts.kind;
   sid = option_map (λ (c : Created). c.sid) parts.created;
   requests = option_map (λ (c : Created). c.terms.requests) parts.created;
   polling = option_map (λ (c : Created). c.terms.polling) parts.created;

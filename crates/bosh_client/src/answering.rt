@@ -3,7 +3,8 @@ ghost use Rattle.std.specs.Prelude.{◌≡◌, ℕ, ◌+◌, ◌<◌, ◌≤◌,
 ghost use Rattle.bosh_client.specs.Left.{left_in, left_of};
 ghost use Rattle.bosh_client.specs.Machine.{answer, hand_out, lacks_sid, with_answer};
 ghost use Rattle.bosh_client.specs.Places.{comes_next};
-ghost use Rattle.bosh_client.specs.PlainClient.{PlainClient, end_of, request_at, taken};
+ghost use Rattle.bosh_client.specs.declared.replies.Answered.TheVariants as answerings;
+ghost use Rattle.bosh_client.specs.PlainClient.{PlainClient, end_of, lowest, request_at, taken};
 ghost use Rattle.bosh_client.specs.Requests.{agreed_by, agreement};
 ghost use Rattle.bosh_client.specs.StandsFor.{Does, HoldsRequests, StandsFor};
 
@@ -20,8 +21,9 @@ use std::alloc::{AllocError, Global};
 
 impl Client {
     /// An answer to a request came. `Unmade` exactly where there is no such request; else `Stale` exactly where its answer was
-    /// taken before; else `Broken` with the first reason for which the body is no answer; else `Done`. All but `Done` change
-    /// nothing, and the first two take no memory. An `Err` comes from want of memory alone, and the client is as before.
+    /// taken before; else `Broken` with the first reason for which the body is no answer; else `Again`, from the lowest id
+    /// without an answer to this one, where it is an error; else `Done`. All but `Done` change nothing, and the first two take no
+    /// memory. An `Err` comes from want of memory alone, and the client is as before.
     pub fn answer(
         &mut self,
         alloc: Global,
@@ -47,6 +49,9 @@ impl Client {
             Err(AnswerError::Memory) => return Err(AllocError),
             Err(AnswerError::Broken(why)) => return Ok(Answered::Broken(why)),
         };
+        if told.error {
+            return Ok(self.again(rid));
+        }
         if self.lacks_sid(rid, &told) {
             return Ok(Answered::Broken(Why::NoSid));
         }
@@ -103,6 +108,18 @@ impl Client {
         ensures { (plain : PlainClient) → plain.setup ≡ self.now.setup → result ≡ lacks_sid plain rid told.now }
     {
         rid == self.setup.first && told.end.is_none() && told.sid.is_none()
+    }
+
+    // What is to be sent again once the request with this id, which has no answer, counts as not received.
+    #[tactic(auto, unfolding(crate::specs::StandsFor::StandsFor))]
+    fn again(&self, rid: Rid) -> Answered
+        ensures { (plain : PlainClient) → StandsFor self.now plain → is_some (request_at plain rid) ≡ true → is_none (taken plain rid) ≡ true
+            → result ≡ answerings.Again (lowest plain) rid }
+    {
+        // The lowest id without an answer is this one or a lower one, so it is a request id.
+        let _value = rid.value();
+        let first = Rid::new(self.exchanges.lowest()).unwrap_or(rid);
+        Answered::Again { first, last: rid }
     }
 
     // What is agreed by the answer to the creation.

@@ -1,4 +1,4 @@
-ghost use Rattle.std.specs.Prelude.{◌≡◌, ◌↔◌, Err, ℕ, ◌≤◌, ◌++◌, All, List, Ok, Some, length, true};
+ghost use Rattle.std.specs.Prelude.{◌≡◌, ◌↔◌, Err, ℕ, ◌≤◌, ◌++◌, All, List, Ok, Some, false, length, true};
 ghost use Rattle.body_writer.specs.declared.answer.AnswerParts.{AnswerParts};
 ghost use Rattle.body_writer.specs.Answer.{answer_text};
 ghost use Rattle.body_writer.specs.ReadBack.{IsAnswer};
@@ -67,6 +67,11 @@ pub fn requests_carry_what_they_took()
 /// What an answer tells is what its body is read as.
 pub fn answers_tell_their_bodies()
     ensures { (setup : ClientSetup) (calls : List Call) → 1 ≤ setup.first → All (λ answer. answer_of answer.1.body ≡ Ok answer.1.tells) (client_after setup calls).answers }
+{}
+
+/// No error is taken as the answer to a request.
+pub fn no_error_is_taken()
+    ensures { (setup : ClientSetup) (calls : List Call) → 1 ≤ setup.first → All (λ answer. answer.1.tells.error ≡ false) (client_after setup calls).answers }
 {}
 
 /// Reading an answer gives exactly what its attributes and payloads mean, which is one thing at most, and otherwise the

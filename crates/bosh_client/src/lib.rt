@@ -25,9 +25,9 @@ pub use client::Client;
 pub use inbox::Inbox;
 pub use laws::{
     a_body_is_fixed, acknowledgements_are_of_taken_answers, answers_tell_their_bodies,
-    few_requests_are_open, payloads_are_handed_out_in_order, reading_gives_what_an_answer_means,
-    requests_carry_what_they_took, requests_have_the_form_that_reads_back,
-    what_is_put_is_made_once, written_answers_read_back,
+    few_requests_are_open, no_error_is_taken, payloads_are_handed_out_in_order,
+    reading_gives_what_an_answer_means, requests_carry_what_they_took,
+    requests_have_the_form_that_reads_back, what_is_put_is_made_once, written_answers_read_back,
 };
 pub use outgoing::Outgoing;
 pub use replies::{Answered, ClientEnd, Next, Queued, Why};

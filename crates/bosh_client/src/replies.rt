@@ -36,6 +36,9 @@ pub enum Answered {
     Stale,
     /// It is no answer, for this reason.
     Broken(Why),
+    /// Its request counts as not received (XEP-0124, section 17.3): each request without an answer from the first of these ids to the
+    /// last, which is its own, is to be sent again.
+    Again { first: Rid, last: Rid },
 }
 
 /// Why a body is no answer: the first of these that holds.
@@ -45,7 +48,7 @@ pub enum Why {
     Cut(CutRefusal),
     /// It isn't in the namespace of the protocol.
     Namespace,
-    /// Its `type` isn't `terminate`, its `ack` is no request id, or its `requests`, `polling` or `maxpause` is no number.
+    /// Its `type` is neither `terminate` nor `error`, its `ack` is no request id, or its `requests`, `polling` or `maxpause` is no number.
     Attribute,
     /// It answers a creation, has no `type` and names no session.
     NoSid,

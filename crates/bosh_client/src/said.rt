@@ -1,23 +1,32 @@
 ghost use Rattle.std.specs.Prelude.{◌≡◌};
 ghost use Rattle.std.specs.List.{find};
-ghost use Rattle.std.specs.Option.{option_copied};
+ghost use Rattle.std.specs.Option.{option_copied, option_map};
 ghost use Rattle.std.specs.Str.{bytes_eq};
 ghost use Rattle.bosh_types.specs.Condition.{name_of};
 ghost use Rattle.bosh_types.specs.Rid.{rid_of};
-ghost use Rattle.session_attrs.specs.Forms.{number_of, says_httpbind, terminate_of};
-ghost use Rattle.bosh_client.specs.AnswerMeaning.{condition_of};
-ghost use Rattle.bosh_client.specs.AnswerReading.{end_by, said, said_in};
+ghost use Rattle.session_attrs.specs.Forms.{number_of, says_httpbind};
+ghost use Rattle.bosh_client.specs.AnswerMeaning.{condition_of, type_of};
+ghost use Rattle.bosh_client.specs.AnswerReading.{end_by, is_error, said, said_in};
 ghost use Rattle.bosh_client.specs.AnswerValues.{values_of};
 
 use crate::replies::ClientEnd;
 use body_cutter::Cut;
 use bosh_types::{Condition, Rid};
-use session_attrs::{is_httpbind, number_of, terminate_of, value_of};
+use session_attrs::{is_httpbind, number_of, value_of};
+
+// What the `type` of an answer says.
+#[derive(Clone, Copy)]
+pub(crate) enum AnswerType {
+    // The session ends.
+    Terminate,
+    // The request counts as not received.
+    Error,
+}
 
 // What the attributes of an answer say, texts apart.
 #[derive(Clone, Copy)]
 pub(crate) struct Said {
-    pub(crate) terminal: Option<bool>,
+    pub(crate) kind: Option<AnswerType>,
     pub(crate) ack: Option<Rid>,
     pub(crate) requests: Option<u32>,
     pub(crate) polling: Option<u32>,
@@ -29,13 +38,13 @@ pub(crate) struct Said {
 pub(crate) fn said_in(cut: &Cut, text: &[u8]) -> Option<Said>
     ensures { result ≡ said_in (values_of text.now cut.now.attrs) }
 {
-    let terminal = terminal_row(value_of(cut, text, b"type"))?;
+    let kind = type_row(value_of(cut, text, b"type"))?;
     let ack = ack_row(value_of(cut, text, b"ack"))?;
     let requests = number_row(value_of(cut, text, b"requests"))?;
     let polling = number_row(value_of(cut, text, b"polling"))?;
     let maxpause = number_row(value_of(cut, text, b"maxpause"))?;
     Some(Said {
-        terminal,
+        kind,
         ack,
         requests,
         polling,
@@ -43,16 +52,30 @@ pub(crate) fn said_in(cut: &Cut, text: &[u8]) -> Option<Said>
     })
 }
 
-fn terminal_row(value: Option<&[u8]>) -> Option<Option<bool>>
-    ensures { result ≡ said terminate_of (option_copied value.entry) }
+fn type_row(value: Option<&[u8]>) -> Option<Option<AnswerType>>
+    ensures { result ≡ said type_of (option_copied value.entry) }
 {
     let Some(text) = value else {
         return Some(None);
     };
-    match terminate_of(text) {
-        Some(terminal) => Some(Some(terminal)),
+    match type_of(text) {
+        Some(kind) => Some(Some(kind)),
         None => None,
     }
+}
+
+// What a `type` says (XEP-0124, section 17): no other value stands in an answer.
+#[tactic(auto, unfolding(crate::specs::AnswerMeaning::type_of))]
+fn type_of(text: &[u8]) -> Option<AnswerType>
+    ensures { result ≡ type_of text.now }
+{
+    if text == b"terminate".as_slice() {
+        return Some(AnswerType::Terminate);
+    }
+    if text == b"error".as_slice() {
+        return Some(AnswerType::Error);
+    }
+    None
 }
 
 fn ack_row(value: Option<&[u8]>) -> Option<Option<Rid>>
@@ -90,15 +113,34 @@ pub(crate) fn says_httpbind(value: Option<&[u8]>) -> bool
 }
 
 /// How an answer ends the client, where it is terminal: only then its condition is looked at.
-pub(crate) fn end_by(condition: Option<&[u8]>, terminal: Option<bool>) -> Option<ClientEnd>
-    ensures { result ≡ end_by (option_copied condition.entry) terminal }
+pub(crate) fn end_by(condition: Option<&[u8]>, kind: Option<AnswerType>) -> Option<ClientEnd>
+    ensures { result ≡ end_by (option_copied condition.entry) kind }
 {
-    terminal?;
-    match condition {
-        Some(text) => Some(ClientEnd {
-            condition: Some(condition_of(text)),
+    match kind? {
+        AnswerType::Error => None,
+        AnswerType::Terminate => Some(ClientEnd {
+            condition: condition_row(condition),
         }),
-        None => Some(ClientEnd { condition: None }),
+    }
+}
+
+fn condition_row(condition: Option<&[u8]>) -> Option<Condition>
+    ensures { result ≡ option_map condition_of (option_copied condition.entry) }
+{
+    match condition {
+        Some(text) => Some(condition_of(text)),
+        None => None,
+    }
+}
+
+/// Whether an answer says that its request counts as not received (XEP-0124, section 17.3).
+pub(crate) fn is_error(kind: Option<AnswerType>) -> bool
+    ensures { result ≡ is_error kind }
+{
+    match kind {
+        None => false,
+        Some(AnswerType::Terminate) => false,
+        Some(AnswerType::Error) => true,
     }
 }
 

@@ -7,6 +7,8 @@ use bosh_types::Text;
 pub struct Told {
     /// In a terminal answer: how it ends the client.
     pub end: Option<ClientEnd>,
+    /// Whether its request counts as not received, so that it is no answer of its id (XEP-0124, section 17.3).
+    pub error: bool,
     /// The session's id (XEP-0124, section 7).
     pub sid: Option<Text>,
     /// How many requests may be open (XEP-0124, section 11), how far apart empty requests have to lie, and how long a pause

@@ -18,15 +18,18 @@ use Rattle.parked_gate.specs.Histories.{StartsWith}
 use Rattle.parked_gate.specs.Passes.{Known}
 use Rattle.server_ports.specs.Events.{Event, Began, Retired, Begins, Grows, IsUngiven, Retires, exchanges, ports_dialled}
 use Rattle.server_ports.proofs.ExchangeLemmas.{retired_adds}
+use Rattle.client_run.specs.declared.call.Answer.TheVariants as replied
 use Rattle.client_run.specs.declared.call.Call.{Call}
 use Rattle.client_run.specs.declared.call.Call.TheVariants as calls
+use Rattle.client_run.specs.declared.call.Question.TheVariants as questions
 use Rattle.client_run.specs.declared.call.Reply.TheVariants as replies
 use Rattle.client_run.specs.declared.entry.Entry.{Entry}
 use Rattle.client_run.specs.Adding.{by_call}
 use Rattle.client_run.specs.Calls.{changes, reply_in}
 use Rattle.client_run.specs.Carried.{CarriesTold, IsResponses, IsRun, Run, Trip, WasNext, answer_in, answers_in, taken_answers, texts_of}
-use Rattle.client_run.specs.Working.{Called, Exchanges, Move, Moves, Setting, Side, TakesSome, Tries, Wire, answers, asks, dials, fails_to_dial, hand_after, looks, loses, more, none, refuses, request_in, retires, setting_of, wants_memory}
+use Rattle.client_run.specs.Working.{Asked, Called, Exchanges, Hand, Move, Moves, Setting, Side, TakesSome, Tries, Wire, answers, asks, copies, copy_in, dials, fails_to_dial, looks, loses, more, no_hand, none, refuses, request_after, request_in, retires, setting_of, wants_memory}
 use Rattle.client_run.proofs.AddingLemmas.{Makes, called_makes, called_wants}
+use Rattle.client_run.proofs.CopyLemmas.{copy_was_next, next_later}
 use Rattle.client_run.proofs.EndLemmas.{next_name}
 use Rattle.client_run.proofs.LineLemmas.{refuses_tries}
 use Rattle.client_run.proofs.RiseLemmas.{calls_begin, starts_by, starts_later}
@@ -44,9 +47,6 @@ responses_then [] others bytes mid rest is later = subst (λ b. IsResponses othe
 responses_then (trip ∷ trips) others bytes mid rest (count, message, others_are) later = (count, message, responses_then trips others (drop count bytes) mid rest others_are later)
 
 -- Requests that were next stay so.
-
-next_later : (old new : List Entry) (rid : ℕ) (body : List ℕ) → StartsWith new old → WasNext old rid body → WasNext new rid body
-next_later old new rid body grows was = record { log = was.log; begins = starts_later was.log old new was.begins grows; next = was.next }
 
 hand_later : (old new : List Entry) (hand : Option (ℕ × List ℕ)) → StartsWith new old → IfSome hand (λ r. WasNext old r.0 r.1) → IfSome hand (λ r. WasNext new r.0 r.1)
 hand_later old new None grows was = tt
@@ -190,11 +190,12 @@ with_answer rid now answer true old new made = (made.0 ∷ [], made.2, ap (λ x.
 with_answer rid now answer false old new same = ([], same ∙ sym (append-nil old), refl)
 
 -- the request that is at hand after an answer
-hand_next : (old new : List Entry) (rid : ℕ) (body : List ℕ) (answered : Answered) → StartsWith new old → WasNext old rid body → IfSome (hand_after answered (Some (rid, body))) (λ r. WasNext new r.0 r.1)
+hand_next : (old new : List Entry) (rid : ℕ) (body : List ℕ) (answered : Answered) → StartsWith new old → WasNext old rid body → IfSome (request_after answered (Some (rid, body))) (λ r. WasNext new r.0 r.1)
 hand_next old new rid body (answerings.Broken why) grows was = next_later old new rid body grows was
 hand_next old new rid body answerings.Done grows was = tt
 hand_next old new rid body answerings.Unmade grows was = tt
 hand_next old new rid body answerings.Stale grows was = tt
+hand_next old new rid body (answerings.Again first last) grows was = tt
 
 -- the request that was asked for
 asked_next : (old new : Known Entry) (now : ℕ) (next : Next) → Called (calls.Next now) (Ok (replies.Next next)) old new → IfSome (request_in next) (λ r. WasNext new.seen r.0 r.1)
@@ -209,6 +210,11 @@ asked_next old new now (nexts.Request rid body) called = record {
     holds = (now, sym (next_name (next_request called.says.plain now) (nexts.Request rid body) called.says.reply_is));
   };
 }
+
+-- the copy that was asked for
+copied_next : (old new : Known Entry) (rid : ℕ) (body : Option (List ℕ)) → Asked (questions.Copy rid) (Ok (replied.Copy body)) old new → IfSome (copy_in rid body) (λ r. WasNext new.seen r.0 r.1)
+copied_next old new rid None asked = tt
+copied_next old new rid (Some bytes) asked = copy_was_next new.seen rid bytes asked.says
 
 -- what is told twice is the same
 same_told : (a b : List ℕ) (o : Option (List ℕ)) → o ≡ Some a → o ≡ Some b → a ≡ b
@@ -321,7 +327,7 @@ module _ (port : ℕ) (first : List Entry) (earlier : Option (List Event)) where
     entered : (added : List Entry) × (new.mine ≡ known.mine ++ added) × (answers_in added ≡ (if changed then (rid, answer) ∷ [] else []))
     entered = with_answer rid now answer changed known.mine new.mine (called_makes (calls.Answer rid answer now) (replies.Answered a) known new called)
 
-    answered : So port first earlier new (Some later) (hand_after a (Some (rid, body))) told
+    answered : So port first earlier new (Some later) (request_after a (Some (rid, body))) told
     answered = record {
       before = so.before;
       events = so.events;
@@ -431,36 +437,39 @@ module _ (port : ℕ) (first : List Entry) (earlier : Option (List Event)) where
   if_told None P Q f p = tt
   if_told (Some told) P Q f p = f told p
 
-  carried_moved : (moment : Option ℕ) (s t : Side) → Move (setting_of moment port) s t → IfSome s.events (So port first earlier s.known s.wire s.hand) → IfSome t.events (So port first earlier t.known t.wire t.hand)
+  carried_moved : (moment : Option ℕ) (s t : Side) → Move (setting_of moment port) s t → IfSome s.events (So port first earlier s.known s.wire s.hand.request) → IfSome t.events (So port first earlier t.known t.wire t.hand.request)
   carried_moved moment s t (dials events counts wire out begins ungiven kept counted) so =
-      begun_told s.known s.hand wire s.events events begins ungiven kept (subst (λ w. IfSome s.events (So port first earlier s.known w s.hand)) out so)
+      begun_told s.known s.hand.request wire s.events events begins ungiven kept (subst (λ w. IfSome s.events (So port first earlier s.known w s.hand.request)) out so)
   carried_moved moment s t (fails_to_dial counts out failed) so = so
   carried_moved moment s t (asks new next now hand at called) so =
       let added = without_answer (calls.Next now) (changes (reply_in (replies.Next next))) s.known.mine new.mine refl (called_makes (calls.Next now) (replies.Next next) s.known new called) in
-      if_told s.events (So port first earlier s.known s.wire s.hand) (So port first earlier new s.wire (request_in next))
-      (λ told so. more_seen s.known new s.wire s.hand (request_in next) told added.0 (calls_begin s.known new called) added.1 added.2 (asked_next s.known new now next called) so) so
+      if_told s.events (So port first earlier s.known s.wire s.hand.request) (So port first earlier new s.wire (request_in next))
+      (λ told so. more_seen s.known new s.wire s.hand.request (request_in next) told added.0 (calls_begin s.known new called) added.1 added.2 (asked_next s.known new now next called) so) so
   carried_moved moment s t (looks new question answer asked) so =
-      if_told s.events (So port first earlier s.known s.wire s.hand) (So port first earlier new s.wire s.hand) (λ told so. same_hand s.known new s.wire s.hand told asked.begins asked.mine so) so
+      if_told s.events (So port first earlier s.known s.wire s.hand.request) (So port first earlier new s.wire s.hand.request) (λ told so. same_hand s.known new s.wire s.hand.request told asked.begins asked.mine so) so
+  carried_moved moment s t (copies new rid rids body hand asked) so =
+      if_told s.events (So port first earlier s.known s.wire s.hand.request) (So port first earlier new s.wire (copy_in rid body))
+      (λ told so. more_seen s.known new s.wire s.hand.request (copy_in rid body) told [] asked.begins (asked.mine ∙ sym (append-nil s.known.mine)) refl (copied_next s.known new rid body asked) so) so
   carried_moved moment s t (wants_memory new call error called) so =
-      if_told s.events (So port first earlier s.known s.wire s.hand) (So port first earlier new s.wire s.hand)
-      (λ told so. same_hand s.known new s.wire s.hand told (calls_begin s.known new called) (called_wants call error s.known new called) so) so
+      if_told s.events (So port first earlier s.known s.wire s.hand.request) (So port first earlier new s.wire s.hand.request)
+      (λ told so. same_hand s.known new s.wire s.hand.request told (calls_begin s.known new called) (called_wants call error s.known new called) so) so
   carried_moved moment s t (answers new rid body answer old wire now a hand out exchanges at called) so =
-      if_told s.events (So port first earlier s.known s.wire s.hand) (So port first earlier new (Some wire) (hand_after a s.hand))
-      (λ told so. subst (λ h. So port first earlier new (Some wire) (hand_after a h) told) (sym hand)
-      (answered s.known new rid now body answer old wire a told exchanges called (subst (λ h. So port first earlier s.known (Some old) h told) hand (subst (λ w. So port first earlier s.known w s.hand told) out so)))) so
+      if_told s.events (So port first earlier s.known s.wire s.hand.request) (So port first earlier new (Some wire) (request_after a s.hand.request))
+      (λ told so. subst (λ h. So port first earlier new (Some wire) (request_after a h) told) (sym hand)
+      (answered s.known new rid now body answer old wire a told exchanges called (subst (λ h. So port first earlier s.known (Some old) h told) hand (subst (λ w. So port first earlier s.known w s.hand.request told) out so)))) so
   carried_moved moment s t (loses rid body old wire events counts row hand out tries retired counted) so =
       subst (λ h. IfSome events (So port first earlier s.known None h)) (sym hand)
       (ended_told s.known (Some (rid, body)) (Some (rid, body)) old wire s.events events retired (λ told rest gave left_is given_is so. closed_trying s.known old wire rid body told rest gave tries left_is given_is so)
-      (subst (λ h. IfSome s.events (So port first earlier s.known (Some old) h)) hand (subst (λ w. IfSome s.events (So port first earlier s.known w s.hand)) out so)))
+      (subst (λ h. IfSome s.events (So port first earlier s.known (Some old) h)) hand (subst (λ w. IfSome s.events (So port first earlier s.known w s.hand.request)) out so)))
   carried_moved moment s t (refuses rid body old wire events status hand out was retired) so =
       subst (λ h. IfSome events (So port first earlier s.known None h)) (sym hand)
       (ended_told s.known (Some (rid, body)) (Some (rid, body)) old wire s.events events retired (λ told rest gave left_is given_is so. closed_trying s.known old wire rid body told rest gave (refuses_tries old wire body status was) left_is given_is so)
-      (subst (λ h. IfSome s.events (So port first earlier s.known (Some old) h)) hand (subst (λ w. IfSome s.events (So port first earlier s.known w s.hand)) out so)))
+      (subst (λ h. IfSome s.events (So port first earlier s.known (Some old) h)) hand (subst (λ w. IfSome s.events (So port first earlier s.known w s.hand.request)) out so)))
   carried_moved moment s t (retires old events out retired) so =
-      ended_told s.known s.hand None old old s.events events retired (λ told rest gave left_is given_is so. closed_idle s.known old s.hand told rest gave left_is given_is so)
-      (subst (λ w. IfSome s.events (So port first earlier s.known w s.hand)) out so)
+      ended_told s.known s.hand.request None old old s.events events retired (λ told rest gave left_is given_is so. closed_idle s.known old s.hand.request told rest gave left_is given_is so)
+      (subst (λ w. IfSome s.events (So port first earlier s.known w s.hand.request)) out so)
 
-  carried_moves : (moment : Option ℕ) (s t : Side) → Moves (setting_of moment port) s t → IfSome s.events (So port first earlier s.known s.wire s.hand) → IfSome t.events (So port first earlier t.known t.wire t.hand)
+  carried_moves : (moment : Option ℕ) (s t : Side) → Moves (setting_of moment port) s t → IfSome s.events (So port first earlier s.known s.wire s.hand.request) → IfSome t.events (So port first earlier t.known t.wire t.hand.request)
   carried_moves moment s t none so = so
   carried_moves moment s t (more {t = mid} moves move) so = carried_moved moment mid t move (carried_moves moment s mid moves so)
 
@@ -484,12 +493,12 @@ nothing_yet port known (Some told) = record {
 }
 
 -- What a worker's links carried, where none was out at first and none is in the end.
-pub moves_carry : (setting : Setting) (s t : Side) → Moves setting s t → s.wire ≡ None → s.hand ≡ None → t.wire ≡ None → CarriesTold setting.port s.known t.known s.events t.events
+pub moves_carry : (setting : Setting) (s t : Side) → Moves setting s t → s.wire ≡ None → s.hand ≡ no_hand → t.wire ≡ None → CarriesTold setting.port s.known t.known s.events t.events
 moves_carry setting s t moves out hand back =
-    by t.events (subst (λ w. IfSome t.events (So setting.port s.known.mine s.events t.known w t.hand)) back
-    (carried_moves setting.port s.known.mine s.events setting.moment s t moves (subst (λ w. IfSome s.events (So setting.port s.known.mine s.events s.known w s.hand)) (sym out) (subst (λ h. IfSome s.events (So setting.port s.known.mine s.events s.known None h)) (sym hand) (nothing_yet setting.port s.known s.events)))))
+    by t.events (subst (λ w. IfSome t.events (So setting.port s.known.mine s.events t.known w t.hand.request)) back
+    (carried_moves setting.port s.known.mine s.events setting.moment s t moves (subst (λ w. IfSome s.events (So setting.port s.known.mine s.events s.known w s.hand.request)) (sym out) (subst (λ (h : Hand). IfSome s.events (So setting.port s.known.mine s.events s.known None h.request)) (sym hand) (nothing_yet setting.port s.known s.events)))))
   where
-    by : (o : Option (List Event)) → IfSome o (So setting.port s.known.mine s.events t.known None t.hand) → CarriesTold setting.port s.known t.known s.events o
+    by : (o : Option (List Event)) → IfSome o (So setting.port s.known.mine s.events t.known None t.hand.request) → CarriesTold setting.port s.known t.known s.events o
     by None so = record { events = []; grows = tt; carries = tt; dialled = All-nil (λ other. other ≡ setting.port) }
     by (Some told) so = record {
       events = so.before;

@@ -23,8 +23,8 @@ use Rattle.client_run.specs.History.{RepliesTo, Stands, Steps, client_begun, cli
 -- a call whose reply says so left the plain client as it was
 pub unchanged : (c : PlainClient) (call : plain.Call) → changes (step c call).1 ≡ false → (step c call).0 ≡ c
 unchanged c call =
-    step_by c (λ done. changes done.1 ≡ false → done.0 ≡ c) (λ reply nothing same. refl) (λ item changed. absurd (cc)) (λ now due left changed. absurd (cc))
-    (λ rid t made none reads changed. absurd (cc)) (λ payload at changed. absurd (cc)) call
+    step_by c (λ done. changes done.1 ≡ false → done.0 ≡ c) (λ reply nothing same. refl) (λ item changed. absurd (cc)) (λ now due left next changed. absurd (cc))
+    (λ rid t made none reads fine changed. absurd (cc)) (λ payload at changed. absurd (cc)) call
 
 -- the reply of a call under its name
 pub does_called : {X : Type 0} (client : Client) (x : X) (reply : X → plain.Reply) (done : PlainClient × X) → Does client x done → Does client (reply x) (called reply done)

@@ -3,11 +3,13 @@ pub mod AlarmLemmas
 pub mod AttendLemmas
 pub mod CarriedLemmas
 pub mod ClosedLemmas
+pub mod CopyLemmas
 pub mod Crossing
 pub mod EndLemmas
 pub mod HandedLemmas
 pub mod HandingLemmas
 pub mod HistoryLemmas
+pub mod IdLemmas
 pub mod InputLemmas
 pub mod LineLemmas
 pub mod LingerLemmas

@@ -7,7 +7,7 @@ use Rattle.parked_gate.specs.Histories.{Appends, StartsWith}
 use Rattle.parked_gate.specs.Passes.{Calls, Known}
 use Rattle.server_ports.specs.Counts.{Counts, HasFailed, added}
 use Rattle.client_run.specs.declared.entry.Entry.{Entry}
-use Rattle.client_run.specs.Working.{CountsFault, Move, Moves, Row, Setting, Side, Wire, answers, asks, dials, fails_to_dial, looks, loses, more, none, refuses, retires, row_passed, wants_memory}
+use Rattle.client_run.specs.Working.{CountsFault, Move, Moves, Row, Setting, Side, Wire, answers, asks, copies, dials, fails_to_dial, looks, loses, more, none, refuses, retires, row_passed, wants_memory}
 
 -- What was seen goes on.
 
@@ -29,6 +29,7 @@ begins_moved setting s t (dials events counts wire out begins ungiven kept count
 begins_moved setting s t (fails_to_dial counts out failed) = starts_same s.known.seen
 begins_moved setting s t (asks new next now hand at called) = calls_begin s.known new called
 begins_moved setting s t (looks new question answer asked) = asked.begins
+begins_moved setting s t (copies new rid rids body hand asked) = asked.begins
 begins_moved setting s t (wants_memory new call error called) = calls_begin s.known new called
 begins_moved setting s t (answers new rid body answer old wire now answered hand out exchanges at called) = calls_begin s.known new called
 begins_moved setting s t (loses rid body old wire events counts row hand out tries retired counted) = starts_same s.known.seen
@@ -63,6 +64,7 @@ counts_moved setting s t (dials events counts wire out begins ungiven kept count
 counts_moved setting s t (fails_to_dial counts out failed) = failed_counts s.counts counts failed
 counts_moved setting s t (asks new next now hand at called) = same_counts s.counts
 counts_moved setting s t (looks new question answer asked) = same_counts s.counts
+counts_moved setting s t (copies new rid rids body hand asked) = same_counts s.counts
 counts_moved setting s t (wants_memory new call error called) = same_counts s.counts
 counts_moved setting s t (answers new rid body answer old wire now answered hand out exchanges at called) = same_counts s.counts
 counts_moved setting s t (loses rid body old wire events counts row hand out tries retired counted) = fault_counts s.counts counts s.row row counted
@@ -90,6 +92,7 @@ risen_moved setting s mid t moves (dials events counts wire out begins ungiven k
 risen_moved setting s mid t moves (fails_to_dial counts out failed) before some = HasRisen-before s.counts.faults mid.counts.faults counts.faults (moves_count setting s mid moves).faults failed.never_falls failed.risen
 risen_moved setting s mid t moves (asks new next now hand at called) before some = absurd (omega (arith, some))
 risen_moved setting s mid t moves (looks new question answer asked) before some = before some
+risen_moved setting s mid t moves (copies new rid rids body hand asked) before some = absurd (omega (arith, some))
 risen_moved setting s mid t moves (wants_memory new call error called) before some = before some
 risen_moved setting s mid t moves (answers new rid body answer old wire now answered hand out exchanges at called) before some = absurd (omega (arith, some))
 risen_moved setting s mid t moves (loses rid body old wire events counts row hand out tries retired counted) before some = risen_by s.counts mid.counts counts mid.row row (moves_count setting s mid moves) before counted some
@@ -113,6 +116,7 @@ dialled_moved setting s mid t moves (dials events counts wire out begins ungiven
 dialled_moved setting s mid t moves (fails_to_dial counts out failed) before w some = not_both mid.wire w out some
 dialled_moved setting s mid t moves (asks new next now hand at called) before w some = before w some
 dialled_moved setting s mid t moves (looks new question answer asked) before w some = before w some
+dialled_moved setting s mid t moves (copies new rid rids body hand asked) before w some = before w some
 dialled_moved setting s mid t moves (wants_memory new call error called) before w some = before w some
 dialled_moved setting s mid t moves (answers new rid body answer old wire now answered hand out exchanges at called) before w some = before old out
 dialled_moved setting s mid t moves (loses rid body old wire events counts row hand out tries retired counted) before w some = not_both None w refl some
@@ -138,6 +142,7 @@ other_moved setting s t (dials events counts wire out begins ungiven kept counte
 other_moved setting s t (fails_to_dial counts out failed) other = other
 other_moved setting s t (asks new next now hand at called) other = λ some. absurd (omega (arith, some))
 other_moved setting s t (looks new question answer asked) other = other
+other_moved setting s t (copies new rid rids body hand asked) other = λ some. absurd (omega (arith, some))
 other_moved setting s t (wants_memory new call error called) other = other
 other_moved setting s t (answers new rid body answer old wire now answered hand out exchanges at called) other = λ some. absurd (omega (arith, some))
 other_moved setting s t (loses rid body old wire events counts row hand out tries retired counted) other = other_counted s.counts counts s.row row counted other

@@ -56,8 +56,8 @@ ended_later (one ∷ answers) answer is = option_later one.1.tells.end (first_en
 over_step : (c : PlainClient) (call : plain.Call) → OverOn c (step c call).0
 over_step c call =
     step_by c (λ done. OverOn c done.0) (λ reply nothing over. over) (λ item over. over)
-    (λ now due left over. more_requests c _ over)
-    (λ rid t made none reads over. more_answers c (rid, t) over) (λ payload at over. over) call
+    (λ now due left next over. more_requests c _ over)
+    (λ rid t made none reads fine over. more_answers c (rid, t) over) (λ payload at over. over) call
   where
     more_requests : (c : PlainClient) (request : _) → IsOver c → IsOver (record c { requests = c.requests ++ request ∷ [] })
     more_requests c request (inl ended) = inl ended

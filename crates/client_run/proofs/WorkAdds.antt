@@ -5,7 +5,7 @@ use Rattle.client_run.specs.declared.call.Call.TheVariants as calls
 use Rattle.client_run.specs.declared.call.Reply.TheVariants as replies
 use Rattle.client_run.specs.Adding.{AddsOnly, is_of_worker}
 use Rattle.client_run.specs.Calls.{changes, reply_in}
-use Rattle.client_run.specs.Working.{Move, Moves, Setting, Side, answers, asks, dials, fails_to_dial, looks, loses, more, none, refuses, retires, wants_memory}
+use Rattle.client_run.specs.Working.{Move, Moves, Setting, Side, answers, asks, copies, dials, fails_to_dial, looks, loses, more, none, refuses, retires, wants_memory}
 use Rattle.client_run.proofs.AddingLemmas.{adds_both, adds_called, adds_none, called_makes, called_wants}
 
 adds_moved : (setting : Setting) (s t : Side) → Move setting s t → AddsOnly is_of_worker s.known t.known
@@ -14,6 +14,7 @@ adds_moved setting s t (fails_to_dial counts out failed) = adds_none is_of_worke
 adds_moved setting s t (asks new next now hand at called) =
     adds_called is_of_worker s.known new (calls.Next now) (changes (reply_in (replies.Next next))) refl (called_makes (calls.Next now) (replies.Next next) s.known new called)
 adds_moved setting s t (looks new question answer asked) = adds_none is_of_worker s.known new asked.mine
+adds_moved setting s t (copies new rid rids body hand asked) = adds_none is_of_worker s.known new asked.mine
 adds_moved setting s t (wants_memory new call error called) = adds_none is_of_worker s.known new (called_wants call error s.known new called)
 adds_moved setting s t (answers new rid body answer old wire now answered hand out exchanges at called) =
     adds_called is_of_worker s.known new (calls.Answer rid answer now) (changes (reply_in (replies.Answered answered))) refl (called_makes (calls.Answer rid answer now) (replies.Answered answered) s.known new called)

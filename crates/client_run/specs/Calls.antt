@@ -50,5 +50,6 @@ changes (plain.ToAnswer answerings.Done) = true
 changes (plain.ToAnswer answerings.Unmade) = false
 changes (plain.ToAnswer answerings.Stale) = false
 changes (plain.ToAnswer (answerings.Broken why)) = false
+changes (plain.ToAnswer (answerings.Again first last)) = false
 changes (plain.ToHandOut (Some payload)) = true
 changes (plain.ToHandOut None) = false

@@ -1,5 +1,5 @@
 -- How a worker's tries and its work end.
-use Rattle.std.specs.Prelude.{◌≡◌, ℕ, ◌+◌, ◌<◌, ◌⊎◌, Bool, true, false, List, Option, Some, None, Result, Ok, Err}
+use Rattle.std.specs.Prelude.{◌≡◌, ℕ, ◌+◌, ◌<◌, ◌≤◌, ◌⊎◌, Bool, true, false, List, ◌++◌, Option, Some, None, Result, Ok, Err}
 use Rattle.std.specs.declared.alloc.AllocError.{AllocError}
 use Rattle.bosh_client.specs.declared.replies.Next.TheVariants as nexts
 use Rattle.bosh_client.specs.Machine.{next_request}
@@ -10,6 +10,8 @@ use Rattle.parked_gate.specs.Histories.{StartsWith}
 use Rattle.parked_gate.specs.Passes.{Known}
 use Rattle.server_ports.specs.Counts.{Counts}
 use Rattle.server_ports.specs.Events.{Event}
+use Rattle.client_run.specs.declared.carrying.Carried.{Carried}
+use Rattle.client_run.specs.declared.carrying.Carried.TheVariants as carried
 use Rattle.client_run.specs.declared.carrying.Halt.{Halt}
 use Rattle.client_run.specs.declared.carrying.Halt.TheVariants as halts
 use Rattle.client_run.specs.declared.carrying.Tried.{Tried}
@@ -21,7 +23,7 @@ use Rattle.client_run.specs.declared.line.Line.{Line}
 use Rattle.client_run.specs.declared.worked.Worked.{Worked}
 use Rattle.client_run.specs.declared.worked.Worked.TheVariants as worked
 use Rattle.client_run.specs.History.{After}
-use Rattle.client_run.specs.Working.{IsAt, Moves, Row, Setting, Side, Wire, no_row, row_failed, row_of, row_passed, row_refused, side_of}
+use Rattle.client_run.specs.Working.{Hand, IsAt, Moves, Row, Setting, Side, Wire, ids_between, no_hand, no_row, owing, row_failed, row_of, row_passed, row_refused, side_of}
 
 -- a dial that failed is one fault more in a row
 abbrev pub row_after : {X : Type 0} → Option X → Row → Row
@@ -31,14 +33,17 @@ row_after (Some x) row = row
 -- of a link that goes on
 abbrev pub IfSettled : {L : Type 0} → Tried L → (Line L → Type 0) → Type 0
 IfSettled (tried.Settled line) P = P line
+IfSettled (tried.Again line first last) P = P line
 IfSettled tried.Broken P = Unit {0}
 IfSettled tried.Nothing P = Unit {0}
 IfSettled (tried.Refused status) P = Unit {0}
 IfSettled (tried.Fault fault) P = Unit {0}
 
--- what one try came to, from moves up to it: the answer was taken, and the link goes on; or there is no link any more
+-- what one try came to, from moves up to it: the answer was taken, or asked for ids again, and the link goes on; or there is no link
+-- any more
 abbrev pub TriesBy : {L : Type 0} → (Line L → Wire) → Setting → Side → Side → Result (Tried L) AllocError → Type 0
-TriesBy wire setting start s (Ok (tried.Settled line)) = Moves setting start (record s { wire = Some (wire line); hand = None; row = no_row })
+TriesBy wire setting start s (Ok (tried.Settled line)) = Moves setting start (record s { wire = Some (wire line); hand = owing s.hand.again; row = no_row })
+TriesBy wire setting start s (Ok (tried.Again line first last)) = Moves setting start (record s { wire = Some (wire line); hand = owing (ids_between first last ++ s.hand.again); row = no_row })
 TriesBy wire setting start s (Ok tried.Broken) = Moves setting start (record s { wire = None; row = no_row })
 TriesBy wire setting start s (Ok tried.Nothing) = Moves setting start (record s { wire = None; row = row_passed s.row })
 TriesBy wire setting start s (Ok (tried.Refused status)) = Moves setting start (record s { wire = None; row = row_refused s.row status })
@@ -50,11 +55,32 @@ abbrev pub IsHalt : Row → Halt → Type 0
 IsHalt row (halts.Fault fault) = row.faults ≡ 3
 IsHalt row (halts.Refused status) = (row.refusals ≡ 3) × (row.status ≡ status)
 
--- what all tries for one request came to: its answer was taken, or there was one of these rows
-abbrev pub CarriesBy : Setting → Side → Side → Result (Option Halt) AllocError → Type 0
-CarriesBy setting start s (Ok None) = Moves setting start (record s { hand = None; row = no_row })
-CarriesBy setting start s (Ok (Some halt)) = (row : Row) × IsHalt row halt × Moves setting start (record s { row = row })
-CarriesBy setting start s (Err error) = (row : Row) × Moves setting start (record s { row = row })
+-- what all tries for one request came to: its answer was taken, or asked for ids again, or there was one of these rows
+abbrev pub CarriesBy : Setting → Side → Side → Result Carried AllocError → Type 0
+CarriesBy setting start s (Ok carried.Taken) = Moves setting start (record s { row = no_row })
+CarriesBy setting start s (Ok (carried.Again first last)) = Moves setting start (record s { hand = owing (ids_between first last ++ s.hand.again); row = no_row })
+CarriesBy setting start s (Ok (carried.Halted halt)) = (hand : Hand) × (row : Row) × IsHalt row halt × Moves setting start (record s { hand = hand; row = row })
+CarriesBy setting start s (Err error) = (hand : Hand) × (row : Row) × Moves setting start (record s { hand = hand; row = row })
+
+-- an error to the request with this id named ids up to it
+abbrev pub TriesUpTo : {L : Type 0} → ℕ → Tried L → Type 0
+TriesUpTo rid (tried.Settled line) = Unit {0}
+TriesUpTo rid (tried.Again line first last) = (first ≤ rid) × (last ≡ rid)
+TriesUpTo rid tried.Broken = Unit {0}
+TriesUpTo rid tried.Nothing = Unit {0}
+TriesUpTo rid (tried.Refused status) = Unit {0}
+TriesUpTo rid (tried.Fault fault) = Unit {0}
+
+abbrev pub CarriesUpTo : ℕ → Carried → Type 0
+CarriesUpTo rid carried.Taken = Unit {0}
+CarriesUpTo rid (carried.Again first last) = (first ≤ rid) × (last ≡ rid)
+CarriesUpTo rid (carried.Halted halt) = Unit {0}
+
+-- what came of a request and of all copies that were asked for again: nothing is to be sent any more, or there was one of these rows
+abbrev pub ServesBy : Setting → Side → Side → Result (Option Halt) AllocError → Type 0
+ServesBy setting start s (Ok None) = (row : Row) × Moves setting start (record s { hand = no_hand; row = row })
+ServesBy setting start s (Ok (Some halt)) = (hand : Hand) × (row : Row) × IsHalt row halt × Moves setting start (record s { hand = hand; row = row })
+ServesBy setting start s (Err error) = (hand : Hand) × (row : Row) × Moves setting start (record s { hand = hand; row = row })
 
 -- the first link was dialled, or three dials failed in a row
 abbrev pub FirstBy : {L : Type 0} → (Line L → Wire) → Setting → Side → Side → Option (Line L) → Type 0
@@ -134,7 +160,7 @@ halted_by (halts.Refused status) = worked.Refused status
 
 -- a worker made these moves, and ended so
 pub record Works (setting : Setting) (start : Side) (known : Known Entry) (events : Option (List Event)) (counts : Counts) (wire : Option Wire) (result : Result Worked AllocError) : Type 0 where
-  pub hand : Option (ℕ × List ℕ)
+  pub hand : Hand
   pub row : Row
   pub moves : Moves setting start (side_of known events counts wire hand row)
   pub ends : EndsOr setting start.known.seen known.seen row result

@@ -1,8 +1,8 @@
 // The calls with which a worker asks for requests, gives answers, and looks how the client ended.
-ghost use Rattle.client_run.specs.Working.{setting_of};
-ghost use Rattle.std.specs.Prelude.{◌≡◌, MatchResult};
+ghost use Rattle.client_run.specs.Working.{NamesUpTo, setting_of};
+ghost use Rattle.std.specs.Prelude.{◌≡◌, IfOk, MatchResult, Ok, Option, List, ℕ};
 ghost use Rattle.parked_gate.specs.Passes.{IsPassOf, known};
-ghost use Rattle.client_run.specs.Asking.{AnswersBy, AsksBy, LooksBy};
+ghost use Rattle.client_run.specs.Asking.{AnswersBy, AsksBy, CopiesBy, LooksBy};
 ghost use Rattle.client_run.specs.Calls.{IsReplyTo};
 
 use crate::call::{Answer, Call, Question, Reply};
@@ -41,10 +41,29 @@ pub(crate) fn give<R: Wait, C: Clock>(
     requires { IsPassOf site.now.gate.now pass.old }
     ensures pass { IsPassOf site.now.gate.now pass.new }
     ensures answers { AnswersBy (setting_of (C.moment site.now.clock.now) site.now.port) rid body (known pass.old) (known pass.new) result }
+    ensures names { IfOk result (NamesUpTo rid) }
 {
     let now = site.clock.now();
     let reply = site.gate.call(rt, pass, Call::Answer { rid, body, now })?;
     Ok(answered_in(reply))
+}
+
+/// Asks for the bytes of a request that has no answer yet. The only error is want of memory.
+pub(crate) fn copy_of<R: Wait>(
+    rt: &R,
+    gate: &Gate<ClientObject>,
+    pass: &mut Pass<ClientObject>,
+    rid: Rid,
+) -> Result<Option<Text>, AllocError>
+    requires { IsPassOf gate.now pass.old }
+    ensures pass { IsPassOf gate.now pass.new }
+    ensures copies { CopiesBy rid (known pass.old) (known pass.new) result }
+{
+    match gate.look(rt, pass, &Question::Copy { rid }) {
+        Ok(Answer::Copy(body)) => Ok(body),
+        Ok(Answer::Ended(_)) => unreachable!(),
+        Err(AllocError) => Err(AllocError),
+    }
 }
 
 /// Looks how the client ended, if it did.

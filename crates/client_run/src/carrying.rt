@@ -3,8 +3,8 @@ ghost use Rattle.std.specs.Prelude.{◌≡◌, ◌≤◌, ◌∷◌, ◌<◌, �
 ghost use Rattle.std.specs.Option.{option_map};
 ghost use Rattle.parked_gate.specs.Passes.{IsPassOf, Known, known};
 ghost use Rattle.client_run.specs.declared.entry.Entry.{Entry};
-ghost use Rattle.client_run.specs.Worked.{CarriesBy, IfSettled, TriesBy, row_after};
-ghost use Rattle.client_run.specs.Working.{Exchanges, Moves, Row, Side, Wire, is_broken, no_row, setting_of, side_of, wire_of};
+ghost use Rattle.client_run.specs.Worked.{CarriesBy, CarriesUpTo, IfSettled, TriesBy, TriesUpTo, row_after};
+ghost use Rattle.client_run.specs.Working.{Exchanges, Hand, Moves, Row, Side, Wire, holding, no_row, owing, setting_of, side_of, wire_of};
 
 use crate::asking::give;
 use crate::fault::Fault;
@@ -27,6 +27,12 @@ pub(crate) const TRIES: u32 = 3;
 pub(crate) enum Tried<L> {
     /// The answer was taken, and the link can go on.
     Settled(Line<L>),
+    /// The answer was an error, which asks for these ids again, and the link can go on.
+    Again {
+        line: Line<L>,
+        first: Rid,
+        last: Rid,
+    },
     /// A response with status 200 came whose body is no answer.
     Broken,
     /// No response came, and nothing failed.
@@ -34,6 +40,17 @@ pub(crate) enum Tried<L> {
     /// A response with this other status came.
     Refused(u16),
     Fault(Fault),
+}
+
+/// What came of all tries for one request.
+#[derive(Clone, Copy, Debug, PartialEq, Eq)]
+pub(crate) enum Carried {
+    /// Its answer was taken.
+    Taken,
+    /// Its answer was an error: a copy of each request without an answer from the first of these ids to the last is to be sent.
+    Again { first: Rid, last: Rid },
+    /// It is given up.
+    Halted(Halt),
 }
 
 /// Why a request is given up.
@@ -47,7 +64,7 @@ pub(crate) enum Halt {
 
 /// Dials a link.
 pub(crate) fn dial<N: Network>(alloc: Global, network: &mut N, port: u16) -> Option<Line<N::Link>>
-    ensures dials { (moment : Option ℕ) (start : Side) (known : Known Entry) (hand : Option (ℕ × List ℕ)) (row : Row)
+    ensures dials { (moment : Option ℕ) (start : Side) (known : Known Entry) (hand : Hand) (row : Row)
         → Moves (setting_of moment port) start (side_of known (N.events network.old) (N.counts network.old) None hand row)
         → Moves (setting_of moment port) start (side_of known (N.events network.new) (N.counts network.new)
         (option_map (λ line. wire_of (N.Link.left line.link) (N.Link.given line.link) line.reader) result) hand (row_after result row)) }
@@ -69,7 +86,7 @@ fn open<N: Network>(
 where
     N::Link: Drop,
     requires { IfSome line (λ line. N.Link.faults line.link ≡ 0) }
-    ensures opens { (moment : Option ℕ) (start : Side) (known : Known Entry) (hand : Option (ℕ × List ℕ)) (row : Row)
+    ensures opens { (moment : Option ℕ) (start : Side) (known : Known Entry) (hand : Hand) (row : Row)
         → Moves (setting_of moment port) start (side_of known (N.events network.old) (N.counts network.old)
         (option_map (λ line. wire_of (N.Link.left line.link) (N.Link.given line.link) line.reader) line) hand row)
         → Moves (setting_of moment port) start (side_of known (N.events network.new) (N.counts network.new)
@@ -98,11 +115,12 @@ where
     requires pass { IsPassOf site.now.gate.now pass.old }
     requires faultless { IfSome line (λ line. N.Link.faults line.link ≡ 0) }
     ensures pass { IsPassOf site.now.gate.now pass.new }
-    ensures tries { (start : Side) (row : Row)
+    ensures tries { (start : Side) (again : List ℕ) (row : Row)
         → Moves (setting_of (C.moment site.now.clock.now) site.now.port) start (side_of (known pass.old) (N.events network.old) (N.counts network.old)
-        (option_map (λ line. wire_of (N.Link.left line.link) (N.Link.given line.link) line.reader) line) (Some (rid, body.now)) row)
+        (option_map (λ line. wire_of (N.Link.left line.link) (N.Link.given line.link) line.reader) line) (holding rid body.now again) row)
         → TriesBy (λ line. wire_of (N.Link.left line.link) (N.Link.given line.link) line.reader) (setting_of (C.moment site.now.clock.now) site.now.port) start
-        (side_of (known pass.new) (N.events network.new) (N.counts network.new) None (Some (rid, body.now)) row) result }
+        (side_of (known pass.new) (N.events network.new) (N.counts network.new) None (holding rid body.now again) row) result }
+    ensures names { IfOk result (TriesUpTo rid) }
     ensures faultless { IfOk result (λ tried. IfSettled tried (λ line. N.Link.faults line.link ≡ 0)) }
 {
     let Some(line) = open(site.alloc, network, site.port, line) else {
@@ -145,21 +163,25 @@ where
     requires pass { IsPassOf site.now.gate.now pass.old }
     requires faultless { N.Link.faults line.link ≡ 0 }
     ensures pass { IsPassOf site.now.gate.now pass.new }
-    ensures tries { (start : Side) (old : Wire) (body : List ℕ) (row : Row)
+    ensures tries { (start : Side) (old : Wire) (body again : List ℕ) (row : Row)
         → Exchanges old (wire_of (N.Link.left line.link) (N.Link.given line.link) line.reader) body answer
-        → Moves (setting_of (C.moment site.now.clock.now) site.now.port) start (side_of (known pass.old) (N.events network.old) (N.counts network.old) (Some old) (Some (rid, body)) row)
+        → Moves (setting_of (C.moment site.now.clock.now) site.now.port) start (side_of (known pass.old) (N.events network.old) (N.counts network.old) (Some old) (holding rid body again) row)
         → TriesBy (λ line. wire_of (N.Link.left line.link) (N.Link.given line.link) line.reader) (setting_of (C.moment site.now.clock.now) site.now.port) start
-        (side_of (known pass.new) (N.events network.new) (N.counts network.new) None (Some (rid, body)) row) result }
+        (side_of (known pass.new) (N.events network.new) (N.counts network.new) None (holding rid body again) row) result }
+    ensures names { IfOk result (TriesUpTo rid) }
     ensures faultless { IfOk result (λ tried. IfSettled tried (λ line. N.Link.faults line.link ≡ 0)) }
 {
     match give(rt, site, pass, rid, answer) {
-        Ok(answered) => {
-            if is_broken(answered) {
+        Ok(answered) => match answered {
+            Answered::Broken(_) => {
                 network.retire(line.into_link());
-                return Ok(Tried::Broken);
+                Ok(Tried::Broken)
             }
-            Ok(Tried::Settled(line))
-        }
+            Answered::Again { first, last } => Ok(Tried::Again { line, first, last }),
+            Answered::Done => Ok(Tried::Settled(line)),
+            Answered::Unmade => Ok(Tried::Settled(line)),
+            Answered::Stale => Ok(Tried::Settled(line)),
+        },
         Err(AllocError) => {
             network.retire(line.into_link());
             Err(AllocError)
@@ -167,20 +189,10 @@ where
     }
 }
 
-fn is_broken(answered: Answered) -> bool
-    ensures { result ≡ is_broken answered }
-{
-    match answered {
-        Answered::Broken(_) => true,
-        Answered::Done => false,
-        Answered::Unmade => false,
-        Answered::Stale => false,
-    }
-}
-
-/// Sends the request at hand until its answer was given to the client. Each copy is the same bytes, on a new link. It is given up at
-/// the third fault in a row, and at the third response in a row with another status than 200; a response with status 200 begins that
-/// row anew. Where no answer came and nothing failed, the next copy waits for the bell. The only error is want of memory.
+/// Sends the request at hand until its answer was given to the client, and was no broken one. Each copy is the same bytes, on a new
+/// link. It is given up at the third fault in a row, and at the third response in a row with another status than 200; a response with
+/// status 200 begins that row anew. Where no answer came and nothing failed, the next copy waits for the bell. An answer that was taken
+/// rings it. The only error is want of memory.
 pub(crate) fn carry<R: Wait, N: Network, C: Clock, B: Bell>(
     rt: &R,
     site: &Site<'_, C>,
@@ -190,18 +202,19 @@ pub(crate) fn carry<R: Wait, N: Network, C: Clock, B: Bell>(
     line: &mut Option<Line<N::Link>>,
     rid: Rid,
     body: &SharedText,
-) -> Result<Option<Halt>, AllocError>
+) -> Result<Carried, AllocError>
 where
     N::Link: Drop,
     requires pass { IsPassOf site.now.gate.now pass.old }
     requires faultless { IfSome line.old (λ line. N.Link.faults line.link ≡ 0) }
     ensures pass { IsPassOf site.now.gate.now pass.new }
-    ensures carries { (start : Side)
+    ensures carries { (start : Side) (again : List ℕ)
         → Moves (setting_of (C.moment site.now.clock.now) site.now.port) start (side_of (known pass.old) (N.events network.old) (N.counts network.old)
-        (option_map (λ line. wire_of (N.Link.left line.link) (N.Link.given line.link) line.reader) line.old) (Some (rid, body.now)) no_row)
+        (option_map (λ line. wire_of (N.Link.left line.link) (N.Link.given line.link) line.reader) line.old) (holding rid body.now again) no_row)
         → CarriesBy (setting_of (C.moment site.now.clock.now) site.now.port) start
         (side_of (known pass.new) (N.events network.new) (N.counts network.new)
-        (option_map (λ line. wire_of (N.Link.left line.link) (N.Link.given line.link) line.reader) line.new) (Some (rid, body.now)) no_row) result }
+        (option_map (λ line. wire_of (N.Link.left line.link) (N.Link.given line.link) line.reader) line.new) (owing again) no_row) result }
+    ensures names { IfOk result (CarriesUpTo rid) }
     ensures faultless { IfSome line.new (λ line. N.Link.faults line.link ≡ 0) }
     ensures silences { B.silences bell.old ≤ B.silences bell.new }
 {
@@ -216,7 +229,16 @@ where
         match tried {
             Tried::Settled(open) => {
                 *line = Some(open);
-                return Ok(None);
+                bell.ring(BellKey::PUMP);
+                return Ok(Carried::Taken);
+            }
+            Tried::Again {
+                line: open,
+                first,
+                last,
+            } => {
+                *line = Some(open);
+                return Ok(Carried::Again { first, last });
             }
             Tried::Broken => {
                 row = 0;
@@ -233,14 +255,14 @@ where
                 refusals += 1;
                 last = status;
                 if refusals == TRIES {
-                    return Ok(Some(Halt::Refused(status)));
+                    return Ok(Carried::Halted(Halt::Refused(status)));
                 }
                 pause(bell);
             }
             Tried::Fault(fault) => {
                 row += 1;
                 if row == TRIES {
-                    return Ok(Some(Halt::Fault(fault)));
+                    return Ok(Carried::Halted(Halt::Fault(fault)));
                 }
             }
         }

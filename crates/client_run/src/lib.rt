@@ -20,6 +20,7 @@ mod lingering;
 mod object;
 mod queueing;
 mod ready;
+mod repeating;
 mod running;
 mod site;
 mod talking;

@@ -7,13 +7,14 @@ ghost use Rattle.client_run.specs.declared.entry.Entry.{Entry};
 ghost use Rattle.client_run.specs.Adding.{AddsOnly, is_of_worker};
 ghost use Rattle.client_run.specs.Carried.{CarriesTold};
 ghost use Rattle.client_run.specs.Worked.{FirstBy, Works, ended_by, failed_by, halted_by, has_read, is_fault};
-ghost use Rattle.client_run.specs.Working.{Moves, Row, Setting, Side, no_row, setting_of, side_of, wire_of};
+ghost use Rattle.client_run.specs.Working.{Hand, Moves, Row, Setting, Side, no_hand, no_row, setting_of, side_of, wire_of};
 
 use crate::asking::{ask, look};
-use crate::carrying::{Halt, TRIES, carry, dial};
+use crate::carrying::{Halt, TRIES, dial};
 use crate::fault::Fault;
 use crate::line::Line;
 use crate::object::ClientObject;
+use crate::repeating::carry_all;
 use crate::site::Site;
 use crate::worked::Worked;
 use bosh_client::{ClientEnd, Next};
@@ -25,9 +26,10 @@ use std::sync::Wait;
 
 /// Sends what the client has to send, and gives it the answers, until it ended. It dials until it has a link, at most three
 /// times, and a new one for the next body after a link ended or failed; each of its links is retired. A link that failed or
-/// gave no answer is followed by a copy of the same bytes on a new one. A fault is answered once three came in a row for one
-/// request, and `Refused` once three responses to one had another status than 200. Where nothing is due it waits at the bell. The only
-/// error is want of memory.
+/// gave no answer is followed by a copy of the same bytes on a new one. An answer that is an error is followed by a copy of each request
+/// without an answer, from the lowest to that which it answers, in order and each once the one before it has its answer; only then
+/// the next request is asked for. A fault is answered once three came in a row for one request, and `Refused` once three responses to one
+/// had another status than 200. Where nothing is due it waits at the bell. The only error is want of memory.
 pub fn work<R: Wait, N: Network, C: Clock, B: Bell>(
     rt: &R,
     site: &Site<'_, C>,
@@ -41,7 +43,7 @@ where
     ensures pass { IsPassOf site.now.gate.now pass.new }
 
     // It made moves one after the other, with no link out in the end, and ended so.
-    ensures works { Works (setting_of (C.moment site.now.clock.now) site.now.port) (side_of (known pass.old) (N.events network.old) (N.counts network.old) None None no_row)
+    ensures works { Works (setting_of (C.moment site.now.clock.now) site.now.port) (side_of (known pass.old) (N.events network.old) (N.counts network.old) None no_hand no_row)
         (known pass.new) (N.events network.new) (N.counts network.new) None result }
     ensures fault { IfOk result (λ worked. is_fault worked ≡ true → HasRisen (N.counts network.old).faults (N.counts network.new).faults) }
     ensures dialled { IfOk result (λ worked. has_read worked ≡ true → HasRisen (N.counts network.old).dialled (N.counts network.new).dialled) }
@@ -70,7 +72,7 @@ where
 fn first_line<N: Network>(alloc: Global, network: &mut N, port: u16) -> Option<Line<N::Link>>
 where
     N::Link: Drop,
-    ensures dials { (moment : Option ℕ) (start : Side) (known : Known Entry) (hand : Option (ℕ × List ℕ))
+    ensures dials { (moment : Option ℕ) (start : Side) (known : Known Entry) (hand : Hand)
         → Moves (setting_of moment port) start (side_of known (N.events network.old) (N.counts network.old) None hand no_row)
         → FirstBy (λ line. wire_of (N.Link.left line.link) (N.Link.given line.link) line.reader) (setting_of moment port) start
         (side_of known (N.events network.new) (N.counts network.new) None hand no_row) result }
@@ -91,7 +93,7 @@ fn close<N: Network>(network: &mut N, line: Option<Line<N::Link>>)
 where
     N::Link: Drop,
     requires { IfSome line (λ line. N.Link.faults line.link ≡ 0) }
-    ensures closes { (setting : Setting) (start : Side) (known : Known Entry) (hand : Option (ℕ × List ℕ)) (row : Row)
+    ensures closes { (setting : Setting) (start : Side) (known : Known Entry) (hand : Hand) (row : Row)
         → Moves setting start (side_of known (N.events network.old) (N.counts network.old) (option_map (λ line. wire_of (N.Link.left line.link) (N.Link.given line.link) line.reader) line) hand row)
         → Moves setting start (side_of known (N.events network.new) (N.counts network.new) None hand row) }
 {
@@ -116,7 +118,7 @@ where
     requires faultless { IfSome line.old (λ line. N.Link.faults line.link ≡ 0) }
     ensures pass { IsPassOf site.now.gate.now pass.new }
     ensures works { (start : Side) (row : Row)
-        → Moves (setting_of (C.moment site.now.clock.now) site.now.port) start (side_of (known pass.old) (N.events network.old) (N.counts network.old) (option_map (λ line. wire_of (N.Link.left line.link) (N.Link.given line.link) line.reader) line.old) None row)
+        → Moves (setting_of (C.moment site.now.clock.now) site.now.port) start (side_of (known pass.old) (N.events network.old) (N.counts network.old) (option_map (λ line. wire_of (N.Link.left line.link) (N.Link.given line.link) line.reader) line.old) no_hand row)
         → Works (setting_of (C.moment site.now.clock.now) site.now.port) start (known pass.new) (N.events network.new) (N.counts network.new) (option_map (λ line. wire_of (N.Link.left line.link) (N.Link.given line.link) line.reader) line.new) result }
     ensures faultless { IfSome line.new (λ line. N.Link.faults line.link ≡ 0) }
     ensures silent { IfOk result (λ worked. worked ≡ Worked.Silent → HasRisen (B.silences bell.old) (B.silences bell.new)) }
@@ -130,8 +132,8 @@ where
         };
         match next {
             Next::Request { rid, body } => {
-                match carry(rt, site, pass, network, bell, line, rid, &body) {
-                    Ok(None) => bell.ring(BellKey::PUMP),
+                match carry_all(rt, site, pass, network, bell, line, rid, &body) {
+                    Ok(None) => {}
                     Ok(Some(halt)) => return Ok(halted_by(halt)),
                     Err(AllocError) => return Err(AllocError),
                 }

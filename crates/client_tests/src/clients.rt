@@ -178,6 +178,58 @@ fn an_early_answer_is_handed_out_in_its_order(rt: HostRuntime) -> Result<(), Fai
     Ok(())
 }
 
+const ERROR: &[u8] = b"<body xmlns='http://jabber.org/protocol/httpbind' type='error'/>";
+
+// What a manager says to a request.
+#[derive(Clone, Copy, Debug, PartialEq, Eq)]
+enum Reply {
+    Error,
+    OfA,
+    OfB,
+}
+
+impl Reply {
+    fn body(self) -> &'static [u8] {
+        match self {
+            Reply::Error => ERROR,
+            Reply::OfA => OF_A,
+            Reply::OfB => OF_B,
+        }
+    }
+}
+
+// What is to be sent again, from the first id to the last.
+fn again(first: u64, last: u64) -> Option<Answered> {
+    Some(Answered::Again {
+        first: Rid::new(first)?,
+        last: Rid::new(last)?,
+    })
+}
+
+#[test]
+fn an_error_asks_for_all_again_that_have_no_answer(rt: HostRuntime) -> Result<(), Fail> {
+    let mut c = with_requests(rt.alloc())?;
+    c.restart()?;
+    c.next_request(rt.alloc(), Moment::from_millis(0))?;
+    // the id, its answer, and what is made of it
+    let rows = [
+        (1003, Reply::Error, Some(Answered::Unmade)),
+        (1000, Reply::Error, Some(Answered::Stale)),
+        (1002, Reply::Error, again(1001, 1002)),
+        (1001, Reply::Error, again(1001, 1001)),
+        (1001, Reply::OfA, Some(Answered::Done)),
+        (1002, Reply::Error, again(1002, 1002)),
+        (1002, Reply::OfB, Some(Answered::Done)),
+        (1002, Reply::Error, Some(Answered::Stale)),
+    ];
+    for (rid, reply, want) in rows {
+        let answered = takes(rt.alloc(), &mut c, rid, reply.body(), 0)?;
+        assert_eq!(rt; Some(answered), want, "{reply:?} to {rid}");
+    }
+    assert!(rt; hands(&mut c, b"<a/>") && hands(&mut c, b"<b/>") && hands(&mut c, b""));
+    Ok(())
+}
+
 #[test]
 fn an_answer_of_no_request_or_a_second_one_is_nothing(rt: HostRuntime) -> Result<(), Fail> {
     let mut c = created(rt.alloc())?;

@@ -15,6 +15,7 @@ use std::sync::Wait;
 use std::test::Fail;
 
 mod lingering;
+mod repeats;
 mod runs;
 mod talks;
 

@@ -1,8 +1,8 @@
-use Rattle.std.proofs.Common.{◌≡◌, ◌≤◌, None}
+use Rattle.std.proofs.Common.{◌≡◌, ◌≤◌}
 use Rattle.std.specs.Prelude.{IfSome}
 use Rattle.std.specs.Option.{option_map}
 use Rattle.parked_gate.specs.Passes.{IsPassOf, known}
-use Rattle.client_run.specs.Working.{Moves, Row, Side, setting_of, side_of, wire_of}
+use Rattle.client_run.specs.Working.{Moves, Row, Side, no_hand, setting_of, side_of, wire_of}
 use Rattle.client_run.proofs.working.serve.Given as goal
 
 abbrev pub invariant-loop : goal.invariant-loop
@@ -13,6 +13,6 @@ invariant-loop g l = record {
   faultless : IfSome l.line (λ line. g.N.Link.Link.faults line.link ≡ 0);
   silences : g.B.Bell.silences l.fn.bell ≤ g.B.Bell.silences l.bell;
   moves : (start : Side) (row : Row)
-      → Moves (setting_of (g.C.Clock.moment l.site.clock.now) l.site.port) start (side_of (known l.fn.pass) (g.N.Network.events l.fn.network) (g.N.Network.counts l.fn.network) (option_map (λ line. wire_of (g.N.Link.Link.left line.link) (g.N.Link.Link.given line.link) line.reader) l.fn.line) None row)
-      → (later : Row) × Moves (setting_of (g.C.Clock.moment l.site.clock.now) l.site.port) start (side_of (known l.pass) (g.N.Network.events l.network) (g.N.Network.counts l.network) (option_map (λ line. wire_of (g.N.Link.Link.left line.link) (g.N.Link.Link.given line.link) line.reader) l.line) None later);
+      → Moves (setting_of (g.C.Clock.moment l.site.clock.now) l.site.port) start (side_of (known l.fn.pass) (g.N.Network.events l.fn.network) (g.N.Network.counts l.fn.network) (option_map (λ line. wire_of (g.N.Link.Link.left line.link) (g.N.Link.Link.given line.link) line.reader) l.fn.line) no_hand row)
+      → (later : Row) × Moves (setting_of (g.C.Clock.moment l.site.clock.now) l.site.port) start (side_of (known l.pass) (g.N.Network.events l.network) (g.N.Network.counts l.network) (option_map (λ line. wire_of (g.N.Link.Link.left line.link) (g.N.Link.Link.given line.link) line.reader) l.line) no_hand later);
 }

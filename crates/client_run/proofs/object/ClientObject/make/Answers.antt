@@ -1,5 +1,5 @@
 use Rattle.std.proofs.Common.{arith, subst, sym, ◌∙◌, ap, refl, length}
-use Rattle.client_run.proofs.HistoryLemmas.{history_on, length_on, replies_on, stands_on}
+use Rattle.client_run.proofs.HistoryLemmas.{history_on, length_on, replies_on, stands_on, stands_still}
 use Rattle.client_run.specs.History.{Stands, Steps, history_of}
 use Rattle.client_run.proofs.object.ClientObject.make.Goals as goal
 
@@ -12,6 +12,13 @@ invariant_of-self-2 c =
       subst (Stands c.made.new.client) (sym (more ∙ history_on setup calls c.args.caller c.args.call.now)) stands,
       omega (arith, c.in-Some.ensures, (c.self.invariant).1, ap length more, length_on setup calls c.args.caller c.args.call.now),
     )
+
+pub invariant_of-self-then-not-changes : goal.invariant_of-self-then-not-changes
+invariant_of-self-then-not-changes c = (
+  stands_still c.self.inside.client c.made.new.client (history_of c.self.inside.setup.value c.self.inside.calls.items) c.args.call.now c.in_ok-reply.reply (c.self.invariant).0
+      c.in_ok-reply.ensures.step c.in_ok-reply.ensures.named (sym c.changes.ensures ∙ c.if-not-changes.true),
+  (c.self.invariant).1,
+)
 
 pub returns-clause-step : goal.returns-clause-step
 returns-clause-step c =
