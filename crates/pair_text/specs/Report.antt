@@ -49,6 +49,7 @@ seen_text (seen.Over ending) = codes "over " ++ ending_text ending
 seen_text (seen.Got stanza) = codes "got " ++ stanza
 seen_text (seen.Stale rid) = codes "stale " ++ decimal rid
 seen_text (seen.Broken rid) = codes "broken " ++ decimal rid
+seen_text (seen.Again first last) = codes "again " ++ decimal first ++ codes " " ++ decimal last
 seen_text (seen.Ended condition) = codes "ended " ++ end_text condition
 seen_text seen.NoCopy = codes "no copy"
 

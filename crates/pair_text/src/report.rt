@@ -82,6 +82,7 @@ fn push_seen(alloc: Global, text: &mut Vec<u8>, item: &SeenItem) -> Result<(), A
         }
         SeenItem::Stale { rid } => push_rid(alloc, text, "stale ", *rid),
         SeenItem::Broken { rid } => push_rid(alloc, text, "broken ", *rid),
+        SeenItem::Again { first, last } => push_again(alloc, text, *first, *last),
         SeenItem::Ended { condition } => push_words(text, "ended ", end_text(*condition), ""),
         SeenItem::NoCopy => text.extend_from_slice(b"no copy"),
     }
@@ -102,6 +103,14 @@ fn push_rid(alloc: Global, text: &mut Vec<u8>, word: &str, rid: Rid) -> Result<(
 {
     text.extend_from_slice(word.as_bytes())?;
     push_number(alloc, text, rid.value())
+}
+
+// The first id and the last one that are to be sent again.
+fn push_again(alloc: Global, text: &mut Vec<u8>, first: Rid, last: Rid) -> Result<(), AllocError>
+    ensures { OnOk result (text.new.items ≡ text.old.items ++ (codes "again " ++ decimal first ++ codes " " ++ decimal last)) }
+{
+    push_rid(alloc, text, "again ", first)?;
+    push_rid(alloc, text, " ", last)
 }
 
 // A number, and what follows it after a space.

@@ -13,7 +13,7 @@ use Rattle.session_core.specs.Passed.{given_by, if_done}
 use Rattle.session_core.specs.State.{PlainSession, is_over}
 use Rattle.session_laws.proofs.GivenIn.{entry_gives, every_given, one}
 use Rattle.session_laws.proofs.OneMore.{one_more, state_one_more}
-use Rattle.session_laws.proofs.Steps.{back-in_time}
+use Rattle.session_laws.proofs.Steps.{back-in_time, may_enter}
 use Rattle.session_laws.proofs.Tests.{if_false, split}
 use Rattle.world_laws.specs.declared.told.Parked.{Parked}
 use Rattle.session_calls.specs.After.{after_call, all_taken, untaken, with_entered, with_taken}
@@ -49,7 +49,7 @@ module _ (s : PlainSession) (stream : ℕ) (stanza : List ℕ) (now : ℕ) (allo
   entered_gives on room =
       let call = Back stream stanza now in
       let enters : entered_by s call ≡ Some (Made call) = if_false (is_over s) None _ on ∙ ap Some (if_false (is_full s (stanza_cost stanza)) _ (Made call) room) in
-      let given : (after_entry s (Made call)).given ≡ s.given ++ one (given_by s (Made call)) = entry_gives s call allowed (Made call) enters in
+      let given : (after_entry s (Made call)).given ≡ s.given ++ one (given_by s (Made call)) = entry_gives s (Made call) (allowed, enters) in
       ap (λ (u : PlainSession). stanzas u.given) (sym (called_state ToBack (back s stream stanza now)))
       ∙ ap stanzas given ∙ stanzas-append s.given (one (given_by s (Made call)))
       ∙ ap (λ (n : ℕ). stanzas s.given + n) (one_if_done stream stanza (back s stream stanza now).1)
@@ -77,7 +77,7 @@ given_same j call allowed none = by (entered_by (state_of j) call) refl
     by (Some entered) is =
         let s = state_of j in
         let state = ap (λ (t : PlainSession). stanzas t.given) (state_one_more j (told_by entered)) in
-        let given = ap stanzas (entry_gives s call allowed entered is) in
+        let given = ap stanzas (entry_gives s entered (may_enter s call allowed entered is)) in
         let nothing : stanzas (one (given_by s entered)) ≡ 0 = entered_is s (λ e. stanzas (one (given_by s e)) ≡ 0) (λ kind cost now. refl) call none entered is in
         omega (arith, state, given, stanzas-append s.given (one (given_by s entered)), nothing)
 

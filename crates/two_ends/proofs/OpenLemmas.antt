@@ -47,6 +47,7 @@ may_open host greeting request creation body bytes sid terms now served read kin
       creation = (creation, kind, terms_are);
       sid = subst (λ n. IsText n × (1 ≤ length n) × (length n ≤ 64)) (sym sid_is) (name_text, omega arith, omega arith);
       host = host_text host known.0;
+      gap = (omega arith, omega arith);
       greeting = greeting_fits greeting known.1;
     }
 

@@ -43,16 +43,19 @@ return_none world w is (suc place) past news it =
 
 module _ (c : PlainClient) (rid : ℕ) (body : List ℕ) (now : ℕ) where
   unmade_same : (answer c rid body now).1 ≡ answerings.Unmade → (answer c rid body now).0 ≡ c
-  unmade_same = answer_by c rid body now (λ p. p.1 ≡ answerings.Unmade → p.0 ≡ c) (λ is. refl) (λ is. refl) (λ why is. refl) (λ t same is. absurd (cc))
+  unmade_same = answer_by c rid body now (λ p. p.1 ≡ answerings.Unmade → p.0 ≡ c) (λ is. refl) (λ is. refl) (λ is. refl) (λ why is. refl) (λ t same is. absurd (cc))
 
   stale_same : (answer c rid body now).1 ≡ answerings.Stale → (answer c rid body now).0 ≡ c
-  stale_same = answer_by c rid body now (λ p. p.1 ≡ answerings.Stale → p.0 ≡ c) (λ is. refl) (λ is. refl) (λ why is. refl) (λ t same is. absurd (cc))
+  stale_same = answer_by c rid body now (λ p. p.1 ≡ answerings.Stale → p.0 ≡ c) (λ is. refl) (λ is. refl) (λ is. refl) (λ why is. refl) (λ t same is. absurd (cc))
 
   broken_same : (why : Why) → (answer c rid body now).1 ≡ answerings.Broken why → (answer c rid body now).0 ≡ c
-  broken_same why = answer_by c rid body now (λ p. p.1 ≡ answerings.Broken why → p.0 ≡ c) (λ is. refl) (λ is. refl) (λ other is. refl) (λ t same is. absurd (cc))
+  broken_same why = answer_by c rid body now (λ p. p.1 ≡ answerings.Broken why → p.0 ≡ c) (λ is. refl) (λ is. refl) (λ is. refl) (λ other is. refl) (λ t same is. absurd (cc))
+
+  again_same : (first last : ℕ) → (answer c rid body now).1 ≡ answerings.Again first last → (answer c rid body now).0 ≡ c
+  again_same first last = answer_by c rid body now (λ p. p.1 ≡ answerings.Again first last → p.0 ≡ c) (λ is. refl) (λ is. refl) (λ is. refl) (λ why is. refl) (λ t took is. absurd (cc))
 
   pub answers_keep : ((answer c rid body now).0.setup ≡ c.setup) × ((answer c rid body now).0.requests ≡ c.requests)
-  answers_keep = answer_by c rid body now (λ p. (p.0.setup ≡ c.setup) × (p.0.requests ≡ c.requests)) (refl, refl) (refl, refl) (λ why. (refl, refl)) (λ t same. (refl, refl))
+  answers_keep = answer_by c rid body now (λ p. (p.0.setup ≡ c.setup) × (p.0.requests ≡ c.requests)) (refl, refl) (refl, refl) (refl, refl) (λ why. (refl, refl)) (λ t took. (refl, refl))
 
 module _ (world : World) (w : PlainWorld) (is : IsPlain world w) (rid : ℕ) (body : List ℕ) (client : Client) (answered : Answered) (does : Does client answered (answer w.client rid body world.moment)) where
   abbrev after : PlainClient
@@ -88,6 +91,10 @@ module _ (world : World) (w : PlainWorld) (is : IsPlain world w) (rid : ℕ) (bo
     pub broken_step : (why : Why) → answered ≡ answerings.Broken why → news ≡ seen.Broken rid ∷ [] → IsPlainStep news later (returned w rid (answer w.client rid body w.moment))
     broken_step why same it =
         returned_as later (answerings.Broken why) same (unchanged (seen.Broken rid ∷ []) (broken_same w.client rid body w.moment why (sym at_moment.replies ∙ same)) it)
+
+    pub again_step : (first last : ℕ) → answered ≡ answerings.Again first last → news ≡ seen.Again first last ∷ [] → IsPlainStep news later (returned w rid (answer w.client rid body w.moment))
+    again_step first last same it =
+        returned_as later (answerings.Again first last) same (unchanged (seen.Again first last ∷ []) (again_same w.client rid body w.moment first last (sym at_moment.replies ∙ same)) it)
 
     pub done_step : (next : World) → answered ≡ answerings.Done → (before : Option ClientEnd) → before ≡ end_of w.client
         → ((v : PlainWorld) → IsPlain later v

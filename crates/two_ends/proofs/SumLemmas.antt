@@ -28,7 +28,7 @@ use Rattle.bosh_client.specs.declared.replies.Queued.{Queued}
 use Rattle.bosh_client.specs.declared.replies.Queued.TheVariants as queueings
 use Rattle.bosh_client.specs.Machine.{accept, allows_pause, answer, is_full, is_over, next_made, next_request, pause, put, restart, terminate, with_answer, with_request}
 use Rattle.bosh_client.specs.Outgoing.{is_stanza}
-use Rattle.bosh_client.specs.PlainClient.{PlainClient, deliverable, end_of}
+use Rattle.bosh_client.specs.PlainClient.{PlainClient, deliverable, end_of, lowest}
 use Rattle.bosh_client.specs.Promises.{Begins}
 use Rattle.bosh_client.specs.Requests.{agreed}
 use Rattle.bosh_client.specs.Runs as calls
@@ -207,6 +207,7 @@ module _ (w : PlainWorld) (passed : IsPassedOn w.manager) where
       answer_by w.client rid body w.moment (λ p. Begins (deliverable w.client) (deliverable p.0) → GrowsHere 0 0 (returned w rid p))
       (λ begins. kept [] 0 (record { passed = refl; got = refl }) refl)
       (λ begins. kept (seen.Stale rid ∷ []) 0 (record { passed = refl; got = refl }) refl)
+      (λ begins. kept (seen.Again (lowest w.client) rid ∷ []) 0 (record { passed = refl; got = refl }) refl)
       (λ why begins. kept (seen.Broken rid ∷ []) 0 (record { passed = refl; got = refl }) refl)
       (λ t same begins.
       let c : PlainClient = with_answer w.client rid t in

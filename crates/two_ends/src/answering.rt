@@ -43,6 +43,7 @@ impl World {
             Answered::Unmade => Ok(nothing(alloc)),
             Answered::Stale => only(alloc, SeenItem::Stale { rid }),
             Answered::Broken(_) => only(alloc, SeenItem::Broken { rid }),
+            Answered::Again { first, last } => only(alloc, SeenItem::Again { first, last }),
         }
     }
 

@@ -227,5 +227,6 @@ fn opening_of(
         greeting: Stanzas::from_vec(greeting),
         at,
         limit: JOURNAL_BYTES,
+        gap_waits: 1,
     })
 }

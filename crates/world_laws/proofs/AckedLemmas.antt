@@ -43,6 +43,7 @@ below_steady bound = record {
       let both = all_push (IsLow bound) t.processed copy all in
       kept_low t.reporting.on (keep_of t) copy.request.ack bound (p both.0) both.1;
   stands = λ t copy above none small p. p;
+  strikes = λ t rid on is p. p;
   gives = λ t item p. p;
 }
 

@@ -9,7 +9,7 @@ use Rattle.bosh_types.specs.declared.condition.Condition.TheVariants as conditio
 use Rattle.bosh_types.specs.declared.terms.Terms.{Terms}
 use Rattle.body_cutter.specs.Built.{Written}
 use Rattle.body_writer.specs.declared.answer.AnswerKind.{AnswerKind}
-use Rattle.body_writer.specs.declared.answer.AnswerKind.TheVariants.{Usual, Terminate}
+use Rattle.body_writer.specs.declared.answer.AnswerKind.TheVariants.{Usual, Terminate, Error}
 use Rattle.body_writer.specs.declared.answer.AnswerParts.{AnswerParts}
 use Rattle.body_writer.specs.declared.answer.Created.{Created}
 use Rattle.body_writer.specs.Answer.{answer_text}
@@ -101,6 +101,7 @@ kind_short Usual condition = none 100
 kind_short Terminate None = one (value_row (codes "type") (codes "terminate")) 100 (omega arith)
 kind_short Terminate (Some condition) =
     both (one (value_row (codes "type") (codes "terminate")) 40 (omega arith)) (one (value_row (codes "condition") (name_of condition)) 60 (omega (arith, name_long condition)))
+kind_short Error condition = one (value_row (codes "type") (codes "error")) 100 (omega arith)
 
 version_long : (version : ℕ × ℕ) → IsWord version.0 → IsWord version.1 → length (version_value version) ≤ 41
 unfolding version_value

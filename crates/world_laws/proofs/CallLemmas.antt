@@ -4,6 +4,7 @@ use Rattle.std.specs.Prelude.{⊤, is_some}
 use Rattle.std.specs.List.{All}
 use Rattle.std.proofs.lemmas.List.Elements.{All-append, All-cons, All-nil}
 use Rattle.bosh_types.specs.ById.{at_id}
+use Rattle.session_attrs.specs.declared.request.Request.{Request}
 use Rattle.session_core.specs.declared.copy.RequestCopy.{RequestCopy}
 use Rattle.session_core.specs.declared.replies.Collected.{Collected}
 use Rattle.session_core.specs.declared.replies.Collected.TheVariants as collections
@@ -12,7 +13,7 @@ use Rattle.session_core.specs.Machine.{collect, creation_of, is_full, take_inwar
 use Rattle.session_core.specs.Run.{arrival_in, arrivals_of, moment_after}
 use Rattle.session_core.specs.State.{PlainSession, is_over}
 use Rattle.session_core.specs.Time.{is_due}
-use Rattle.session_laws.proofs.Followed.{arrivals-push, moment-push, moment_of}
+use Rattle.session_laws.proofs.Arrivals.{arrivals-push, moment-push, moment_of}
 use Rattle.session_calls.specs.After.{after_call, with_entered}
 use Rattle.world_laws.specs.Sound.{IsSent}
 
@@ -71,6 +72,13 @@ module _ (s : PlainSession) (P : Entered → Type 0) (limit : (kind : Limited) (
   entered_is (BackClosed stream closing now) made entered is = within ServerClosing now (BackClosed stream closing now) made entered is
   entered_is (Tick now) made entered is = ticks_by now made entered is
   entered_is TakeInward made entered is = takes_by made entered is
+
+-- an arrival is entered while the session goes on
+pub arrival_enters : (s : PlainSession) (request : Request) (body : List ℕ) (now : ℕ) → is_over s ≡ false → (entered : Entered) × (entered_by s (Arrive request body now) ≡ Some entered)
+arrival_enters s request body now on =
+    let call : Call = Arrive request body now in
+    let entered : Entered = if is_full s (cost_of call) then Limit Arrival (cost_of call) now else Made call in
+    (entered, ap (λ b. if b then None else Some entered) on)
 
 -- what the call brings is the body of its id, and it comes by this moment
 abbrev pub Brings : List (ℕ × List ℕ) → ℕ → Call → Type 0

@@ -1,6 +1,6 @@
 -- The calls that a world makes of its client.
 use Rattle.std.proofs.Common.{◌≡◌, ℕ, zero, suc, ◌+◌, ◌-◌, ◌≤◌, ◌||◌, List, [], ◌∷◌, ◌++◌, length, refl, sym, ◌∙◌, ap, subst, arith}
-use Rattle.std.specs.Prelude.{Option, Ok, Err, Result, is_none, is_some, nat_lt, not}
+use Rattle.std.specs.Prelude.{false, Option, Ok, Err, Result, is_none, is_some, nat_lt, not}
 use Rattle.std.proofs.lemmas.List.Elements.{All-append, All-cons, All-nil}
 use Rattle.bosh_types.specs.Rid.{greatest_rid}
 use Rattle.bosh_client.specs.declared.outgoing.Outgoing.TheVariants as outgoing
@@ -15,7 +15,7 @@ use Rattle.bosh_client.specs.declared.setup.ClientSetup.{ClientSetup}
 use Rattle.bosh_client.specs.declared.told.Told.{Told}
 use Rattle.bosh_client.specs.AnswerReading.{answer_of}
 use Rattle.bosh_client.specs.Machine.{accept, allows_pause, answer, handed, is_due, is_full, is_over, lacks_sid, new_client, next_made, next_request, pause, put, restart, take_answer, terminate, with_answer, with_request}
-use Rattle.bosh_client.specs.PlainClient.{PlainClient, Taken, deliverable, has_ended, next_id, request_at, taken}
+use Rattle.bosh_client.specs.PlainClient.{PlainClient, Taken, deliverable, has_ended, lowest, next_id, request_at, taken}
 use Rattle.bosh_client.specs.Requests.{agreed}
 use Rattle.bosh_client.specs.Runs.{Call, HandOut, IsAllowed, after, step}
 use Rattle.session_laws.proofs.Lists.{get_some}
@@ -73,15 +73,22 @@ next_by c now P nothing spent made =
 -- An answer is taken, or not.
 
 module _ (c : PlainClient) (rid : ℕ) (body : List ℕ) (now : ℕ) (P : PlainClient × Answered → Type 0) where
-  taken_by : ((why : Why) → P (c, answerings.Broken why)) → ((t : Taken) → t.body ≡ body → P (with_answer c rid t, answerings.Done)) → (told : Result Told Why) → P (take_answer c rid body now told)
-  taken_by broken done (Err why) = broken why
-  taken_by broken done (Ok tells) = split P (lacks_sid c rid tells) (c, answerings.Broken _) _ (λ _. broken _) (λ _. done (record { body = body; tells = tells; moment = now }) refl)
+  -- it tells this, and is no error
+  abbrev pub IsTaken : Taken → Type 0
+  IsTaken t = (t.body ≡ body) × (answer_of t.body ≡ Ok t.tells) × (t.tells.error ≡ false)
 
-  pub answer_by : P (c, answerings.Unmade) → P (c, answerings.Stale) → ((why : Why) → P (c, answerings.Broken why)) → ((t : Taken) → t.body ≡ body → P (with_answer c rid t, answerings.Done))
-      → P (answer c rid body now)
-  answer_by unmade stale broken done =
+  taken_by : P (c, answerings.Again (lowest c) rid) → ((why : Why) → P (c, answerings.Broken why)) → ((t : Taken) → IsTaken t → P (with_answer c rid t, answerings.Done))
+      → (told : Result Told Why) → answer_of body ≡ told → P (take_answer c rid body now told)
+  taken_by again broken done (Err why) reads = broken why
+  taken_by again broken done (Ok tells) reads =
+      split P tells.error (c, answerings.Again (lowest c) rid) _ (λ _. again)
+      (λ fine. split P (lacks_sid c rid tells) (c, answerings.Broken _) _ (λ _. broken _) (λ _. done (record { body = body; tells = tells; moment = now }) (refl, reads, fine)))
+
+  pub answer_by : P (c, answerings.Unmade) → P (c, answerings.Stale) → P (c, answerings.Again (lowest c) rid) → ((why : Why) → P (c, answerings.Broken why))
+      → ((t : Taken) → IsTaken t → P (with_answer c rid t, answerings.Done)) → P (answer c rid body now)
+  answer_by unmade stale again broken done =
       split P (is_none (request_at c rid)) (c, answerings.Unmade) _ (λ _. unmade)
-      (λ _. split P (is_some (taken c rid)) (c, answerings.Stale) _ (λ _. stale) (λ _. taken_by broken done (answer_of body)))
+      (λ _. split P (is_some (taken c rid)) (c, answerings.Stale) _ (λ _. stale) (λ _. taken_by again broken done (answer_of body) refl))
 
 -- All that can be handed out is handed out, one call after the other.
 

@@ -88,7 +88,7 @@ module _ (below : Below) (setup : ClientSetup) where
 
   returned_course : (w : PlainWorld) → IsSound setup w → IsCourse w → (rid : ℕ) (body : List ℕ) → IsCourse (returned w rid (answer w.client rid body w.moment)).after
   returned_course w h course rid body =
-      answer_at w.client rid body w.moment (λ p. IsCourse (returned w rid p).after) course course (λ why. course)
+      answer_at w.client rid body w.moment (λ p. IsCourse (returned w rid p).after) course course course (λ why. course)
       (λ t moment. same_course _ _ w.moment w.manager (record { requests_are = refl; answers_are = refl; setup_is = refl }) (answered_course below setup w h w.manager refl course rid t moment))
 
   returns_to_course : (w : PlainWorld) → IsSound setup w → IsCourse w → (o : Option (ℕ × List ℕ)) → IsCourse (returns_to w o).after

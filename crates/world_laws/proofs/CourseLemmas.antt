@@ -13,9 +13,8 @@ use Rattle.session_core.specs.declared.copy.RequestCopy.{RequestCopy}
 use Rattle.session_core.specs.Journal.{Call, Collect, Entered, Entry, IsAllowed, IsJournal, Journal, TakeInward, Made as MadeCall, Arrive, Back, BackClosed, Tick, Limit, state_of}
 use Rattle.session_core.specs.Machine.{bytes_for, collect, collected_by, collected_bytes, collected_from, creation_of, passed_on, take_inward}
 use Rattle.session_core.specs.Run.{arrival_in, arrivals_from, arrivals_of, moment_after}
-use Rattle.session_core.specs.State.{Issued, PlainSession, Replaced, TicketState, UsedUp, Waits, inward, is_over}
-use Rattle.session_laws.proofs.Carried.{all_first}
-use Rattle.session_laws.proofs.Followed.{every_tells, moment_of}
+use Rattle.session_core.specs.State.{Issued, PlainSession, Replaced, Struck, TicketState, UsedUp, Waits, inward, is_over}
+use Rattle.session_laws.proofs.Arrivals.{moment_of}
 use Rattle.session_laws.proofs.Lists.{get_push, get_some}
 use Rattle.session_laws.proofs.Tests.{is_or_not, neither, not_false, some_is, split, true_false}
 use Rattle.session_calls.specs.After.{after_call, all_taken, untaken, with_taken}
@@ -30,7 +29,7 @@ use Rattle.bosh_client.specs.declared.setup.ClientSetup.{ClientSetup}
 use Rattle.bosh_client.specs.declared.told.Told.{Told}
 use Rattle.bosh_client.specs.AnswerReading.{answer_of}
 use Rattle.bosh_client.specs.Machine.{answer, has_rested, is_due, is_due_by, is_due_of, lacks_sid, next_made, next_request, take_answer, with_answer, with_request}
-use Rattle.bosh_client.specs.PlainClient.{Made, PlainClient, Taken, has_ended, last_moment, last_taken, next_id, queued, request_at, taken}
+use Rattle.bosh_client.specs.PlainClient.{Made, PlainClient, Taken, has_ended, last_moment, last_taken, lowest, next_id, queued, request_at, taken}
 use Rattle.bosh_client.specs.Requests.{agreed}
 use Rattle.bosh_client.specs.Setup.{polls}
 use Rattle.bosh_client.proofs.RequestLemmas.{none_left}
@@ -49,6 +48,8 @@ use Rattle.world_laws.proofs.InwardLemmas.{id_at}
 use Rattle.world_laws.proofs.LowestLemmas.{below_lowest, lowest_next}
 use Rattle.world_laws.proofs.MadeLemmas.{IsQueued, all_queued, alone_of, empty_of, is_empty}
 use Rattle.world_laws.proofs.OnTimeLemmas.{agreed_is, every_terms, start, taken_answered}
+use Rattle.world_laws.proofs.PlaceLemmas.{all_at}
+use Rattle.world_laws.proofs.StateLemmas.{every_moment, every_sound}
 use Rattle.world_laws.proofs.StoodLemmas.{ids, keeping}
 use Rattle.world_laws.proofs.TurnLemmas.{still_over}
 
@@ -109,15 +110,18 @@ next_due c now P nothing spent made =
 
 -- an answer is taken at this moment, or not
 module _ (c : PlainClient) (rid : ℕ) (body : List ℕ) (now : ℕ) (P : PlainClient × Answered → Type 0) where
-  taken_at : ((why : Why) → P (c, answerings.Broken why)) → ((t : Taken) → t.moment ≡ now → P (with_answer c rid t, answerings.Done)) → (told : Result Told Why) → P (take_answer c rid body now told)
-  taken_at broken done (Err why) = broken why
-  taken_at broken done (Ok tells) = split P (lacks_sid c rid tells) (c, answerings.Broken _) _ (λ _. broken _) (λ _. done (record { body = body; tells = tells; moment = now }) refl)
+  taken_at : P (c, answerings.Again (lowest c) rid) → ((why : Why) → P (c, answerings.Broken why)) → ((t : Taken) → t.moment ≡ now → P (with_answer c rid t, answerings.Done)) → (told : Result Told Why)
+      → P (take_answer c rid body now told)
+  taken_at again broken done (Err why) = broken why
+  taken_at again broken done (Ok tells) =
+      split P tells.error (c, answerings.Again (lowest c) rid) _ (λ _. again)
+      (λ _. split P (lacks_sid c rid tells) (c, answerings.Broken _) _ (λ _. broken _) (λ _. done (record { body = body; tells = tells; moment = now }) refl))
 
-  pub answer_at : P (c, answerings.Unmade) → P (c, answerings.Stale) → ((why : Why) → P (c, answerings.Broken why)) → ((t : Taken) → t.moment ≡ now → P (with_answer c rid t, answerings.Done))
-      → P (answer c rid body now)
-  answer_at unmade stale broken done =
+  pub answer_at : P (c, answerings.Unmade) → P (c, answerings.Stale) → P (c, answerings.Again (lowest c) rid) → ((why : Why) → P (c, answerings.Broken why))
+      → ((t : Taken) → t.moment ≡ now → P (with_answer c rid t, answerings.Done)) → P (answer c rid body now)
+  answer_at unmade stale again broken done =
       split P (is_none (request_at c rid)) (c, answerings.Unmade) _ (λ _. unmade)
-      (λ _. split P (is_some (taken c rid)) (c, answerings.Stale) _ (λ _. stale) (λ _. taken_at broken done (answer_of body)))
+      (λ _. split P (is_some (taken c rid)) (c, answerings.Stale) _ (λ _. stale) (λ _. taken_at again broken done (answer_of body)))
 
 last_moment-push : (moment : ℕ) (answers : List (ℕ × Taken)) (answer : ℕ × Taken) → last_moment moment (answers ++ answer ∷ []) ≡ answer.1.moment
 last_moment-push moment [] answer = refl
@@ -158,13 +162,14 @@ all_came_by moment latest (entry ∷ entries) early =
     (all_came_by (moment_after moment entry.entered) latest entries early)
 
 -- no copy of a session came later than its moment
-pub processed_by : (j : Journal) → IsJournal j → (latest k : ℕ) (copy : RequestCopy) → (state_of j).now ≤ latest → slice_get (state_of j).processed k ≡ Some copy → copy.arrived ≤ latest
-processed_by j made latest k copy early at =
-    let tells = every_tells j made in
-    let before : moment_of j.opening.at j.entries ≤ latest = subst (λ (n : ℕ). n ≤ latest) tells.now early in
+pub processed_by : Below → (j : Journal) → IsJournal j → (latest k : ℕ) (copy : RequestCopy) → (state_of j).now ≤ latest → slice_get (state_of j).processed k ≡ Some copy → copy.arrived ≤ latest
+processed_by below j made latest k copy early at =
+    let laws = below.journals j made in
+    let before : moment_of j.opening.at j.entries ≤ latest = subst (λ (n : ℕ). n ≤ latest) (every_moment j made) early in
     let all : All (By latest) (arrivals_of j) =
     All-cons (By latest) (creation_of j.opening) (arrivals_from j.opening.at j.entries) (omega (arith, moments_grow j.opening.at j.entries, before)) (all_came_by j.opening.at latest j.entries before) in
-    all_first (By latest) (arrivals_of j) _ copy all (tells.follows.each _ copy (tells.sound.stand k copy at))
+    let came = laws.arrived (j.opening.request.rid + suc k) copy (laws.run_each (suc k) copy at) in
+    all_at (By latest) (arrivals_of j) came.0 copy all came.1
 
 -- What the manager does after a call changes no ending.
 
@@ -186,6 +191,7 @@ collect_ending s (suc index) = by (slice_get s.tickets index)
     state : (ticket : Issued) (t : TicketState) → (collected_by s index ticket t).0.ending ≡ s.ending
     state ticket Waits = bytes ticket (bytes_for s ticket.rid)
     state ticket Replaced = refl
+    state ticket Struck = refl
     state ticket UsedUp = refl
 
     by : (o : Option Issued) → (collected_from s index o).0.ending ≡ s.ending
@@ -232,7 +238,7 @@ module _ (below : Below) (setup : ClientSetup) (w : PlainWorld) (h : IsSound set
     was_there : is_over s ≡ false → (t : PlainSession) → ((k : ℕ) (x : RequestCopy) → slice_get s.processed k ≡ Some x → slice_get t.processed k ≡ Some x) → (k : ℕ) (copy : RequestCopy)
         → slice_get t.processed k ≡ Some copy → is_some (taken c (c.setup.first + suc k)) ≡ true → slice_get s.processed k ≡ Some copy
     was_there on t begins k copy at has =
-        let few = (every_tells m.journal sound.made).sound.few in
+        let few = (every_sound m.journal sound.made).few in
         let within = taken_answered below setup w h m is on (c.setup.first + suc k) has in
         let y = get_some s.processed k (omega (arith, few, within, start below setup w h m is on)) in
         let same : y.0 ≡ copy = some_is y.0 copy (sym (begins k y.0 y.1) ∙ at) in
@@ -335,6 +341,6 @@ module _ (below : Below) (setup : ClientSetup) (w : PlainWorld) (h : IsSound set
         by (Some m) there rested = λ on.
             let sound = manager_of below setup w h (Some m) there in
             record {
-              came = λ k copy at has. omega (arith, last, processed_by m.journal sound.made w.moment k copy sound.early at);
+              came = λ k copy at has. omega (arith, last, processed_by below m.journal sound.made w.moment k copy sound.early at);
               rested = (rested on).rested;
             }

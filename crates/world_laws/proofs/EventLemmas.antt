@@ -1,6 +1,6 @@
 -- Every event leaves a world sound.
-use Rattle.std.proofs.Common.{◌≡◌, ℕ, zero, suc, ◌<◌, ◌≤◌, ◌^◌, max, inl, false, List, [], ◌∷◌, ◌++◌, length, map, slice_get, refl, sym, ◌∙◌, ap, subst, arith}
-use Rattle.std.specs.Prelude.{None, Some, Option, All}
+use Rattle.std.proofs.Common.{◌≡◌, ℕ, zero, suc, ◌<◌, ◌≤◌, ◌^◌, max, inl, inr, true, false, List, [], ◌∷◌, ◌++◌, length, map, slice_get, refl, sym, ◌∙◌, ap, subst, arith}
+use Rattle.std.specs.Prelude.{None, Some, Ok, Option, All}
 use Rattle.std.proofs.lemmas.List.{map-append}
 use Rattle.std.proofs.lemmas.List.Elements.{All-append, All-cons, All-head, All-nil, All-tail}
 use Rattle.std.proofs.lemmas.Str.{IsUtf8-from_is_utf8}
@@ -24,6 +24,8 @@ use Rattle.session_core.specs.Journal.{IsOpening, IsReadFrom, Journal, none as n
 use Rattle.session_core.specs.Machine.{back, back_closed, created_parts, creation_of, opened}
 use Rattle.session_core.specs.declared.opening.Opening.{Opening}
 use Rattle.session_core.specs.ReadBack.{asked_by}
+use Rattle.session_core.specs.Endings.{error_parts}
+use Rattle.session_core.specs.State.{PlainSession}
 use Rattle.session_core.specs.Run.{arrivals_of}
 use Rattle.session_journal.specs.Entries.{request_in}
 use Rattle.session_laws.proofs.Carried.{one_reading}
@@ -31,8 +33,11 @@ use Rattle.session_laws.proofs.Lists.{at_id-push_still}
 use Rattle.session_laws.proofs.Tests.{none_some}
 use Rattle.bosh_client.specs.declared.replies.Queued.{Queued}
 use Rattle.bosh_client.specs.declared.setup.ClientSetup.{ClientSetup}
+use Rattle.bosh_client.specs.declared.told.Told.{Told}
+use Rattle.bosh_client.specs.AnswerReading.{answer_of}
 use Rattle.bosh_client.specs.Machine.{answer, next_made, next_request, pause, put, restart, terminate, with_answer}
 use Rattle.bosh_client.specs.PlainClient.{Made, PlainClient, Taken, deliverable}
+use Rattle.bosh_client.specs.ReadBack.{told_of}
 use Rattle.bosh_client.specs.Promises.{HasForm, IsNamed}
 use Rattle.bosh_client.specs.Requests.{agreed, creation_parts}
 use Rattle.bosh_client.specs.Runs as calls
@@ -45,13 +50,13 @@ use Rattle.world_laws.specs.declared.seen.Word.TheVariants as words
 use Rattle.world_laws.specs.declared.told.Told.TheVariants as tells
 use Rattle.world_laws.specs.Manager.{PlainManager, Turn, arrives, gives, opens, passes, session, shuts}
 use Rattle.world_laws.specs.Setup.{IsAllowed, IsWorldSetup}
-use Rattle.world_laws.specs.Sound.{IsAnswerTo, IsOpenedBy, IsParkedAt, IsRunClient, IsSent, IsSound, IsSoundEnd, body_taken, sent_of}
+use Rattle.world_laws.specs.Sound.{IsAnswerTo, IsWrittenTo, IsOpenedBy, IsParkedAt, IsRunClient, IsSent, IsSound, IsSoundEnd, body_taken, sent_of}
 use Rattle.world_laws.specs.Steps.{admits, after, at, carried, carries_to, comes, gives_to, host_of, name, opening, passes_to, queues, returned, returns, returns_to, sends, shuts_to, step, taken_refusals, turns}
 use Rattle.world_laws.specs.World.{PlainWorld, new_world}
 use Rattle.world_laws.proofs.AdmittedLemmas.{admitted_here, read_given}
 use Rattle.world_laws.proofs.Below.{Below}
 use Rattle.world_laws.proofs.ClientLemmas.{Queues, answer_by, called_client, handed_client, next_by, pause_queues, put_queues, restart_queues, terminate_queues}
-use Rattle.world_laws.proofs.NameLemmas.{created_bytes, is_named, unnamed_yet}
+use Rattle.world_laws.proofs.NameLemmas.{created_bytes, error_form, error_is, is_named, tells_same, unnamed_yet}
 use Rattle.world_laws.proofs.PlaceLemmas.{all_at}
 use Rattle.world_laws.proofs.RequestLemmas.{IsOf, asked_rid, creation_is, given_read, reads_back, sent_is_of}
 use Rattle.world_laws.proofs.TurnLemmas.{IsSoundTurn, all_follow, arrives_sound, gives_sound, passes_sound, shuts_sound, turned_sound}
@@ -111,11 +116,22 @@ module _ (below : Below) (setup : ClientSetup) where
       })
       (called_client setup w.client (calls.NextRequest w.moment) tt h.client)
 
+  -- what the client takes is no error
+  no_error : (s : PlainSession) (rid : ℕ) (t : Taken) → answer_of t.body ≡ Ok t.tells → t.tells.error ≡ false → IsWrittenTo s (rid, t.body) → IsAnswerTo s (rid, t.body)
+  no_error s rid t reads fine written = elim written [
+    | inl is ↦ is
+    | inr error ↦
+        let same : t.tells ≡ told_of error_parts = tells_same t.body error_parts t.tells reads error (below.answer_read error_parts error_is error_form) in
+        let yes_ : t.tells.error ≡ true = ap (λ (tells : Told). tells.error) same in
+        absurd (cc)
+  ]
+
   -- an answer that was written is taken
-  more_taken : (sent written : List (ℕ × List ℕ)) (answers : List (ℕ × Taken)) (moment index rid : ℕ) (t : Taken) → slice_get written index ≡ Some (rid, t.body) → (o : Option PlainManager)
+  more_taken : (sent written : List (ℕ × List ℕ)) (answers : List (ℕ × Taken)) (moment index rid : ℕ) (t : Taken) → answer_of t.body ≡ Ok t.tells → t.tells.error ≡ false
+      → slice_get written index ≡ Some (rid, t.body) → (o : Option PlainManager)
       → IsSoundEnd setup sent written answers moment o → IsSoundEnd setup sent written (answers ++ (rid, t) ∷ []) moment o
-  more_taken sent written answers moment index rid t is None h = absurd (cc (ap (λ (l : List (ℕ × List ℕ)). slice_get l index) (sym h.0) ∙ is))
-  more_taken sent written answers moment index rid t is (Some m) h =
+  more_taken sent written answers moment index rid t reads fine is None h = absurd (cc (ap (λ (l : List (ℕ × List ℕ)). slice_get l index) (sym h.0) ∙ is))
+  more_taken sent written answers moment index rid t reads fine is (Some m) h =
       let P : ℕ × Taken → Type 0 = λ answer. IsAnswerTo (session m) (body_taken answer) in
       record {
         made = h.made;
@@ -123,7 +139,7 @@ module _ (below : Below) (setup : ClientSetup) where
         arrived = h.arrived;
         parked_at = h.parked_at;
         written_are = h.written_are;
-        taken_are = All-append P answers ((rid, t) ∷ []) h.taken_are (All-cons P (rid, t) [] (all_at (IsAnswerTo (session m)) written index (rid, t.body) h.written_are is) (All-nil P));
+        taken_are = All-append P answers ((rid, t) ∷ []) h.taken_are (All-cons P (rid, t) [] (no_error (session m) rid t reads fine (all_at (IsWrittenTo (session m)) written index (rid, t.body) h.written_are is)) (All-nil P));
         early = h.early;
       }
 
@@ -132,13 +148,13 @@ module _ (below : Below) (setup : ClientSetup) where
 
   return_sound : (w : PlainWorld) → IsSound setup w → (index rid : ℕ) (body : List ℕ) → slice_get w.written index ≡ Some (rid, body) → IsSound setup (returned w rid (answer w.client rid body w.moment)).after
   return_sound w h index rid body is =
-      answer_by w.client rid body w.moment (λ p. IsRunClient setup p.0 → IsSound setup (returned w rid p).after) (λ run. h) (λ run. h) (λ why run. h)
-      (λ t same run. record {
+      answer_by w.client rid body w.moment (λ p. IsRunClient setup p.0 → IsSound setup (returned w rid p).after) (λ run. h) (λ run. h) (λ run. h) (λ why run. h)
+      (λ t took run. record {
         begins = h.begins;
         client = handed_client setup (with_answer w.client rid t) (handed_within (with_answer w.client rid t) (h.begins.first).0 run) run;
         sent_is = h.sent_is;
         time = h.time;
-        manager = more_taken w.sent w.written w.client.answers w.moment index rid t (is ∙ ap (λ (b : List ℕ). Some (rid, b)) (sym same)) w.manager h.manager;
+        manager = more_taken w.sent w.written w.client.answers w.moment index rid t took.1 took.2 (is ∙ ap (λ (b : List ℕ). Some (rid, b)) (sym took.0)) w.manager h.manager;
       })
       (called_client setup w.client (calls.Answer rid body w.moment) tt h.client)
 
@@ -198,14 +214,15 @@ module _ (below : Below) (setup : ClientSetup) where
       let m : PlainManager = record { journal = journal; parked = [] } in
       let answered : ℕ × List ℕ = (o.request.rid, answer_text (created_parts o)) in
       let P = IsAnswerTo (opened o) in
+      let W = IsWrittenTo (opened o) in
       turned_sound below setup sent [] [] moment false m (tells.Answer o.request.rid (answer_text (created_parts o)) ∷ [])
-      (All-cons P answered [] (inl (created_bytes (opened o) o refl)) (All-nil P))
+      (All-cons W answered [] (inl (inl (created_bytes (opened o) o refl))) (All-nil W))
       (record {
         made = (is, nothing_entered);
         opened = by_client;
         arrived = All-cons (IsSent sent) (creation_of o) [] body (All-nil (IsSent sent));
         parked_at = All-nil (IsParkedAt (opened o));
-        written_are = All-nil P;
+        written_are = All-nil W;
         taken_are = All-nil (λ (answer : ℕ × Taken). P (body_taken answer));
         early = by;
       })
@@ -229,6 +246,7 @@ module _ (below : Below) (setup : ClientSetup) where
       creation = (creation, kind, refl);
       sid = (name_text, omega arith, omega arith);
       host = h.begins.host_is;
+      gap = (omega arith, omega arith);
       greeting = (h.begins.stanzas, h.begins.few, h.begins.short);
     }
 

@@ -1,8 +1,8 @@
 -- No call ends a session by a fault of its client, where no copy comes after its answer was taken.
-use Rattle.std.proofs.Common.{◌≡◌, ◌≢◌, ℕ, zero, suc, ◌+◌, ◌*◌, ◌<◌, ◌≤◌, ◌==◌, ◌&&◌, Bool, true, false, List, [], ◌∷◌, ◌++◌, length, slice_get, inl, inr, refl, sym, ◌∙◌, ap, subst, arith, length-append, if◌then◌else◌}
+use Rattle.std.proofs.Common.{◌≡◌, ◌≢◌, ℕ, zero, suc, ◌+◌, ◌*◌, ◌<◌, ◌≤◌, ◌==◌, ◌&&◌, Bool, true, false, List, [], ◌∷◌, ◌++◌, length, map, slice_get, inl, inr, refl, sym, ◌∙◌, ap, subst, arith, append-nil, length-append, if◌then◌else◌}
 use Rattle.std.specs.Prelude.{Option, None, Some, All, IfSome, IsTrue, nat_lt, not, ⊤}
 use Rattle.std.specs.Int.{abs_diff}
-use Rattle.std.proofs.lemmas.Bool.{leb-true, ltb-true}
+use Rattle.std.proofs.lemmas.Bool.{cases_lt, leb-true, ltb-true}
 use Rattle.std.proofs.lemmas.List.{length-drop}
 use Rattle.std.proofs.lemmas.List.Elements.{All-append, All-cons, All-nil}
 use Rattle.bosh_types.specs.ById.{at_id}
@@ -18,25 +18,25 @@ use Rattle.session_core.specs.declared.copy.RequestCopy.{RequestCopy}
 use Rattle.session_core.specs.Copy as copies
 use Rattle.session_core.specs.Facts.{Arrives, Fact, HasKey, IsShort, IsUnnamed, OfNext}
 use Rattle.session_core.specs.Facts as facts
-use Rattle.session_core.specs.Journal.{Arrive, Back, BackClosed, Call, Collect, Entered, IsAllowed, IsJournal, Journal, Made as MadeCall, TakeInward, Tick, after_entry, entered_by, state_of}
+use Rattle.session_core.specs.Journal.{Arrive, Back, BackClosed, Call, Collect, Entered, IsAllowed, Limit, IsJournal, Journal, Made as MadeCall, TakeInward, Tick, after_entry, entered_by, state_of}
 use Rattle.session_core.specs.Kept.{kept_of}
 use Rattle.session_core.specs.Machine.{copy_now, creation_of}
 use Rattle.session_core.specs.Points.{tested_at}
 use Rattle.session_core.specs.Rules.{asked_of, mark_of}
-use Rattle.session_core.specs.Run.{HasNot, arrival_in, arrivals_of, key_after}
-use Rattle.session_core.specs.State.{PlainSession, answered_of, first_of, is_over, last_from, last_of, standing_at}
+use Rattle.session_core.specs.Placed.{ArePlaced, MayStand}
+use Rattle.session_core.specs.Run.{IsReceived, arrivals_of, key_after, placings_of}
+use Rattle.session_core.specs.State.{Placing, PlainSession, Stands, Strikes, answered_of, first_of, is_over, last_from, last_of, standing_at}
 use Rattle.session_core.specs.Time.{time_applied}
 use Rattle.session_core.specs.Window.{is_above}
 use Rattle.session_laws.specs.Growing.{Begins}
-use Rattle.session_laws.proofs.Carried.{all_first}
-use Rattle.session_laws.proofs.Clear.{every_clear}
-use Rattle.session_laws.proofs.Followed.{arrivals-push, every_tells, moment_of}
 use Rattle.session_laws.proofs.Frames.{time_leaves}
 use Rattle.session_laws.proofs.Grows.{steady-all}
 use Rattle.session_laws.proofs.Lists.{get_append, get_some}
+use Rattle.session_laws.proofs.Received.{received_after, received_push, received_strikes, same_copy}
 use Rattle.session_laws.proofs.RunRules.{HasKey as KeyIs, key_steady}
 use Rattle.session_laws.proofs.Steadily.{is_none}
 use Rattle.session_laws.proofs.Tests.{both_true, is_or_not, not_true, some_is}
+use Rattle.session_laws.proofs.TimeStruck.{time_now}
 use Rattle.session_core.specs.Machine.{opened}
 use Rattle.session_calls.specs.After.{after_call, with_entered}
 use Rattle.bosh_client.specs.declared.setup.ClientSetup.{ClientSetup}
@@ -55,6 +55,7 @@ use Rattle.world_laws.proofs.KeyTurns.{HaveKeys, key_fits}
 use Rattle.world_laws.proofs.LowestLemmas.{from_lowest}
 use Rattle.world_laws.proofs.MadeLemmas.{is_empty}
 use Rattle.world_laws.proofs.OnTimeLemmas.{agreed_is, every_terms, journal_made, kept_in_time, lowest_near, opening_terms, sound_manager, start, taken_answered}
+use Rattle.world_laws.proofs.StateLemmas.{every_sound}
 use Rattle.world_laws.proofs.StoodLemmas.{IsLater, first_is, id_within, ids, later_arrives, later_processed, later_stands, setup_is}
 use Rattle.world_laws.proofs.TurnLemmas.{all_follow}
 
@@ -81,18 +82,6 @@ abbrev pub HasRested : PlainClient → ℕ → PlainSession → Type 0
 HasRested c moment s =
     (k : ℕ) (copy : RequestCopy) (request : Made) → slice_get s.processed k ≡ Some copy → slice_get c.requests (suc (suc k)) ≡ Some request
     → is_empty request.parts ≡ true → polls c.setup ≡ true → copy.arrived + s.terms.polling * 1000 ≤ moment
-
--- a copy with this id came at this moment or later
-abbrev ArrivedBy : ℕ → ℕ → RequestCopy → Type 0
-ArrivedBy rid moment other = copies.id_of other ≡ rid → moment ≤ other.arrived
-
-arrives_now : (rid moment latest : ℕ) (k : Call) → ComesNow moment k → All (ArrivedBy rid moment) (arrival_in latest (MadeCall k))
-arrives_now rid moment latest (Arrive request body now) here = All-cons (ArrivedBy rid moment) _ [] (λ same. omega (arith, here)) (All-nil (ArrivedBy rid moment))
-arrives_now rid moment latest (Collect ticket) here = All-nil (ArrivedBy rid moment)
-arrives_now rid moment latest (Back stream stanza now) here = All-nil (ArrivedBy rid moment)
-arrives_now rid moment latest (BackClosed stream closing now) here = All-nil (ArrivedBy rid moment)
-arrives_now rid moment latest (Tick now) here = All-nil (ArrivedBy rid moment)
-arrives_now rid moment latest TakeInward here = All-nil (ArrivedBy rid moment)
 
 -- What lies so far apart is not near.
 too_near : (one other far : ℕ) → abs_diff one other < far → other + far ≤ one → ⊥
@@ -170,7 +159,7 @@ module _ (below : Below) (setup : ClientSetup) (w : PlainWorld) (h : IsSound set
         let same : last_of t ≡ last_of s = ap (λ (v : PlainSession). last_of v) leaves in
         let terms : reach t.terms.requests extra ≡ reach s.terms.requests extra = ap (λ (v : PlainSession). reach v.terms.requests extra) leaves in
         let agrees : reach (l.terms).requests extra ≡ reach s.terms.requests extra = ap (λ (n : ℕ). reach n extra) (agreed_is below setup w h m is on l.terms l.agrees).0 in
-        let few = (every_tells m.journal (journal_made below setup w h m is on)).sound.few in
+        let few = (every_sound m.journal (journal_made below setup w h m is on)).few in
         omega (arith, past, same, terms, agrees, (l.keeps).near, lowest_near below setup w h m is on, few)
     not_above rid (Collect ticket) allowed brings fact = fact
     not_above rid (Back stream stanza now) allowed brings fact = fact
@@ -226,7 +215,7 @@ module _ (below : Below) (setup : ClientSetup) (w : PlainWorld) (h : IsSound set
           omega (arith, taken_answered below setup w h m is on id has, start_too)
 
       few : length s.answered ≤ length s.processed
-      few = (every_tells m.journal (journal_made below setup w h m is on)).sound.few
+      few = (every_sound m.journal (journal_made below setup w h m is on)).few
 
       same_last : length s.processed ≡ k
       same_last =
@@ -242,23 +231,63 @@ module _ (below : Below) (setup : ClientSetup) (w : PlainWorld) (h : IsSound set
           let less : u.terms.hold ≤ (asked_of u).held = leb-true u.terms.hold (asked_of u).held crowded in
           omega (arith, some, less, none_held)
 
+      -- before the call no copy was received with its id
+      none_before : (other : RequestCopy) → IsReceived s.placings rid other → ⊥
+      none_before other received =
+          let laws = below.journals m.journal (journal_made below setup w h m is on) in
+          let first : first_of s ≡ m.journal.opening.request.rid + 0 = (laws.run_each 0 s.creation refl).0 in
+          let long : rid ≡ m.journal.opening.request.rid + suc (length s.processed) = omega (arith, first, same_last, next, start below setup w h m is on, start_too) in
+          (laws.run on).ends other
+          (subst (λ n. IsReceived (placings_of m.journal) n other) long (received_after (Stands (creation_of m.journal.opening)) s.placings rid other received))
+
+      module _ (entered : Entered) (placed : ArePlaced s entered (after_entry s entered)) (received : IsReceived (after_entry s entered).placings rid copy) where
+        abbrev strikes : List Placing
+        strikes = map (λ n. Strikes n (tested_at s entered).now) placed.struck
+
+        -- so something came to stand with the call
+        stood_none : placed.stood ≡ [] → ⊥
+        stood_none none =
+            let same : (after_entry s entered).placings ≡ s.placings ++ strikes =
+            placed.placings_are ∙ ap (λ stood. (s.placings ++ strikes) ++ map Stands stood) none ∙ append-nil (s.placings ++ strikes) in
+            none_before copy (received_strikes placed.struck (tested_at s entered).now s.placings rid copy (subst (λ l. IsReceived l rid copy) same received))
+
+        -- and it is this copy
+        stood_one : (other : RequestCopy) → placed.stood ≡ other ∷ [] → copy ≡ other
+        stood_one other one =
+            let same : (after_entry s entered).placings ≡ (s.placings ++ strikes) ++ Stands other ∷ [] =
+            placed.placings_are ∙ ap (λ stood. (s.placings ++ strikes) ++ map Stands stood) one in
+            elim (received_push (s.placings ++ strikes) (Stands other) rid copy (subst (λ l. IsReceived l rid copy) same received)) [
+              | inl is_other ↦ same_copy copy other is_other
+              | inr earlier ↦ absurd (none_before copy (received_strikes placed.struck (tested_at s entered).now s.placings rid copy earlier.0))
+            ]
+
       -- it came at this moment
+      not_early : (k : Call) → ComesNow w.moment k → (placed : ArePlaced s (MadeCall k) (after_entry s (MadeCall k)))
+          → IsReceived (after_entry s (MadeCall k)).placings rid copy → copy.arrived < w.moment → ⊥
+      not_early (Arrive request body now) here placed received early =
+          let entered : Entered = MadeCall (Arrive request body now) in
+          let came : RequestCopy = copy_now (time_applied s now) request body in
+          let may_not : MayStand (time_applied s now) came → ⊥ = λ may.
+          let one : copy ≡ came = stood_one entered placed received came (placed.stand.may may) in
+          omega (arith, early, here, time_now s now, ap (λ (x : RequestCopy). x.arrived) one) in
+          stood_none entered placed received (placed.stand.may_not may_not)
+      not_early (Collect ticket) here placed received early = stood_none (MadeCall (Collect ticket)) placed received placed.stand
+      not_early (Back stream stanza now) here placed received early = stood_none (MadeCall (Back stream stanza now)) placed received placed.stand
+      not_early (BackClosed stream closing now) here placed received early = stood_none (MadeCall (BackClosed stream closing now)) placed received placed.stand
+      not_early (Tick now) here placed received early = stood_none (MadeCall (Tick now)) placed received placed.stand
+      not_early TakeInward here placed received early = stood_none (MadeCall TakeInward) placed received placed.stand
+
       came_now : (entered : Entered) → entered_by s call ≡ Some entered → w.moment ≤ copy.arrived
-      came_now entered at =
-          let P : RequestCopy → Type 0 = ArrivedBy rid w.moment in
-          let made = journal_made below setup w h m is on in
-          let on_standing : standing_at s (last_of s + 1) ≡ None = (every_clear m.journal made).1 on in
-          let here : last_of s + 1 ≡ rid = omega (arith, same_last, next, start below setup w h m is on, start_too) in
-          let later : first_of s < rid = omega (arith, here) in
-          let had_not : HasNot (arrivals_of m.journal) rid = (every_tells m.journal made).follows.all on rid later (ap (standing_at s) (sym here) ∙ on_standing) in
-          let before : All P (arrivals_of m.journal) = all_follow (λ (other : RequestCopy). copies.id_of other ≢ rid) P (arrivals_of m.journal) (λ other differs same. absurd (differs same)) had_not in
-          let moment : ℕ = moment_of m.journal.opening.at m.journal.entries in
-          let with_it : All P (arrival_in moment entered) = entered_is s (λ e. All P (arrival_in moment e)) (λ kind cost now. All-nil P) call (arrives_now rid w.moment moment call now_is) entered at in
-          let arrivals_are : arrivals_of j ≡ arrivals_of m.journal ++ arrival_in moment entered =
-          ap (λ e. arrivals_of (with_entered m.journal e)) at ∙ ap (λ (l : List RequestCopy). creation_of m.journal.opening ∷ l) (arrivals-push m.journal.opening.at m.journal.entries (told_by entered)) in
-          let all : All P (arrivals_of j) = subst (λ (l : List RequestCopy). All P l) (sym arrivals_are) (All-append P (arrivals_of m.journal) (arrival_in moment entered) before with_it) in
-          let came = (every_tells j grown.made).follows.each rid copy stands in
-          all_first P (arrivals_of j) rid copy all came came.0
+      came_now entered at = elim (cases_lt copy.arrived w.moment) [
+        | inl early ↦
+            let P : Entered → Type 0 = λ e. (placed : ArePlaced s e (after_entry s e)) → IsReceived (after_entry s e).placings rid copy → ⊥ in
+            let placed = (below.journals m.journal (journal_made below setup w h m is on)).placed call entered allowed at in
+            let after : u ≡ after_entry s entered = ap (λ e. state_of (with_entered m.journal e)) at ∙ below.state_is m.journal (told_by entered) in
+            let received : IsReceived (after_entry s entered).placings rid copy =
+            subst (λ (v : PlainSession). IsReceived v.placings rid copy) after (((below.journals j grown.made).stands rid copy).0 stands) in
+            absurd (entered_is s P (λ kind cost now placed received. stood_none (Limit kind cost now) placed received placed.stand) call (λ placed received. not_early call now_is placed received early) entered at placed received)
+        | inr late ↦ late
+      ]
 
       not_bare : (entered : Entered) → entered_by s call ≡ Some entered → u.terms.polled ≡ true → is_bare_poll (asked_of u).prior ≡ true → nat_lt (apart (mark_of copy) (asked_of u).prior) (u.terms.polling * 1000) ≡ true → ⊥
       not_bare entered at polled bare close =

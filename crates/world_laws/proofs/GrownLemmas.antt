@@ -5,9 +5,9 @@ use Rattle.bosh_types.specs.declared.ending.Ending.{Ending}
 use Rattle.session_core.specs.Journal.{Call, Collect, Entered, Journal, IsAllowed, IsJournal, TakeInward, entered_by, none, state_of, step}
 use Rattle.session_core.specs.Machine.{bytes_for}
 use Rattle.session_core.specs.Run.{arrivals_of}
-use Rattle.session_core.specs.State.{PlainSession}
+use Rattle.session_core.specs.State.{Issued, PlainSession}
 use Rattle.session_laws.specs.Growing.{Begins, Grows}
-use Rattle.session_laws.proofs.Followed.{every_tells, moment_of}
+use Rattle.session_laws.proofs.Arrivals.{moment_of}
 use Rattle.session_laws.proofs.Grows.{begins_same, grows_all}
 use Rattle.world_laws.specs.declared.told.Parked.{Parked}
 use Rattle.session_calls.specs.After.{after_call, all_taken, untaken, with_entered, with_taken}
@@ -15,6 +15,7 @@ use Rattle.world_laws.specs.Manager.{all_collected}
 use Rattle.world_laws.specs.Sound.{IsSent, IsTicketOf}
 use Rattle.world_laws.proofs.Below.{Below}
 use Rattle.world_laws.proofs.CallLemmas.{Brings, arrivals_after, moment_later, told_by}
+use Rattle.world_laws.proofs.StateLemmas.{every_moment}
 use Rattle.world_laws.proofs.TicketLemmas.{ticket_stays}
 
 pub record Grown (sent : List (ℕ × List ℕ)) (moment : ℕ) (j k : Journal) : Type 0 where
@@ -84,19 +85,29 @@ module _ (below : Below) where
     call_opening j None = refl
     call_opening j (Some entered) = refl
 
+    -- a ticket stays of its id, whatever is struck with the call
+    call_tickets : (j : Journal) (call : Call) → IsAllowed call → IsJournal j → (number rid : ℕ) → IsTicketOf (state_of j).tickets number rid → IsTicketOf (step (state_of j) call).0.tickets number rid
+    call_tickets j call allowed made number rid ticket = by (entered_by (state_of j) call) refl
+      where
+        by : (e : Option Entered) → entered_by (state_of j) call ≡ e → IsTicketOf (step (state_of j) call).0.tickets number rid
+        by None is = subst (λ (s : PlainSession). IsTicketOf s.tickets number rid) (sym ((below.journals j made).unentered call is)) ticket
+        by (Some entered) is =
+            let laws = below.journals j made in
+            let placed = laws.placed call entered allowed is in
+            subst (λ (tickets : List Issued). IsTicketOf tickets number rid) (sym (laws.tickets call entered placed is)) (ticket_stays (state_of j) placed.struck call number rid ticket)
+
     pub call_grows : (j : Journal) (call : Call) → IsAllowed call → Brings sent moment call → IsJournal j → Grown sent moment j (after_call j call)
     call_grows j call allowed brings made = record {
       made = call_made j call allowed made;
       opening_is = call_opening j (entered_by (state_of j) call);
       bytes = call_bytes j call allowed made;
       tickets = λ number rid is.
-          subst (λ tickets. IsTicketOf tickets number rid) (sym ((below.journals j made).tickets call) ∙ ap (λ (s : PlainSession). s.tickets) (sym (state_after j call made)))
-          (ticket_stays (state_of j) call number rid is);
+          subst (λ (s : PlainSession). IsTicketOf s.tickets number rid) (sym (state_after j call made)) (call_tickets j call allowed made number rid is);
       arrivals = arrivals_after sent moment j call brings;
       early = λ is.
-          let before : moment_of j.opening.at j.entries ≤ moment = subst (λ (n : ℕ). n ≤ moment) (every_tells j made).now is in
+          let before : moment_of j.opening.at j.entries ≤ moment = subst (λ (n : ℕ). n ≤ moment) (every_moment j made) is in
           let later = call_made j call allowed made in
-          subst (λ (n : ℕ). n ≤ moment) (sym (every_tells (after_call j call) later).now) (moment_later sent moment j call brings before);
+          subst (λ (n : ℕ). n ≤ moment) (sym (every_moment (after_call j call) later)) (moment_later sent moment j call brings before);
       ending = (call_keeps j call allowed made).ending;
       processed = (call_keeps j call allowed made).processed;
       answered = (call_keeps j call allowed made).answered;

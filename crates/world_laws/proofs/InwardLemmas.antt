@@ -11,7 +11,6 @@ use Rattle.session_core.specs.Run.{arrivals_of, run_of}
 use Rattle.session_core.specs.State.{inward}
 use Rattle.session_laws.specs.OneBody.{RunCarries, SendsOneBody, carried}
 use Rattle.session_laws.specs.OneBody as bodies
-use Rattle.session_laws.proofs.Carried.{all_first}
 use Rattle.session_laws.proofs.Lists.{get_some, get_within}
 use Rattle.session_laws.proofs.Tests.{some_is}
 use Rattle.bosh_client.specs.declared.setup.ClientSetup.{ClientSetup}
@@ -80,7 +79,8 @@ module _ (below : Below) (setup : ClientSetup) (w : PlainWorld) (h : IsSound set
   stands k within =
       let copy = get_some (run_of m.journal) k within in
       let first = (below.journals m.journal sound.made).run_each k copy.0 copy.1 in
-      let sent : at_id w.sent (copies.id_of copy.0) ≡ Some (copy.0).body = all_first (IsSent w.sent) (arrivals_of m.journal) (m.journal.opening.request.rid + k) copy.0 sound.arrived first in
+      let came = (below.journals m.journal sound.made).arrived (m.journal.opening.request.rid + k) copy.0 first in
+      let sent : at_id w.sent (copies.id_of copy.0) ≡ Some (copy.0).body = all_at (IsSent w.sent) (arrivals_of m.journal) came.0 copy.0 sound.arrived came.1 in
       let rid : copies.id_of copy.0 ≡ setup.first + k = first.0 ∙ ap (λ (n : ℕ). n + k) rid_is in
       let there : at_id w.sent (setup.first + k) ≡ Some (copy.0).body = ap (at_id w.sent) (sym rid) ∙ sent in
       let of = sent_is_of requests (setup.first + k) (copy.0).body (ap (λ (l : List (ℕ × List ℕ)). at_id l (setup.first + k)) (sym h.sent_is) ∙ there) in

@@ -26,6 +26,7 @@ pub mod Rows
 pub mod SeenLemmas
 pub mod ShapeLemmas
 pub mod ShownLemmas
+pub mod StateLemmas
 pub mod StoodLemmas
 pub mod TicketLemmas
 pub mod TimelyLemmas

@@ -318,7 +318,7 @@ keep_step setup c call short client h =
           let was = h.each k r is in
           (was.0, was.1, still_keeps c (record c { accepted = c.accepted ++ item ∷ [] }) was.0 k r refl (omega arith) (λ id taken. taken) was.2);
     })
-    (λ now due left. next_all setup c now client due h) (λ rid t made none reads. answers_all setup c rid t client none h)
+    (λ now due left next. next_all setup c now client due h) (λ rid t made none reads fine. answers_all setup c rid t client none h)
     (λ payload next. record {
       queue = h.queue;
       first = h.first;

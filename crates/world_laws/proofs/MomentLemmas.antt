@@ -14,7 +14,7 @@ use Rattle.session_core.specs.declared.replies.Arrived.TheVariants as arrivals
 use Rattle.session_core.specs.declared.replies.Taken.{Taken}
 use Rattle.session_core.specs.Answers.{answer_parts, settled, with_answer}
 use Rattle.session_core.specs.Copy.{id_of}
-use Rattle.session_core.specs.Journal.{Call, Entered, IsAllowed, IsJournal, Journal, after_entry, entered_by, state_of}
+use Rattle.session_core.specs.Journal.{Entered, IsJournal, Journal, MayEnter, after_entry, state_of}
 use Rattle.session_core.specs.Machine.{advanced, arrived_in_time, body_cost, bytes_for, copy_now, has_room, opened, placed, plain_cost, stanza_cost, takes_items, wait_at, with_cost, with_item}
 use Rattle.session_core.specs.State.{Answered, PlainSession}
 use Rattle.session_core.specs.Time.{time_applied}
@@ -50,7 +50,11 @@ module _ (latest : ℕ) where
   }
 
   waits : Waiting IsEarly
-  waits = record { moves = λ s now p. record { early = λ low. p.early (omega (arith, low)) }; silences = λ s on silent p. record { early = p.early } }
+  waits = record {
+    moves = λ s now p. record { early = λ low. p.early (omega (arith, low)) };
+    strikes = λ s rid on polled is p. record { early = p.early };
+    silences = λ s on silent p. record { early = p.early };
+  }
 
   in_time : (s : PlainSession) (now : ℕ) → IsEarly s → IsEarly (time_applied s now)
   in_time s now p = time_applied-by IsEarly waits answering s now p
@@ -76,8 +80,8 @@ module _ (latest : ℕ) where
   given : (s : PlainSession) (item : Outward) → IsEarly s → IsEarly (with_item s item).0
   given s item p = settled-by IsEarly answering (record s { given = s.given ++ item ∷ [] }) (record { early = p.early })
 
-  entered_early : (s : PlainSession) (call : Call) → IsAllowed call → (entered : Entered) → entered_by s call ≡ Some entered → IsEarly s → IsEarly (after_entry s entered)
-  entered_early s call allowed entered is p = entry-by s (λ e u. IsEarly u) (record {
+  entered_early : (s : PlainSession) (entered : Entered) → MayEnter s entered → IsEarly s → IsEarly (after_entry s entered)
+  entered_early s entered may p = entry-by s (λ e u. IsEarly u) (record {
     arrives = λ request body now allowed on room. arrived (with_cost (body_cost request body) (time_applied s now)) request body (record { early = (in_time s now p).early });
     backs = λ stream stanza now allowed on room.
         let t : PlainSession = with_cost (stanza_cost stanza) (time_applied s now) in
@@ -92,10 +96,10 @@ module _ (latest : ℕ) where
     collects = λ index ticket is. record { early = p.early };
     takes = λ item is. record { early = p.early };
     limits = λ kind cost now on full. record { early = p.early };
-  }) call allowed entered is
+  }) entered may
 
   -- of a journal whose moment is early each answer was given early
   pub every_moment : (journal : Journal) → IsJournal journal → (state_of journal).now ≤ latest → All (λ (answer : Answered). answer.moment ≤ latest) (state_of journal).answered
   every_moment journal made low =
-      (along (opened journal.opening) (λ past s. IsEarly s) (λ past s call entry allowed at is p. entered_early s call allowed entry.entered is p) journal.entries made.1
+      (along (opened journal.opening) (λ past s. IsEarly s) (λ past s entry may at p. entered_early s entry.entered may p) journal.entries made.1
       (record { early = λ low. All-nil (λ (answer : Answered). answer.moment ≤ latest) })).early low

@@ -27,7 +27,7 @@ use Rattle.session_attrs.specs.declared.request.Request.{Request}
 use Rattle.session_attrs.specs.Terms.{asked_hold, asked_wait, is_polling, lower_version, terms_of}
 use Rattle.session_core.specs.declared.outward.Outward.TheVariants.{Stanza}
 use Rattle.session_core.specs.Copy.{unnamed}
-use Rattle.session_core.specs.Endings.{last_word, terminal}
+use Rattle.session_core.specs.Endings.{error_parts, last_word, terminal}
 use Rattle.session_core.specs.Journal.{IsOpening}
 use Rattle.session_core.specs.Kept.{kept_answer}
 use Rattle.session_core.specs.Machine.{bytes_for, created_parts, first_answer}
@@ -65,6 +65,20 @@ terminal_is condition = record {
 
 pub terminal_form : (condition : Option Condition) → IsInForm (terminal condition)
 terminal_form condition = record { requests = tt; polling = tt; maxpause = tt; ack = tt }
+
+-- The error.
+
+pub error_is : IsAnswer error_parts
+error_is = record {
+  created = tt;
+  ack = tt;
+  report = tt;
+  payloads = (All-nil (IsElementWithin 32 64), omega arith);
+  fits = answer_fits error_parts (record { created = tt; ack = tt; report = tt; payloads = omega arith });
+}
+
+pub error_form : IsInForm error_parts
+error_form = record { requests = tt; polling = tt; maxpause = tt; ack = tt }
 
 -- The creation's answer.
 

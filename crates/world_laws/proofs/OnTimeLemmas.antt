@@ -22,7 +22,6 @@ use Rattle.session_core.specs.State.{PlainSession, answered_of, answers, first_o
 use Rattle.session_core.specs.Time.{time_applied}
 use Rattle.session_laws.proofs.AckLemmas.{last_answered}
 use Rattle.session_laws.proofs.Bytes.{IsFirstAnswer, answer_within, first_answer_steady}
-use Rattle.session_laws.proofs.Followed.{every_tells}
 use Rattle.session_laws.proofs.Frames.{time_leaves}
 use Rattle.session_laws.proofs.Grows.{steady-all, told_stays}
 use Rattle.session_laws.proofs.LawsOf.{every_first_answer}
@@ -47,6 +46,7 @@ use Rattle.world_laws.proofs.Below.{Below}
 use Rattle.world_laws.proofs.EventLemmas.{manager_of}
 use Rattle.world_laws.proofs.LowestLemmas.{below_lowest, lowest_first}
 use Rattle.world_laws.proofs.NameLemmas.{all_told, created_bytes, created_form, created_is, opened_rid, taken_holds, tells_same}
+use Rattle.world_laws.proofs.StateLemmas.{every_sound}
 use Rattle.world_laws.proofs.StoodLemmas.{few_processed, first_is, ids, later_processed, setup_is}
 
 -- What is kept.
@@ -135,7 +135,7 @@ module _ (below : Below) (setup : ClientSetup) (w : PlainWorld) (h : IsSound set
       where
         by : (o : Option KeptAnswer) → answer_at s rid ≡ o → (e : Option Ending) → e ≡ None
             → option_or (option_map (λ (answer : KeptAnswer). answer.bytes) o) (option_map (λ ending. last_word (answered_of s) ending rid) e) ≡ Some body → rid ≤ answered_of s
-        by (Some a) found e none given = (answer_within s rid a (every_tells m.journal journal_made).sound (every_first_answer m.journal journal_made) found).1
+        by (Some a) found e none given = (answer_within s rid a (every_sound m.journal journal_made) (every_first_answer m.journal journal_made) found).1
         by None found None none given = absurd (cc)
         by None found (Some ending) none given = absurd (cc)
 
@@ -212,7 +212,7 @@ module _ (below : Below) (setup : ClientSetup) (w : PlainWorld) (h : IsSound set
     kept_in_time now rid from to none =
         let t : PlainSession = time_applied s now in
         let leaves = time_leaves s now in
-        let sound : IsSoundSession t = steady-time IsSoundSession sound_steady s now (every_tells m.journal journal_made).sound in
+        let sound : IsSoundSession t = steady-time IsSoundSession sound_steady s now (every_sound m.journal journal_made) in
         let first : IsFirstAnswer t = steady-time IsFirstAnswer first_answer_steady s now (every_first_answer m.journal journal_made) in
         let same : last_of t ≡ last_of s = ap (λ (u : PlainSession). last_of u) leaves in
         let begins : first_of t ≡ first_of s = ap (λ (u : PlainSession). first_of u) leaves in

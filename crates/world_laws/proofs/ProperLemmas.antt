@@ -10,7 +10,7 @@ use Rattle.session_core.specs.declared.outward.Outward.TheVariants.{Close, Stanz
 use Rattle.session_core.specs.declared.replies.Taken.{Taken}
 use Rattle.session_core.specs.declared.replies.Taken.TheVariants as takings
 use Rattle.session_core.specs.Copy.{unnamed}
-use Rattle.session_core.specs.Journal.{Arrive, Back, BackClosed, Call, Collect, Entered, IsAllowed, IsJournal, Journal, Made, TakeInward, Tick, after_entry, entered_by}
+use Rattle.session_core.specs.Journal.{Arrive, Back, BackClosed, Call, Collect, Entered, IsAllowed, IsJournal, Journal, Limit, Made, MayEnter, TakeInward, Tick, after_entry}
 use Rattle.session_core.specs.Machine.{back, back_closed, opened}
 use Rattle.session_core.specs.Outward.{items_in}
 use Rattle.session_core.specs.Passed.{given_by, given_in, if_done, items_taken}
@@ -18,7 +18,6 @@ use Rattle.session_core.specs.State.{Answered, PlainSession}
 use Rattle.session_laws.proofs.GivenIn.{entry_gives, every_given, one}
 use Rattle.session_laws.proofs.Steps.{along}
 use Rattle.session_laws.proofs.Tests.{some_is}
-use Rattle.world_laws.proofs.CallLemmas.{entered_is}
 
 abbrev pub IsProper : Outward → Type 0
 IsProper (Stanza stream bytes) = IsTrue (is_stanza bytes)
@@ -37,16 +36,17 @@ call_proper s (BackClosed stream closing now) allowed item is = done (Close stre
 call_proper s (Tick now) allowed item is = absurd (cc)
 call_proper s TakeInward allowed item is = absurd (cc)
 
-entry_proper : (s : PlainSession) (call : Call) → IsAllowed call → (entered : Entered) → entered_by s call ≡ Some entered → All IsProper s.given → All IsProper (after_entry s entered).given
-entry_proper s call allowed entered is all =
-    subst (λ (l : List Outward). All IsProper l) (sym (entry_gives s call allowed entered is)) (All-append IsProper s.given (one (given_by s entered)) all (by (given_by s entered) refl))
-  where
-    proper : (item : Outward) → given_by s entered ≡ Some item → IsProper item
-    proper = entered_is s (λ e. (item : Outward) → given_by s e ≡ Some item → IsProper item) (λ kind cost now item is. absurd (cc)) call (call_proper s call allowed) entered is
+entered_proper : (s : PlainSession) (entered : Entered) → MayEnter s entered → (item : Outward) → given_by s entered ≡ Some item → IsProper item
+entered_proper s (Made call) may item is = call_proper s call may.0 item is
+entered_proper s (Limit kind cost now) may item is = absurd (cc)
 
+entry_proper : (s : PlainSession) (entered : Entered) → MayEnter s entered → All IsProper s.given → All IsProper (after_entry s entered).given
+entry_proper s entered may all =
+    subst (λ (l : List Outward). All IsProper l) (sym (entry_gives s entered may)) (All-append IsProper s.given (one (given_by s entered)) all (by (given_by s entered) refl))
+  where
     by : (o : Option Outward) → given_by s entered ≡ o → All IsProper (one o)
     by None none = All-nil IsProper
-    by (Some item) gives = All-cons IsProper item [] (proper item gives) (All-nil IsProper)
+    by (Some item) gives = All-cons IsProper item [] (entered_proper s entered may item gives) (All-nil IsProper)
 
 greeting_proper : (greeting : List (List ℕ)) → list_all is_stanza greeting ≡ true → All IsProper (map (Stanza unnamed) greeting)
 greeting_proper [] all = All-nil IsProper
@@ -57,7 +57,7 @@ greeting_proper (bytes ∷ greeting) all =
 pub every_proper : (journal : Journal) → IsJournal journal → All IsProper (given_in journal)
 every_proper journal made =
     subst (λ (l : List Outward). All IsProper l) (every_given journal made)
-    (along (opened journal.opening) (λ past s. All IsProper s.given) (λ past s call entry allowed at is all. entry_proper s call allowed entry.entered is all) journal.entries made.1
+    (along (opened journal.opening) (λ past s. All IsProper s.given) (λ past s entry may at all. entry_proper s entry.entered may all) journal.entries made.1
     (greeting_proper (journal.opening).greeting ((made.0).greeting).0))
 
 -- What one answer took.

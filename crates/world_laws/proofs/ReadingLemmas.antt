@@ -14,7 +14,7 @@ use Rattle.bosh_types.specs.declared.ending.Ending.{Ending}
 use Rattle.bosh_types.specs.declared.ending.Ending.TheVariants as endings
 use Rattle.body_cutter.specs.Built.{IsElementWithin}
 use Rattle.body_writer.specs.declared.answer.AnswerKind.{AnswerKind}
-use Rattle.body_writer.specs.declared.answer.AnswerKind.TheVariants.{Usual, Terminate}
+use Rattle.body_writer.specs.declared.answer.AnswerKind.TheVariants.{Usual, Terminate, Error}
 use Rattle.body_writer.specs.declared.answer.AnswerParts.{AnswerParts}
 use Rattle.body_writer.specs.Answer.{answer_text}
 use Rattle.body_writer.specs.Attribute.{joined}
@@ -65,6 +65,7 @@ closing_tells closings.SystemShutdown = refl
 end_tells : (kind : AnswerKind) (condition : Option Condition) → IsNoRefusal condition → IfSome (end_in kind condition) (λ (e : ClientEnd). IsNoRefusal e.condition)
 end_tells Usual condition none = tt
 end_tells Terminate condition none = none
+end_tells Error condition none = tt
 
 -- What an answer carries.
 

@@ -17,7 +17,7 @@ use Rattle.session_core.specs.Copy.{unnamed}
 use Rattle.session_core.specs.Journal.{Arrive, Back, BackClosed, Call, Collect, Entered, Entry, IsAllowed, IsJournal, Journal, Made, TakeInward, Tick, entered_by, state_of}
 use Rattle.session_core.specs.Machine.{arrive, collect, collected_by, collected_bytes, collected_from, passed_on, bytes_for, tick}
 use Rattle.session_core.specs.Passed.{passes}
-use Rattle.session_core.specs.State.{Issued, PlainSession, TicketState, Replaced, UsedUp, Waits, inward, is_over}
+use Rattle.session_core.specs.State.{Issued, PlainSession, TicketState, Replaced, Struck, UsedUp, Waits, inward, is_over}
 use Rattle.session_laws.specs.Growing.{with_later}
 use Rattle.session_laws.proofs.Counts.{every_counts}
 use Rattle.session_laws.proofs.Lists.{get_some}
@@ -130,6 +130,7 @@ collect_by s P same used (suc index) = from (slice_get s.tickets index)
     by : (ticket : Issued) (state : TicketState) → P (collected_by s index ticket state).0
     by ticket Waits = bytes ticket (bytes_for s ticket.rid)
     by ticket Replaced = used _
+    by ticket Struck = used _
     by ticket UsedUp = same
 
     from : (o : Option Issued) → P (collected_from s index o).0

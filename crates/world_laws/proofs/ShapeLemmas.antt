@@ -163,6 +163,7 @@ shapes_steady = record {
         shaped = all_wider (first_of t) (last_of t) (answered_of t) (last_of (with_copy t copy)) (answered_of t) t.answered last (omega arith) p.shaped;
       };
   stands = λ t copy above none small p. p;
+  strikes = λ t rid on is p. p;
   gives = λ t item p. p;
 }
 

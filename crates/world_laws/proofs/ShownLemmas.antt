@@ -29,7 +29,7 @@ use Rattle.bosh_client.specs.declared.replies.Queued.{Queued}
 use Rattle.bosh_client.specs.declared.replies.Queued.TheVariants as queueings
 use Rattle.bosh_client.specs.declared.setup.ClientSetup.{ClientSetup}
 use Rattle.bosh_client.specs.Machine.{answer, next_made, next_request, pause, put, restart, terminate, with_answer, with_request}
-use Rattle.bosh_client.specs.PlainClient.{PlainClient, bytes_of, deliverable, end_of, id_of, was_handed}
+use Rattle.bosh_client.specs.PlainClient.{PlainClient, bytes_of, deliverable, end_of, id_of, lowest, was_handed}
 use Rattle.bosh_client.specs.Promises.{Begins}
 use Rattle.bosh_client.specs.Requests.{agreed}
 use Rattle.bosh_client.specs.Runs as calls
@@ -187,6 +187,7 @@ module _ (below : Below) (setup : ClientSetup) where
         answer_by w.client rid body w.moment (λ p. Begins (deliverable w.client) (deliverable p.0) → ShowsStep items (returned w rid p))
         (λ begins. quiet [] nothing_first)
         (λ begins. quiet (seen.Stale rid ∷ []) (record { handed = refl; inward = refl }))
+        (λ begins. quiet (seen.Again (lowest w.client) rid ∷ []) (record { handed = refl; inward = refl }))
         (λ why begins. quiet (seen.Broken rid ∷ []) (record { handed = refl; inward = refl }))
         (λ t same begins.
         let c : PlainClient = with_answer w.client rid t in

@@ -17,11 +17,13 @@ use Rattle.session_core.specs.declared.copy.RequestCopy.{RequestCopy}
 use Rattle.session_core.specs.Copy as copies
 use Rattle.session_core.specs.Journal.{IsJournal, IsReadFrom, Journal, state_of}
 use Rattle.session_core.specs.ReadBack.{asked_by, asked_for}
-use Rattle.session_core.specs.Run.{IsFirstCopy, arrivals_of}
-use Rattle.session_core.specs.State.{PlainSession, first_of, last_of, standing_at}
-use Rattle.session_laws.proofs.Carried.{all_first, all_read, one_reading}
-use Rattle.session_laws.proofs.Followed.{every_creation, every_tells}
+use Rattle.session_core.specs.Run.{IsReceived, arrivals_of, placings_of}
+use Rattle.session_core.specs.Machine.{creation_of}
+use Rattle.session_core.specs.State.{PlainSession, Stands, first_of, last_of, standing_at}
+use Rattle.session_laws.proofs.Carried.{all_read, one_reading}
+use Rattle.session_laws.proofs.Followed.{every_creation}
 use Rattle.session_laws.proofs.Lists.{get_some, get_within}
+use Rattle.session_laws.proofs.Received.{received_after}
 use Rattle.bosh_client.specs.declared.agreed.Agreed.{Agreed}
 use Rattle.bosh_client.specs.declared.setup.ClientSetup.{ClientSetup}
 use Rattle.bosh_client.specs.Keys.{key_at, newkey_at}
@@ -44,6 +46,7 @@ use Rattle.world_laws.proofs.MadeLemmas.{AllBelow, AllKeep, IsShortCall, is_empt
 use Rattle.world_laws.proofs.NameLemmas.{opened_rid, setup_same}
 use Rattle.world_laws.proofs.PlaceLemmas.{all_at}
 use Rattle.world_laws.proofs.RequestLemmas.{reads_back, sent_is_of}
+use Rattle.world_laws.proofs.StateLemmas.{every_sound}
 use Rattle.world_laws.proofs.TurnLemmas.{all_follow}
 
 -- What a client of a sound world keeps to.
@@ -224,19 +227,24 @@ module _ (below : Below) (setup : ClientSetup) (w : PlainWorld) (h : IsSound set
         ap (λ (copy : RequestCopy). copies.id_of copy) (every_creation j made) ∙ opened_rid below setup h.begins.client h.begins.first j.opening opened
         ∙ ap (λ (x : ClientSetup). x.first) (sym setup_is)
 
-    pub copy_of : (rid : ℕ) (copy : RequestCopy) → IsFirstCopy (arrivals_of j) rid copy → IsCopyOf c c.setup.first rid copy
-    copy_of rid copy came =
-        subst (λ (n : ℕ). IsCopyOf c c.setup.first n copy) came.0
-        (copy_from copy (all_first (IsSent w.sent) (arrivals_of j) rid copy arrived came) (all_first (λ (other : RequestCopy). IsReadFrom other.body other.request) (arrivals_of j) rid copy (all_read j made) came))
+    pub copy_of : (rid : ℕ) (copy : RequestCopy) → IsReceived (placings_of j) rid copy → IsCopyOf c c.setup.first rid copy
+    copy_of rid copy received =
+        let came = (below.journals j made).arrived rid copy received in
+        subst (λ (n : ℕ). IsCopyOf c c.setup.first n copy) received.0
+        (copy_from copy (all_at (IsSent w.sent) (arrivals_of j) came.0 copy arrived came.1) (all_at (λ (other : RequestCopy). IsReadFrom other.body other.request) (arrivals_of j) came.0 copy (all_read j made) came.1))
+
+    -- a copy that stands for an id was received with it
+    standing_received : (rid : ℕ) (copy : RequestCopy) → standing_at s rid ≡ Some copy → IsReceived (placings_of j) rid copy
+    standing_received rid copy stands = received_after (Stands (creation_of j.opening)) s.placings rid copy (((below.journals j made).stands rid copy).0 stands)
 
     pub later_stands : (k : ℕ) (copy : RequestCopy) → standing_at s (first_of s + 1 + k) ≡ Some copy → IsLater c c.setup.first k copy
     later_stands k copy stands =
-        let came = (every_tells j made).follows.each (first_of s + 1 + k) copy stands in
+        let came = standing_received (first_of s + 1 + k) copy stands in
         let rid : first_of s + 1 + k ≡ c.setup.first + suc k = omega (arith, first_is) in
         later_of k copy (subst (λ (n : ℕ). IsCopyOf c c.setup.first n copy) rid (copy_of (first_of s + 1 + k) copy came))
 
     pub later_processed : (k : ℕ) (copy : RequestCopy) → slice_get s.processed k ≡ Some copy → IsLater c c.setup.first k copy
-    later_processed k copy is = later_stands k copy ((every_tells j made).sound.stand k copy is)
+    later_processed k copy is = later_stands k copy ((every_sound j made).stand k copy is)
 
     -- no more was processed than was made
     pub few_processed : last_of s < next_id c
@@ -250,7 +258,7 @@ module _ (below : Below) (setup : ClientSetup) (w : PlainWorld) (h : IsSound set
         by (copy ∷ more) is =
             let k : ℕ = length more in
             let last = get_some s.processed k (omega (arith, ap length is)) in
-            let came = (every_tells j made).follows.each (first_of s + 1 + k) last.0 ((every_tells j made).sound.stand k last.0 last.1) in
+            let came = standing_received (first_of s + 1 + k) last.0 ((every_sound j made).stand k last.0 last.1) in
             let of = copy_of (first_of s + 1 + k) last.0 came in
             omega (arith, first_is, ap length is, of.rid_is, get_within c.requests of.place of.request of.here)
 
@@ -261,8 +269,8 @@ AreLater c = All (λ (answer : ℕ × Taken). c.setup.first ≤ answer.0) c.answ
 
 first_step : (setup : ClientSetup) (c : PlainClient) (call : Call) → IsClient setup c → AreLater c → AreLater (step c call).0
 first_step setup c call client h =
-    step_by c (λ p. AreLater p.0) (λ reply quiet. h) (λ item. h) (λ now due left. h)
-    (λ rid t made none reads.
+    step_by c (λ p. AreLater p.0) (λ reply quiet. h) (λ item. h) (λ now due left next. h)
+    (λ rid t made none reads fine.
     let P : ℕ × Taken → Type 0 = λ answer. c.setup.first ≤ answer.0 in
     All-append P c.answers ((rid, t) ∷ []) h (All-cons P (rid, t) [] (low rid made) (All-nil P)))
     (λ payload next. h) call

@@ -1,11 +1,14 @@
 -- A ticket is of one id, whatever calls come.
 use Rattle.std.proofs.Common.{◌≡◌, ℕ, zero, suc, ◌==◌, List, [], ◌∷◌, ◌++◌, Option, Some, None, length, map, slice_get, slice_set, refl, sym, ◌∙◌, ap}
+use Rattle.std.proofs.lemmas.List.{length-map}
 use Rattle.session_core.specs.declared.replies.Arrived.{Arrived}
 use Rattle.session_core.specs.declared.replies.Arrived.TheVariants as arrivals
 use Rattle.session_core.specs.declared.replies.Collected.{Collected}
 use Rattle.session_core.specs.declared.replies.Collected.TheVariants as collections
 use Rattle.session_core.specs.Journal.{Call, Arrive, Collect, Back, BackClosed, Tick, TakeInward}
 use Rattle.session_core.specs.Machine.{arrive, collect, replace}
+use Rattle.session_core.specs.Gap.{strike_ticket}
+use Rattle.session_core.specs.Placed.{struck_tickets}
 use Rattle.session_core.specs.State.{PlainSession, Issued, Waits, UsedUp}
 use Rattle.session_laws.specs.Tickets.{after_arrival, after_collect, spent, spent_at, tickets_after}
 use Rattle.session_laws.proofs.Lists.{get_append, get_last}
@@ -68,13 +71,33 @@ collect_of tickets used collections.NotYet number rid is = is
 collect_of tickets used collections.Superseded number rid is = spent_of tickets used number rid is
 collect_of tickets used collections.UnknownTicket number rid is = is
 
-pub ticket_stays : (s : PlainSession) (call : Call) (number rid : ℕ) → IsTicketOf s.tickets number rid → IsTicketOf (tickets_after s call) number rid
-ticket_stays s (Arrive request body now) number rid is = arrival_of s.tickets request.rid (arrive s request body now).1 number rid is
-ticket_stays s (Collect ticket) number rid is = collect_of s.tickets ticket (collect s ticket).1 number rid is
-ticket_stays s (Back stream stanza now) number rid is = is
-ticket_stays s (BackClosed stream closing now) number rid is = is
-ticket_stays s (Tick now) number rid is = is
-ticket_stays s TakeInward number rid is = is
+-- a ticket of an id that is struck stays of that id
+strike_rid : (rid : ℕ) (ticket : Issued) → (strike_ticket rid ticket).rid ≡ ticket.rid
+strike_rid rid ticket = split (λ (t : Issued). t.rid ≡ ticket.rid) (ticket.rid == rid) _ ticket (λ here. refl) (λ other. refl)
+
+strike_stands : (of : ℕ) (tickets : List Issued) (index rid : ℕ) → StandsAt tickets index rid → StandsAt (map (strike_ticket of) tickets) index rid
+strike_stands of [] index rid is = absurd (cc (is.1))
+strike_stands of (first ∷ tickets) zero rid is =
+    (strike_ticket of first, refl, strike_rid of first ∙ ap (λ (t : Issued). t.rid) (some_same first is.0 is.1) ∙ is.2)
+strike_stands of (first ∷ tickets) (suc index) rid is = strike_stands of tickets index rid is
+
+struck_of : (struck : List ℕ) (tickets : List Issued) (number rid : ℕ) → IsTicketOf tickets number rid → IsTicketOf (struck_tickets struck tickets) number rid
+struck_of [] tickets number rid is = is
+struck_of (of ∷ struck) tickets number rid is =
+    struck_of struck (map (strike_ticket of) tickets) number rid (numbered tickets (map (strike_ticket of) tickets) (strike_stands of tickets) number rid is)
+
+pub ticket_stays : (s : PlainSession) (struck : List ℕ) (call : Call) (number rid : ℕ) → IsTicketOf s.tickets number rid → IsTicketOf (tickets_after s struck call) number rid
+ticket_stays s struck (Arrive request body now) number rid is =
+    arrival_of (struck_tickets struck s.tickets) request.rid (arrive s request body now).1 number rid (struck_of struck s.tickets number rid is)
+ticket_stays s struck (Collect ticket) number rid is = collect_of s.tickets ticket (collect s ticket).1 number rid is
+ticket_stays s struck (Back stream stanza now) number rid is = struck_of struck s.tickets number rid is
+ticket_stays s struck (BackClosed stream closing now) number rid is = struck_of struck s.tickets number rid is
+ticket_stays s struck (Tick now) number rid is = struck_of struck s.tickets number rid is
+ticket_stays s struck TakeInward number rid is = is
+
+pub length_struck : (struck : List ℕ) (tickets : List Issued) → length (struck_tickets struck tickets) ≡ length tickets
+length_struck [] tickets = refl
+length_struck (of ∷ struck) tickets = length_struck struck (map (strike_ticket of) tickets) ∙ length-map tickets (strike_ticket of)
 
 length_replaced : (of : ℕ) (tickets : List Issued) → length (map (replace of) tickets) ≡ length tickets
 length_replaced of [] = refl

@@ -16,6 +16,7 @@ use Rattle.session_core.specs.declared.replies.Ticked.TheVariants as ticks
 use Rattle.session_core.specs.Copy.{unnamed}
 use Rattle.session_core.specs.Journal.{Call, Arrive, Back, BackClosed, Collect, Tick, IsAllowed, IsJournal, Journal, ToArrive, ToCollect, state_of, step}
 use Rattle.session_core.specs.Machine.{arrive, bytes_for, collect, tick}
+use Rattle.session_core.specs.Placed.{struck_tickets}
 use Rattle.session_core.specs.State.{Issued, PlainSession, is_over}
 use Rattle.session_laws.specs.Replies.{IsToldTo}
 use Rattle.session_laws.specs.Tickets.{after_arrival}
@@ -27,12 +28,12 @@ use Rattle.world_laws.specs.declared.told.Told.{Told}
 use Rattle.world_laws.specs.declared.told.Told.TheVariants as tells
 use Rattle.session_calls.specs.After.{after_call, all_taken, untaken}
 use Rattle.world_laws.specs.Manager.{PlainManager, Turn, all_collected, arrived, arrives, collected_told, ending_told, gives, not_found, passes, session, settled, shuts, still, still_parked, ticked, told_of, turned, with_journal, with_parked}
-use Rattle.world_laws.specs.Sound.{IsAnswerTo, IsOpenedBy, IsParkedAt, IsSoundManager, IsTicketOf, body_taken}
+use Rattle.world_laws.specs.Sound.{IsAnswerTo, IsOpenedBy, IsParkedAt, IsSoundManager, IsTicketOf, IsWrittenTo, body_taken}
 use Rattle.world_laws.specs.Steps.{answers_in}
 use Rattle.world_laws.proofs.Below.{Below}
-use Rattle.world_laws.proofs.CallLemmas.{Brings}
+use Rattle.world_laws.proofs.CallLemmas.{Brings, arrival_enters}
 use Rattle.world_laws.proofs.GrownLemmas.{Grown, all_passed_grows, call_grows, collected_grows, grown_then, state_after}
-use Rattle.world_laws.proofs.TicketLemmas.{newly_parked}
+use Rattle.world_laws.proofs.TicketLemmas.{length_struck, newly_parked}
 
 -- what holds of one value holds of another, for all of a list
 pub all_follow : {X : Type 0} (P Q : X → Type 0) (xs : List X) → ((x : X) → P x → Q x) → All P xs → All Q xs
@@ -82,17 +83,27 @@ still_answers sent moment j k g answer is = elim is [
   | inr word ↦ inr (word.0, word.1, still_over sent moment j k g word.2, word.3)
 ]
 
+pub still_written : (sent : List (ℕ × List ℕ)) (moment : ℕ) (j k : Journal) → Grown sent moment j k → (answer : ℕ × List ℕ) → IsWrittenTo (state_of j) answer → IsWrittenTo (state_of k) answer
+still_written sent moment j k g answer is = elim is [
+  | inl answers ↦ inl (still_answers sent moment j k g answer answers)
+  | inr error ↦ inr error
+]
+
 module _ (below : Below) (sent : List (ℕ × List ℕ)) (moment : ℕ) where
   fate_answers : (j : Journal) → IsJournal j → (p : Parked) → IsParkedAt (state_of j) p → (told : Collected) → (collect (state_of j) p.ticket).1 ≡ told
-      → All (IsAnswerTo (state_of j)) (answers_in (told_of p told))
+      → All (IsWrittenTo (state_of j)) (answers_in (told_of p told))
   fate_answers j made p parked (collections.Answer body) is =
       let tells = ((below.journals j made).collects p.ticket (collections.Answer body)).0 (ap ToCollect is) in
       let same : tells.0 ≡ parked.0 = some_is tells.0 parked.0 (sym tells.1 ∙ parked.1) in
-      let given : bytes_for (state_of j) p.rid ≡ Some body = ap (λ (rid : ℕ). bytes_for (state_of j) rid) (sym (ap (λ (t : Issued). t.rid) same ∙ parked.2)) ∙ tells.3 in
-      All-cons (IsAnswerTo (state_of j)) (p.rid, body) [] (inl given) (All-nil (IsAnswerTo (state_of j)))
-  fate_answers j made p parked collections.NotYet is = All-nil (IsAnswerTo (state_of j))
-  fate_answers j made p parked collections.Superseded is = All-nil (IsAnswerTo (state_of j))
-  fate_answers j made p parked collections.UnknownTicket is = All-nil (IsAnswerTo (state_of j))
+      let rid : tells.0.rid ≡ p.rid = ap (λ (t : Issued). t.rid) same ∙ parked.2 in
+      let written : IsWrittenTo (state_of j) (p.rid, body) = elim tells.2 [
+        | inl given ↦ inl (inl (ap (λ (n : ℕ). bytes_for (state_of j) n) (sym rid) ∙ given.1))
+        | inr error ↦ inr error.1
+      ] in
+      All-cons (IsWrittenTo (state_of j)) (p.rid, body) [] written (All-nil (IsWrittenTo (state_of j)))
+  fate_answers j made p parked collections.NotYet is = All-nil (IsWrittenTo (state_of j))
+  fate_answers j made p parked collections.Superseded is = All-nil (IsWrittenTo (state_of j))
+  fate_answers j made p parked collections.UnknownTicket is = All-nil (IsWrittenTo (state_of j))
 
   still_waits : (s : PlainSession) (p : Parked) → IsParkedAt s p → (told : Collected) → All (IsParkedAt s) (still p told)
   still_waits s p parked (collections.Answer body) = All-nil (IsParkedAt s)
@@ -104,19 +115,19 @@ module _ (below : Below) (sent : List (ℕ × List ℕ)) (moment : ℕ) where
   still_parks j k g parked all = all_follow (IsParkedAt (state_of j)) (IsParkedAt (state_of k)) parked (λ p is. g.tickets p.ticket p.rid is) all
 
   collected_answers : (j : Journal) (parked : List Parked) → IsJournal j → All (IsParkedAt (state_of j)) parked
-      → All (IsAnswerTo (state_of (all_collected j parked))) (answers_in (collected_told j parked))
-  collected_answers j [] made all = All-nil (IsAnswerTo (state_of j))
+      → All (IsWrittenTo (state_of (all_collected j parked))) (answers_in (collected_told j parked))
+  collected_answers j [] made all = All-nil (IsWrittenTo (state_of j))
   collected_answers j (p ∷ parked) made all =
       let j2 = after_call j (Collect p.ticket) in
       let k = all_collected j2 parked in
       let one = call_grows below sent moment j (Collect p.ticket) tt tt made in
       let later = grown_then sent moment j j2 k one (collected_grows below sent moment j2 parked one.made) in
       let told = (collect (state_of j) p.ticket).1 in
-      let here = all_follow (IsAnswerTo (state_of j)) (IsAnswerTo (state_of k)) (answers_in (told_of p told)) (still_answers sent moment j k later)
+      let here = all_follow (IsWrittenTo (state_of j)) (IsWrittenTo (state_of k)) (answers_in (told_of p told)) (still_written sent moment j k later)
       (fate_answers j made p (All-head (IsParkedAt (state_of j)) p parked all) told refl) in
       let others = collected_answers j2 parked one.made (still_parks j j2 one parked (All-tail (IsParkedAt (state_of j)) p parked all)) in
-      subst (λ answers. All (IsAnswerTo (state_of k)) answers) (sym (answers-append (told_of p told) (collected_told j2 parked)))
-      (All-append (IsAnswerTo (state_of k)) (answers_in (told_of p told)) (answers_in (collected_told j2 parked)) here others)
+      subst (λ answers. All (IsWrittenTo (state_of k)) answers) (sym (answers-append (told_of p told) (collected_told j2 parked)))
+      (All-append (IsWrittenTo (state_of k)) (answers_in (told_of p told)) (answers_in (collected_told j2 parked)) here others)
 
   collected_parked : (j : Journal) (parked : List Parked) → IsJournal j → All (IsParkedAt (state_of j)) parked
       → All (IsParkedAt (state_of (all_collected j parked))) (still_parked j parked)
@@ -143,7 +154,7 @@ module _ (below : Below) (setup : ClientSetup) (sent written : List (ℕ × List
     opened = subst (IsOpenedBy setup) (sym g.opening_is) h.opened;
     arrived = g.arrivals h.arrived;
     parked_at = still_parks below sent moment m.journal k g m.parked h.parked_at;
-    written_are = all_follow (IsAnswerTo (session m)) (IsAnswerTo (state_of k)) written (still_answers sent moment m.journal k g) h.written_are;
+    written_are = all_follow (IsWrittenTo (session m)) (IsWrittenTo (state_of k)) written (still_written sent moment m.journal k g) h.written_are;
     taken_are = all_follow (λ answer. IsAnswerTo (session m) (body_taken answer)) (λ answer. IsAnswerTo (state_of k) (body_taken answer)) answers
         (λ answer. still_answers sent moment m.journal k g (body_taken answer)) h.taken_are;
     early = g.early h.early;
@@ -154,7 +165,7 @@ module _ (below : Below) (setup : ClientSetup) (sent written : List (ℕ × List
   called_sound m call allowed brings h = grown_sound m (after_call m.journal call) (call_grows below sent moment m.journal call allowed brings h.made) h
 
   -- what follows a call: items are passed on, and the tickets are collected
-  pub turned_sound : (was_over : Bool) (m : PlainManager) (answer : List Told) → All (IsAnswerTo (session m)) (answers_in answer)
+  pub turned_sound : (was_over : Bool) (m : PlainManager) (answer : List Told) → All (IsWrittenTo (session m)) (answers_in answer)
       → IsSoundManager setup sent written answers moment m → IsSoundTurn setup sent written answers moment (turned was_over m answer)
   turned_sound was_over m answer answered h =
       let j = all_taken m.journal in
@@ -169,10 +180,10 @@ module _ (below : Below) (setup : ClientSetup) (sent written : List (ℕ × List
         arrived = later.arrived;
         parked_at = collected_parked below sent moment j m.parked passed.made waiting;
         written_are =
-            All-append (IsAnswerTo (state_of k)) written (answers_in (turned was_over m answer).told) later.written_are
-            (subst (λ told. All (IsAnswerTo (state_of k)) told) (sym (turned_answers was_over m answer))
-            (All-append (IsAnswerTo (state_of k)) (answers_in answer) (answers_in (collected_told j m.parked))
-            (all_follow (IsAnswerTo (session m)) (IsAnswerTo (state_of k)) (answers_in answer) (still_answers sent moment m.journal k g) answered)
+            All-append (IsWrittenTo (state_of k)) written (answers_in (turned was_over m answer).told) later.written_are
+            (subst (λ told. All (IsWrittenTo (state_of k)) told) (sym (turned_answers was_over m answer))
+            (All-append (IsWrittenTo (state_of k)) (answers_in answer) (answers_in (collected_told j m.parked))
+            (all_follow (IsWrittenTo (session m)) (IsWrittenTo (state_of k)) (answers_in answer) (still_written sent moment m.journal k g) answered)
             (collected_answers below sent moment j m.parked passed.made waiting)));
         taken_are = later.taken_are;
         early = later.early;
@@ -185,19 +196,19 @@ module _ (below : Below) (setup : ClientSetup) (sent written : List (ℕ × List
   gives_sound m stanza now by allowed h =
       let call = Back unnamed stanza now in
       let after = with_journal m (after_call m.journal call) in
-      turned_sound (is_over (session m)) after [] (All-nil (IsAnswerTo (session after))) (called_sound m call allowed by h)
+      turned_sound (is_over (session m)) after [] (All-nil (IsWrittenTo (session after))) (called_sound m call allowed by h)
 
   pub shuts_sound : (m : PlainManager) (closing : Closing) (now : ℕ) → now ≤ moment → IsSoundManager setup sent written answers moment m
       → IsSoundTurn setup sent written answers moment (shuts m closing now)
   shuts_sound m closing now by h =
       let call = BackClosed unnamed closing now in
       let after = with_journal m (after_call m.journal call) in
-      turned_sound (is_over (session m)) after [] (All-nil (IsAnswerTo (session after))) (called_sound m call tt by h)
+      turned_sound (is_over (session m)) after [] (All-nil (IsWrittenTo (session after))) (called_sound m call tt by h)
 
   ticked_sound : (m after : PlainManager) (reply : Ticked) → IsSoundManager setup sent written answers moment m → IsSoundManager setup sent written answers moment after
       → IsSoundTurn setup sent written answers moment (ticked m after reply)
   ticked_sound m after ticks.Quiet h later = subst (λ l. IsSoundManager setup sent l answers moment m) (sym (append-nil written)) h
-  ticked_sound m after ticks.Changed h later = turned_sound (is_over (session m)) after [] (All-nil (IsAnswerTo (session after))) later
+  ticked_sound m after ticks.Changed h later = turned_sound (is_over (session m)) after [] (All-nil (IsWrittenTo (session after))) later
 
   pub passes_sound : (m : PlainManager) (now : ℕ) → now ≤ moment → IsSoundManager setup sent written answers moment m → IsSoundTurn setup sent written answers moment (passes m now)
   passes_sound m now by h =
@@ -246,11 +257,15 @@ module _ (below : Below) (setup : ClientSetup) (sent written : List (ℕ × List
           let laws = below.journals m.journal h.made in
           let number : ticket ≡ length (session m).tickets + 1 = ((laws.parked request body now ticket allowed on).0 (ap ToArrive is)).0 in
           let next : ticket ≡ suc (length (session m).tickets) = omega (arith, number) in
-          let tickets : (session after).tickets ≡ after_arrival (session m).tickets request.rid (arrivals.Parked (suc (length (session m).tickets))) =
-          ap (λ (s : PlainSession). s.tickets) (state_after below m.journal call h.made) ∙ laws.tickets call
-          ∙ ap (after_arrival (session m).tickets request.rid) (is ∙ ap arrivals.Parked next) in
-          subst (λ n. IsTicketOf (session after).tickets n request.rid) (sym next)
-          (subst (λ issued. IsTicketOf issued (suc (length (session m).tickets)) request.rid) (sym tickets) (newly_parked (session m).tickets request.rid))
+          let entry = arrival_enters (session m) request body now on in
+          let placed = laws.placed call entry.0 allowed entry.1 in
+          let before : List Issued = struck_tickets placed.struck (session m).tickets in
+          let count : suc (length (session m).tickets) ≡ suc (length before) = ap suc (sym (length_struck placed.struck (session m).tickets)) in
+          let tickets : (session after).tickets ≡ after_arrival before request.rid (arrivals.Parked (suc (length before))) =
+          ap (λ (s : PlainSession). s.tickets) (state_after below m.journal call h.made) ∙ laws.tickets call entry.0 placed entry.1
+          ∙ ap (after_arrival before request.rid) (is ∙ ap arrivals.Parked (next ∙ count)) in
+          subst (λ n. IsTicketOf (session after).tickets n request.rid) (sym (next ∙ count))
+          (subst (λ issued. IsTicketOf issued (suc (length before)) request.rid) (sym tickets) (newly_parked before request.rid))
     ]
 
     parked_sound : (ticket : ℕ) → IsTicketOf (session after).tickets ticket request.rid → IsSoundManager setup sent written answers moment after
@@ -267,8 +282,8 @@ module _ (below : Below) (setup : ClientSetup) (sent written : List (ℕ × List
           early = later.early;
         }
 
-    one_answer : (s : PlainSession) (rid : ℕ) (bytes : List ℕ) → IsAnswerTo s (rid, bytes) → All (IsAnswerTo s) ((rid, bytes) ∷ [])
-    one_answer s rid bytes is = All-cons (IsAnswerTo s) (rid, bytes) [] is (All-nil (IsAnswerTo s))
+    one_answer : (s : PlainSession) (rid : ℕ) (bytes : List ℕ) → IsAnswerTo s (rid, bytes) → All (IsWrittenTo s) ((rid, bytes) ∷ [])
+    one_answer s rid bytes is = All-cons (IsWrittenTo s) (rid, bytes) [] (inl is) (All-nil (IsWrittenTo s))
 
     arrived_sound : (reply : Arrived) → (arrive (session m) request body now).1 ≡ reply → IsSoundManager setup sent written answers moment after
         → IsSoundTurn setup sent written answers moment (arrived (is_over (session m)) after request.rid reply)
@@ -276,7 +291,7 @@ module _ (below : Below) (setup : ClientSetup) (sent written : List (ℕ × List
         turned_sound (is_over (session m)) after (tells.Answer request.rid bytes ∷ []) (one_answer (session after) request.rid bytes (answered bytes is)) later
     arrived_sound (arrivals.Parked ticket) is later =
         let parked = with_parked after ticket request.rid in
-        turned_sound (is_over (session m)) parked [] (All-nil (IsAnswerTo (session parked))) (parked_sound ticket (waits ticket is) later)
+        turned_sound (is_over (session m)) parked [] (All-nil (IsWrittenTo (session parked))) (parked_sound ticket (waits ticket is) later)
     arrived_sound arrivals.Over is later =
         turned_sound (is_over (session m)) after (not_found request.rid ∷ [])
         (one_answer (session after) request.rid _ (inr (Some ItemNotFound, refl, over_after (((below.journals m.journal h.made).over request body now allowed).0 (ap ToArrive is)), inl refl))) later

@@ -9,7 +9,7 @@ use Rattle.bosh_types.specs.ById.{at_id}
 use Rattle.bosh_types.specs.declared.ending.Ending.{Ending}
 use Rattle.bosh_types.specs.declared.kept.KeptAnswer.{KeptAnswer}
 use Rattle.body_writer.specs.Answer.{answer_text}
-use Rattle.session_core.specs.Endings.{last_word, terminal}
+use Rattle.session_core.specs.Endings.{error_parts, last_word, terminal}
 use Rattle.session_core.specs.Kept.{kept_answer}
 use Rattle.session_core.specs.Machine.{bytes_for, created_parts}
 use Rattle.session_core.specs.Outward.{items_in}
@@ -26,13 +26,13 @@ use Rattle.bosh_client.specs.PlainClient.{PlainClient, request_at, taken}
 use Rattle.bosh_client.specs.ReadBack.{told_of}
 use Rattle.world_laws.specs.Manager.{PlainManager}
 use Rattle.world_laws.specs.Promises.{IsUnbroken}
-use Rattle.world_laws.specs.Sound.{IsAnswerTo, IsSound}
+use Rattle.world_laws.specs.Sound.{IsAnswerTo, IsSound, IsWrittenTo}
 use Rattle.world_laws.specs.World.{PlainWorld}
 use Rattle.world_laws.proofs.Below.{Below}
 use Rattle.world_laws.proofs.EventLemmas.{manager_of}
 use Rattle.world_laws.proofs.HandedLemmas.{answer_read, made, s}
 use Rattle.world_laws.proofs.InwardLemmas.{rid_is, sound}
-use Rattle.world_laws.proofs.NameLemmas.{created_bytes, created_form, created_is, setup_same, terminal_form, terminal_is}
+use Rattle.world_laws.proofs.NameLemmas.{created_bytes, created_form, created_is, error_form, error_is, setup_same, terminal_form, terminal_is}
 use Rattle.world_laws.proofs.PlaceLemmas.{found_place}
 use Rattle.world_laws.proofs.ReadingLemmas.{read_tells, word_tells}
 use Rattle.world_laws.proofs.TurnLemmas.{all_follow}
@@ -55,7 +55,16 @@ tells_unbroken c rid body (tells, reads, named) now why =
     split P (is_none (request_at c rid)) (c, answerings.Unmade) _ (λ none is. cc)
     (λ made. split P (is_some (taken c rid)) (c, answerings.Stale) _ (λ some is. cc)
     (λ open_now. subst (λ (r : Result Told Why). P (take_answer c rid body now r)) (sym reads)
-    (split P (lacks_sid c rid tells) _ _ (λ lacking is. absurd (cc)) (λ has is. cc))))
+    (split P tells.error _ _ (λ error is. cc) (λ fine. split P (lacks_sid c rid tells) _ _ (λ lacking is. absurd (cc)) (λ has is. cc)))))
+
+-- nor does an error break
+error_unbroken : (c : PlainClient) (rid : ℕ) (body : List ℕ) (tells : Told) → answer_of body ≡ Ok tells → tells.error ≡ true → IsUnbroken c (rid, body)
+error_unbroken c rid body tells reads error now why =
+    let P : PlainClient × Reply → Type 0 = λ p. p.1 ≡ answerings.Broken why → ⊥ in
+    split P (is_none (request_at c rid)) (c, answerings.Unmade) _ (λ none is. cc)
+    (λ made. split P (is_some (taken c rid)) (c, answerings.Stale) _ (λ some is. cc)
+    (λ open_now. subst (λ (r : Result Told Why). P (take_answer c rid body now r)) (sym reads)
+    (split P tells.error _ _ (λ yes_ is. cc) (λ fine. absurd (cc)))))
 
 terminal_named : (tells : Told) (end : _) → tells.end ≡ Some end → (is_none tells.end && is_none tells.sid) ≡ false
 terminal_named tells end is = ap (λ e. is_none e && is_none tells.sid) is
@@ -106,8 +115,11 @@ module _ (below : Below) (setup : ClientSetup) (w : PlainWorld) (h : IsSound set
   all_unbroken : All (IsUnbroken w.client) w.written
   all_unbroken =
       let first : w.client.setup.first ≡ setup.first = ap (λ (x : ClientSetup). x.first) (setup_same below setup h.begins.client h.begins.first w.client h.client) in
-      all_follow (IsAnswerTo t) (IsUnbroken w.client) w.written
-      (λ answered is_one. tells_unbroken w.client answered.0 answered.1 (subst (λ (n : ℕ). Tells n answered.0 answered.1) (sym first) (all_tell answered.0 answered.1 is_one)))
+      all_follow (IsWrittenTo t) (IsUnbroken w.client) w.written
+      (λ answered written. elim written [
+        | inl is_one ↦ tells_unbroken w.client answered.0 answered.1 (subst (λ (n : ℕ). Tells n answered.0 answered.1) (sym first) (all_tell answered.0 answered.1 is_one))
+        | inr error ↦ error_unbroken w.client answered.0 answered.1 (told_of error_parts) (ap answer_of error ∙ below.answer_read error_parts error_is error_form) refl
+      ])
       (sound below setup w h m is).written_are
 
 pub every_unbroken : Below → (setup : ClientSetup) (w : PlainWorld) → IsSound setup w → All (IsUnbroken w.client) w.written

@@ -7,7 +7,7 @@ use Rattle.body_cutter.specs.declared.parts.Span.{Span}
 use Rattle.body_writer.specs.Answer.{answer_text}
 use Rattle.session_core.specs.declared.copy.RequestCopy.{RequestCopy}
 use Rattle.session_core.specs.Copy as copies
-use Rattle.session_core.specs.Endings.{terminal}
+use Rattle.session_core.specs.Endings.{error_text, terminal}
 use Rattle.session_core.specs.Journal.{IsJournal}
 use Rattle.session_core.specs.Machine.{bytes_for}
 use Rattle.session_core.specs.declared.opening.Opening.{Opening}
@@ -61,6 +61,11 @@ IsAnswerTo s answer =
     (bytes_for s answer.0 ≡ Some answer.1)
     ⊎ ((condition : Option Condition) × (answer.1 ≡ answer_text (terminal condition)) × (is_over s ≡ true) × TellsNoPlace condition)
 
+-- what the network has to bring back is an answer to its id, or the error, by which a request counts as not received: the client takes
+-- no error for an answer
+abbrev pub IsWrittenTo : PlainSession → ℕ × List ℕ → Type 0
+IsWrittenTo s answer = IsAnswerTo s answer ⊎ (answer.1 ≡ error_text)
+
 -- the body of an answer that the client took, with its id
 abbrev pub body_taken : ℕ × Taken → ℕ × List ℕ
 body_taken answer = (answer.0, answer.1.body)
@@ -73,14 +78,15 @@ IsTicketOf tickets number rid = (ticket : Issued) × (issued_at tickets number �
 abbrev pub IsParkedAt : PlainSession → Parked → Type 0
 IsParkedAt s parked = IsTicketOf s.tickets parked.ticket parked.rid
 
--- the journal is one that calls made after the client's creation; whatever arrived is the body of its id; and whatever the
--- network has to bring back, or the client took, is an answer to its id; and no moment is later than the world's
+-- the journal is one that calls made after the client's creation; whatever arrived is the body of its id; whatever the network has to
+-- bring back is an answer to its id, or the error; whatever the client took is an answer to its id; and no moment is later than the
+-- world's
 pub record IsSoundManager (setup : ClientSetup) (sent written : List (ℕ × List ℕ)) (answers : List (ℕ × Taken)) (moment : ℕ) (m : PlainManager) : Type 0 where
   pub made : IsJournal m.journal
   pub opened : IsOpenedBy setup m.journal.opening
   pub arrived : All (IsSent sent) (arrivals_of m.journal)
   pub parked_at : All (IsParkedAt (session m)) m.parked
-  pub written_are : All (IsAnswerTo (session m)) written
+  pub written_are : All (IsWrittenTo (session m)) written
   pub taken_are : All (λ answer. IsAnswerTo (session m) (body_taken answer)) answers
   pub early : (session m).now ≤ moment
 

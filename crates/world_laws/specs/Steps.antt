@@ -90,6 +90,7 @@ returned w rid (c, answerings.Done) =
 returned w rid (c, answerings.Unmade) = unseen w
 returned w rid (c, answerings.Stale) = only w (seen.Stale rid)
 returned w rid (c, answerings.Broken why) = only w (seen.Broken rid)
+returned w rid (c, answerings.Again first last) = only w (seen.Again first last)
 
 abbrev pub returns_to : PlainWorld → Option (ℕ × List ℕ) → Step
 returns_to w None = only w seen.NoCopy

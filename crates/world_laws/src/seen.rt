@@ -67,6 +67,12 @@ pub enum SeenItem {
     Broken {
         rid: Rid,
     },
+    /// The client was told that the last of these ids counts as not received: what has no answer from the first on is to be sent
+    /// again.
+    Again {
+        first: Rid,
+        last: Rid,
+    },
     /// The client took its first terminal answer.
     Ended {
         condition: Option<Condition>,

@@ -1,7 +1,7 @@
 use Rattle.std.proofs.Common.{subst}
 use Rattle.bosh_client.specs.Machine.{answer}
 use Rattle.bosh_client.specs.StandsFor.{Does}
-use Rattle.two_ends.proofs.ReturnLemmas.{broken_step, done_step, stale_step, unmade_step}
+use Rattle.two_ends.proofs.ReturnLemmas.{again_step, broken_step, done_step, stale_step, unmade_step}
 use Rattle.two_ends.proofs.TurnLemmas.{IfOk-from}
 use Rattle.two_ends.proofs.world.World.answered.Goals as goal
 
@@ -23,8 +23,14 @@ returns-in-Stale c = IfOk-from c.only.result _ _ (λ news it w is.
     (subst (λ b. Does c.answer.new.self c.in_ok-answered.answered (answer w.client c.args.rid b c.args.self.now.moment)) c.as_slice.ensures (c.in_ok-answered.ensures.step w.client is.rest.client))
     news c.in-Stale.is it) c.only.ensures
 
-pub returns : goal.returns
-returns c = IfOk-from c.only-in-Broken.result _ _ (λ news it w is.
+pub returns-in-Broken : goal.returns-in-Broken
+returns-in-Broken c = IfOk-from c.only-in-Broken.result _ _ (λ news it w is.
     broken_step c.args.self.now w is c.args.rid c.args.body _ c.in_ok-answered.answered
     (subst (λ b. Does c.answer.new.self c.in_ok-answered.answered (answer w.client c.args.rid b c.args.self.now.moment)) c.as_slice.ensures (c.in_ok-answered.ensures.step w.client is.rest.client))
     news _ c.in-Broken.is it) c.only-in-Broken.ensures
+
+pub returns : goal.returns
+returns c = IfOk-from c.only-in-Again.result _ _ (λ news it w is.
+    again_step c.args.self.now w is c.args.rid c.args.body _ c.in_ok-answered.answered
+    (subst (λ b. Does c.answer.new.self c.in_ok-answered.answered (answer w.client c.args.rid b c.args.self.now.moment)) c.as_slice.ensures (c.in_ok-answered.ensures.step w.client is.rest.client))
+    news c.in-Again.first c.in-Again.last c.in-Again.is it) c.only-in-Again.ensures
