@@ -31,6 +31,7 @@ use Rattle.serve_loop.specs.Trail.{IsEntry, IsNow, IsTrueOf, Names, Setting, ref
 use Rattle.serve_loop.proofs.AskedLemmas.{read_from}
 use Rattle.serve_loop.proofs.EffectLemmas.{called_for_nothing, calls_one}
 use Rattle.serve_loop.proofs.EntryLemmas.{answers_by, arrival_made, last_place, over_made}
+use Rattle.serve_loop.proofs.OwnLemmas.{none_since_look, owns}
 use Rattle.serve_loop.proofs.TellingLemmas.{seen_none, seen_one, tells_line}
 
 some_same : {X : Type 0} (x y : X) → Some x ≡ Some y → x ≡ y
@@ -133,6 +134,8 @@ module _ (site : Setting) (body sid : List ℕ) (request : Request) (now number 
           seen = t.looked.begins.1 ∙ (ap (λ (l : List journal.Entry). l ++ t.looked.begins.0) seen.0 ∙ append_assoc call.before (e ∷ []) t.looked.begins.0);
           at = last_place call.before (known y.pass).seen e seen.0;
           own = seen.1 ∙ sym turned.pass_number;
+          since = none_since_look (known y.pass).number (known y.pass) (known t.since.pass) t.looked.begins.0 t.looked.begins.1 (owns y (known y.pass).number refl)
+              (owns t.since (known y.pass).number t.pass_number) t.looked.mine;
           added = e ∷ [];
           answers = answers_by site call.before e e.call request body text now at_now made.2 answered;
           number = number;
@@ -164,6 +167,7 @@ module _ (site : Setting) (body sid : List ℕ) (request : Request) (now number 
             later = [];
             there = seen.0;
             own = seen.1 ∙ sym turned.pass_number;
+            since = refl;
             waits = (now, at_now, subst (λ (m : Option journal.Entry). Replies call.before (plain.Arrive request body now) (plain.ToArrive (arrivals.Parked ticket)) m) made.1 call.says);
           };
           alone = calls_one old mid new number sid x y (e ∷ []) found turned.was named y_named

@@ -22,6 +22,7 @@ use Rattle.serve_loop.specs.Trail.{IsEntry, Setting, WaitedFor}
 use Rattle.serve_loop.proofs.ArrivingLemmas.{Beside, tells_last}
 use Rattle.serve_loop.proofs.EffectLemmas.{calls_on}
 use Rattle.serve_loop.proofs.EntryLemmas.{collect_made, collected_by, last_place, waits_on}
+use Rattle.serve_loop.proofs.OwnLemmas.{none_before_call, none_since_look, owns}
 use Rattle.serve_loop.proofs.TellingLemmas.{seen_one}
 
 some_same : {X : Type 0} (x y : X) → Some x ≡ Some y → x ≡ y
@@ -52,7 +53,9 @@ module _ (site : Setting) (body : List ℕ) (w : Waiting) (old mid : Purse) (wai
           is = turned.is;
           named = turned.of_same.sid ∙ it.named;
           came = waits_on site (known x.pass).seen (known y.pass).seen turned.says.begins.0 (known x.pass).number (known y.pass).number waits.request body w.ticket
-              turned.says.begins.1 turned.pass_number it.came;
+              turned.says.begins.1 turned.pass_number
+              (none_since_look (known x.pass).number (known x.pass) (known y.pass) turned.says.begins.0 turned.says.begins.1 (owns x (known x.pass).number refl)
+              (owns y (known x.pass).number turned.pass_number) turned.says.mine) it.came;
           alone = calls_on old mid new w.session.number x y (it.came.entry ∷ []) [] it.alone turned.of_same.sid
               (turned.says.mine ∙ sym (append-nil (known x.pass).mine)) (inl turned.is) beside.others beside.directory;
         }
@@ -73,7 +76,9 @@ module _ (site : Setting) (body : List ℕ) (w : Waiting) (old mid : Purse) (wai
         let e : journal.Entry = made.0 in
         let seen = seen_one (λ e. e.caller) (known x.pass).number call.before (known y.pass).seen call.made e made.1 call.seen in
         let collected = subst (λ (m : Option journal.Entry). Replies call.before (plain.Collect w.ticket) (plain.ToCollect (collections.Answer text)) m) made.1 call.says in
-        let came = waits_on site (known x.pass).seen call.before call.begins.0 (known x.pass).number e.caller waits.request body w.ticket call.begins.1 seen.1 it.came in
+        let came = waits_on site (known x.pass).seen call.before call.begins.0 (known x.pass).number e.caller waits.request body w.ticket call.begins.1 seen.1
+        (none_before_call (known x.pass).number (known x.pass) (known y.pass) call.before call.begins.0 call.made call.begins.1 call.seen (owns x (known x.pass).number refl)
+        (owns y (known x.pass).number turned.pass_number) call.mine) it.came in
         record {
           request = waits.request;
           names = waits.names;
@@ -85,6 +90,8 @@ module _ (site : Setting) (body : List ℕ) (w : Waiting) (old mid : Purse) (wai
           seen = t.looked.begins.1 ∙ (ap (λ (l : List journal.Entry). l ++ t.looked.begins.0) seen.0 ∙ append_assoc call.before (e ∷ []) t.looked.begins.0);
           at = last_place call.before (known y.pass).seen e seen.0;
           own = seen.1 ∙ sym turned.pass_number;
+          since = none_since_look (known y.pass).number (known y.pass) (known t.since.pass) t.looked.begins.0 t.looked.begins.1 (owns y (known y.pass).number refl)
+              (owns t.since (known y.pass).number t.pass_number) t.looked.mine;
           added = it.came.entry ∷ e ∷ [];
           answers = collected_by site call.before e e.call waits.request body text w.ticket made.2 came collected;
           number = w.session.number;
@@ -116,7 +123,9 @@ module _ (site : Setting) (body : List ℕ) (w : Waiting) (old mid : Purse) (wai
           named = turned.of_same.sid ∙ it.named;
           before = call.before;
           made = call.made;
-          came = waits_on site (known x.pass).seen call.before call.begins.0 (known x.pass).number (known y.pass).number waits.request body w.ticket call.begins.1 turned.pass_number it.came;
+          came = waits_on site (known x.pass).seen call.before call.begins.0 (known x.pass).number (known y.pass).number waits.request body w.ticket call.begins.1 turned.pass_number
+              (none_before_call (known x.pass).number (known x.pass) (known y.pass) call.before call.begins.0 call.made call.begins.1 call.seen (owns x (known x.pass).number refl)
+              (owns y (known x.pass).number turned.pass_number) call.mine) it.came;
           seen = subst (λ (n : ℕ). Appends (λ e. e.caller) n call.before call.made (known y.pass).seen) (sym turned.pass_number) call.seen;
           found = collected_as what;
           gets_none = none;

@@ -20,6 +20,7 @@ use Rattle.session_journal.specs.declared.entry.Limited.TheVariants as limits
 use Rattle.session_journal.specs.Entries.{entered_in, limited_in, request_in}
 use Rattle.session_journal.specs.Stored.{After, Enters, Replies}
 use Rattle.serve_loop.specs.Trail.{AnswersBy, IsNow, Setting, WaitedFor}
+use Rattle.serve_loop.proofs.OwnLemmas.{own, own-append}
 
 to_arrive : (a b : Arrived) → plain.ToArrive a ≡ plain.ToArrive b → a ≡ b
 to_arrive a b is = cc
@@ -131,7 +132,7 @@ answers_by site before e (stored.Limit kind cost at) request body text now at_no
       let costs : cost ≡ body_cost request body = cc in
       (limited_arrival kind of, costs, (now, at_now, replies), refl)
 ]
-answers_by site before e (stored.Open sid host greeting stored_body at limit) request body text now at_now entered replies = absurd (let no : None ≡ Some entered.told = entered.tells in cc)
+answers_by site before e (stored.Open sid host greeting stored_body at limit gap_waits) request body text now at_now entered replies = absurd (let no : None ≡ Some entered.told = entered.tells in cc)
 answers_by site before e (stored.Collect ticket) request body text now at_now entered replies =
     absurd (other entered.told (plain.Made (plain.Collect ticket)) request body now entered.is entered.tells (λ no. cc) (λ no. cc))
 answers_by site before e (stored.Back stream stanza at) request body text now at_now entered replies =
@@ -169,7 +170,7 @@ collected_by site before e (stored.Collect taken) request body text ticket is wa
 collected_by site before e (stored.Arrive stored_body at) request body text ticket is waited replies = absurd (read_no_collect (request_in stored_body) stored_body at ticket is)
 collected_by site before e (stored.Limit kind cost at) request body text ticket is waited replies =
     absurd (let no : Some (plain.Limit (limited_in kind) cost at) ≡ Some (plain.Made (plain.Collect ticket)) = is in cc)
-collected_by site before e (stored.Open sid host greeting stored_body at limit) request body text ticket is waited replies =
+collected_by site before e (stored.Open sid host greeting stored_body at limit gap_waits) request body text ticket is waited replies =
     absurd (let no : None ≡ Some (plain.Made (plain.Collect ticket)) = is in cc)
 collected_by site before e (stored.Back stream stanza at) request body text ticket is waited replies =
     absurd (let no : Some (plain.Made (plain.Back stream stanza at)) ≡ Some (plain.Made (plain.Collect ticket)) = is in cc)
@@ -183,13 +184,15 @@ collected_by site before e stored.TakeInward request body text ticket is waited 
 -- What waits, in a history that goes on.
 
 abbrev pub waits_on : (site : Setting) (old new rest : List Entry) (caller same : ℕ) (request : Request) (body : List ℕ) (ticket : ℕ) → new ≡ old ++ rest → same ≡ caller
+    → own caller rest ≡ []
     → WaitedFor site old caller request body ticket → WaitedFor site new same request body ticket
-waits_on site old new rest caller same request body ticket is same_is w = record {
+waits_on site old new rest caller same request body ticket is same_is none w = record {
   before = w.before;
   entry = w.entry;
   later = w.later ++ rest;
   there = is ∙ ap (λ (l : List Entry). l ++ rest) w.there ∙ append_assoc w.before (w.entry ∷ w.later) rest;
   own = w.own ∙ sym same_is;
+  since = ap (λ (n : ℕ). own n (w.later ++ rest)) same_is ∙ (own-append caller w.later rest ∙ (ap (λ l. l ++ own caller rest) w.since ∙ none));
   waits = w.waits;
 }
 

@@ -4,6 +4,7 @@ pub mod AskedLemmas
 pub mod CollectingLemmas
 pub mod ConnectionLemmas
 pub mod EffectLemmas
+pub mod OwnLemmas
 pub mod EntryLemmas
 pub mod LookingLemmas
 pub mod OpeningLemmas

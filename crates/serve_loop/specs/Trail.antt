@@ -5,6 +5,7 @@ use Rattle.bosh_types.specs.declared.condition.Condition.{Condition}
 use Rattle.bosh_types.specs.declared.condition.Condition.TheVariants.{ItemNotFound, UndefinedCondition}
 use Rattle.bosh_types.specs.declared.hosts.HostName.{HostName}
 use Rattle.body_writer.specs.Answer.{answer_text}
+use Rattle.parked_gate.specs.Histories.{calls_of}
 use Rattle.parked_gate.specs.Passes.{known}
 use Rattle.session_attrs.specs.declared.request.Kind.TheVariants as kinds
 use Rattle.session_attrs.specs.declared.request.Request.{Request}
@@ -60,13 +61,14 @@ pub record Names (body sid : List ℕ) (request : Request) : Type 0 where
 abbrev pub Arrives : Setting → List journal.Entry → journal.Entry → Request → List ℕ → Arrived → Type 0
 Arrives site before e request body reply = (now : ℕ) × IsNow site now × Replies before (plain.Arrive request body now) (plain.ToArrive reply) (Some e)
 
--- the request came in this history before, from this caller, and was given this ticket
+-- the request came in this history before, from this caller, which entered nothing since, and was given this ticket
 pub record WaitedFor (site : Setting) (history : List journal.Entry) (caller : ℕ) (request : Request) (body : List ℕ) (ticket : ℕ) : Type 0 where
   pub before : List journal.Entry
   pub entry : journal.Entry
   pub later : List journal.Entry
   pub there : history ≡ before ++ entry ∷ later
   pub own : entry.caller ≡ caller
+  pub since : calls_of (λ e. e.caller) caller later ≡ []
   pub waits : Arrives site before entry request body (arrivals.Parked ticket)
 
 -- the entry that follows this history answers the request with this text: it is the arrival of the body, or the limit of the
@@ -79,13 +81,14 @@ AnswersBy site before e (stored.Limit kind cost now) request body text added =
 AnswersBy site before e (stored.Collect ticket) request body text added =
     (came : WaitedFor site before e.caller request body ticket)
     × Replies before (plain.Collect ticket) (plain.ToCollect (collections.Answer text)) (Some e) × (added ≡ came.entry ∷ e ∷ [])
-AnswersBy site before e (stored.Open sid host greeting body' now limit) request body text added = ⊥
+AnswersBy site before e (stored.Open sid host greeting body' now limit gap_waits) request body text added = ⊥
 AnswersBy site before e (stored.Back stream stanza now) request body text added = ⊥
 AnswersBy site before e (stored.BackClosed stream closing now) request body text added = ⊥
 AnswersBy site before e (stored.Tick now) request body text added = ⊥
 AnswersBy site before e stored.TakeInward request body text added = ⊥
 
--- an entry of the session's history, made by this worker for this body, answers it; nothing else was done for it
+-- an entry of the session's history, made by this worker for this body, answers it, and is the last that this worker made there; nothing else was
+-- done for it
 pub record IsEntry (site : Setting) (sid : List ℕ) (caller place : ℕ) (body text : List ℕ) (old new : Purse) (session : SessionHandle) : Type 0 where
   pub request : Request
   pub names : Names body sid request
@@ -97,6 +100,7 @@ pub record IsEntry (site : Setting) (sid : List ℕ) (caller place : ℕ) (body 
   pub seen : (known session.pass).seen ≡ before ++ entry ∷ later
   pub at : length before ≡ place
   pub own : entry.caller ≡ caller
+  pub since : calls_of (λ e. e.caller) caller later ≡ []
   pub added : List journal.Entry
   pub answers : AnswersBy site before entry entry.call request body text added
   pub number : ℕ

@@ -13,7 +13,7 @@ ghost use Rattle.session_table.specs.Purses.{OthersStay, Turned, held};
 use crate::asked::{Asked, what_is_asked};
 use crate::telling::last_of;
 use crate::trail::Evidence;
-use crate::worker::{Site, Worker};
+use crate::worker::{Site, Tools, Worker};
 use bosh_ports::{Bell, BellKey};
 use bosh_types::{SharedText, Ticket};
 use server_ports::{Clock, Names};
@@ -48,12 +48,13 @@ pub(crate) enum Answering {
     Superseded,
 }
 
-impl<B: Bell, M: Names> Worker<B, M> {
+impl Worker {
     /// Makes the call that the body asks for. The only error is want of memory.
-    pub(crate) fn answer<R: Wait, C: Clock>(
+    pub(crate) fn answer<R: Wait, C: Clock, B: Bell, M: Names>(
         &mut self,
         rt: &R,
         site: &Site<'_, C>,
+        tools: &mut Tools<B, M>,
         body: SharedText,
     ) -> Result<Answering, AllocError>
         requires { IsPassOf site.now.directory.now self.old.purse.directory }
@@ -62,29 +63,36 @@ impl<B: Bell, M: Names> Worker<B, M> {
             self.old.purse self.new.purse) }
         ensures err { OnErr result (self.new.trail ≡ self.old.trail) }
         ensures lost { OnErr result (IsLost (setting site.now.hosts.now site.now.limits (C.moment site.now.clock.now)) body self.old.purse self.new.purse) }
-        ensures silences { B.silences self.new.bell ≡ B.silences self.old.bell }
+        ensures silences { B.silences tools.new.bell ≡ B.silences tools.old.bell }
     {
         let asked = what_is_asked(site.alloc, site.hosts, body.as_slice())?;
         match asked {
             Asked::Nothing(condition) => {
                 self.trail.refuse(site.alloc, condition, Evidence::Request)
             }
-            Asked::Creation { request, place } => self.create(rt, site, request, body, place),
-            Asked::Later { request } => self.serve(rt, site, request, body),
+            Asked::Creation { request, place } => self.create(
+                rt, site, tools, request, body, place,
+            ),
+            Asked::Later { request } => self.serve(rt, site, tools, request, body),
         }
     }
 
     /// What there is by now for a request that waits. It takes no memory.
-    pub(crate) fn collect<R: Wait>(&mut self, rt: &R, waiting: Waiting) -> Answering
+    pub(crate) fn collect<R: Wait, B: Bell>(
+        &mut self,
+        rt: &R,
+        bell: &mut B,
+        waiting: Waiting,
+    ) -> Answering
         requires { IsSome (held self.old.purse.sessions waiting.session.number) }
         ensures directory { self.new.purse.directory ≡ self.old.purse.directory }
         ensures held { StaysHeld self.new.purse.sessions result }
         ensures collects { (site : Setting) → (body : List ℕ) → (before : Purse) → IsWaiting site before self.old.purse body waiting
             → Collects site body self.old.trail self.new.trail before self.new.purse waiting result }
-        ensures silences { B.silences self.new.bell ≡ B.silences self.old.bell }
+        ensures silences { B.silences bell.new ≡ B.silences bell.old }
     {
         let number = waiting.session.number;
-        self.bell.tune(BellKey(number));
+        bell.tune(BellKey(number));
         match self.purse.poll(rt, number, waiting.ticket) {
             None => Answering::Waits(waiting),
             Some(Found::Answer(text)) => {
@@ -103,7 +111,6 @@ impl<B: Bell, M: Names> Worker<B, M> {
             → TellsLast self.old.trail self.new.trail self.new.purse.sessions session.number session.sid x }
         ensures others { OthersStay session.number self.old.purse.sessions self.new.purse.sessions }
         ensures directory { self.new.purse.directory ≡ self.old.purse.directory }
-        ensures silences { B.silences self.new.bell ≡ B.silences self.old.bell }
     {
         let Named { sid, number } = session;
         let last = last_of(session_of(&self.purse, number));

@@ -15,7 +15,7 @@ ghost use Rattle.session_table.specs.Purses.{Holds, OthersStay, held};
 use crate::answering::{Answering, Named, Waiting, evidence_of, session_of};
 use crate::asked::Asked;
 use crate::trail::{Evidence, TrailLine};
-use crate::worker::{Site, Worker};
+use crate::worker::{Site, Tools, Worker};
 use bosh_ports::{Bell, BellKey};
 use bosh_types::{Condition, CopyIn, SharedText};
 use server_ports::{Clock, Names};
@@ -26,12 +26,13 @@ use std::alloc::{AllocError, Global};
 use std::snapshot::Snapshot;
 use std::sync::Wait;
 
-impl<B: Bell, M: Names> Worker<B, M> {
+impl Worker {
     /// Calls the session that the request names.
-    pub(crate) fn serve<R: Wait, C: Clock>(
+    pub(crate) fn serve<R: Wait, C: Clock, B: Bell, M: Names>(
         &mut self,
         rt: &R,
         site: &Site<'_, C>,
+        tools: &mut Tools<B, M>,
         request: Request,
         body: SharedText,
     ) -> Result<Answering, AllocError>
@@ -42,14 +43,23 @@ impl<B: Bell, M: Names> Worker<B, M> {
             self.old.purse self.new.purse) }
         ensures err { OnErr result (self.new.trail ≡ self.old.trail) }
         ensures lost { OnErr result (AddsNothing self.old.purse self.new.purse) }
-        ensures silences { B.silences self.new.bell ≡ B.silences self.old.bell }
+        ensures silences { B.silences tools.new.bell ≡ B.silences tools.old.bell }
     {
         let sid = named_by(site.alloc, &request)?;
         let found = self
             .purse
             .find(rt, site.alloc, site.directory, sid.as_slice())?;
         match found {
-            Some(number) => self.arrive(rt, site, Named { sid, number }, request, body),
+            Some(number) => {
+                self.arrive(
+                    rt,
+                    site,
+                    &mut tools.bell,
+                    Named { sid, number },
+                    request,
+                    body,
+                )
+            },
             None => {
                 let evidence = evidence_of(&self.purse);
                 self.trail.unknown(site.alloc, sid, evidence)
@@ -58,10 +68,11 @@ impl<B: Bell, M: Names> Worker<B, M> {
     }
 
     /// The request arrives at this session.
-    fn arrive<R: Wait, C: Clock>(
+    fn arrive<R: Wait, C: Clock, B: Bell>(
         &mut self,
         rt: &R,
         site: &Site<'_, C>,
+        bell: &mut B,
         session: Named,
         request: Request,
         body: SharedText,
@@ -71,7 +82,7 @@ impl<B: Bell, M: Names> Worker<B, M> {
         ensures answers { (before : Purse) → FindsAtMost before self.old.purse session.number session.sid
             → IfOk result (Answers (setting site.now.hosts.now site.now.limits (C.moment site.now.clock.now)) body self.old.trail self.new.trail before self.new.purse) }
         ensures directory { self.new.purse.directory ≡ self.old.purse.directory }
-        ensures silences { B.silences self.new.bell ≡ B.silences self.old.bell }
+        ensures silences { B.silences bell.new ≡ B.silences bell.old }
         ensures err { OnErr result (self.new.trail ≡ self.old.trail) }
         ensures lost { (before : Purse) → FindsAtMost before self.old.purse session.number session.sid → OnErr result (AddsNothing before self.new.purse) }
     {
@@ -80,7 +91,7 @@ impl<B: Bell, M: Names> Worker<B, M> {
         let reply = self
             .purse
             .call(rt, number, Call::Arrive { request, body, now })?;
-        ring(&mut self.bell, number);
+        ring(bell, number);
         match arrived_in(reply) {
             Arrived::Answer(text) => {
                 self.told_by_last(rt, Named { sid, number });
@@ -102,7 +113,6 @@ impl<B: Bell, M: Names> Worker<B, M> {
             → Adds self.old.trail self.new.trail (TrailLine.Unknown sid) (ShowsSession session)) }
         ensures gone { IfOk result (λ _. (held self.new.purse.sessions number ≡ None) × OthersStay number self.old.purse.sessions self.new.purse.sessions) }
         ensures directory { self.new.purse.directory ≡ self.old.purse.directory }
-        ensures silences { B.silences self.new.bell ≡ B.silences self.old.bell }
         ensures err { OnErr result (self.new.trail ≡ self.old.trail) }
         ensures kept { OnErr result (self.new.purse ≡ self.old.purse) }
     {

@@ -10,7 +10,7 @@ ghost use Rattle.serve_loop.specs.Trail.{Setting, setting};
 use crate::answering::{Answering, Waiting};
 use crate::owed::Owed;
 use crate::trail::{Evidence, Trail, TrailLine};
-use crate::worker::{Site, Worker};
+use crate::worker::{Site, Tools, Worker};
 use bosh_http::{HttpIn, HttpRefusal, MessageWriter, RequestReader};
 use bosh_ports::{Bell, Link, WriteFault};
 use bosh_types::{SharedText, Text};
@@ -126,7 +126,8 @@ impl Connection {
         &mut self,
         rt: &R,
         site: &Site<'_, C>,
-        worker: &mut Worker<B, M>,
+        worker: &mut Worker,
+        tools: &mut Tools<B, M>,
         link: &mut L,
     )
         requires pass { IsPassOf site.now.directory.now worker.old.purse.directory }
@@ -139,10 +140,10 @@ impl Connection {
             self.old.stage self.new.stage }
         ensures next { IsNext self.old.stage self.new.stage }
         ensures faults { L.faults link.old ≤ L.faults link.new }
-        ensures silences { B.silences worker.new.bell ≡ B.silences worker.old.bell }
+        ensures silences { B.silences tools.new.bell ≡ B.silences tools.old.bell }
     {
         let stage = replace(&mut self.stage, Stage::Reading);
-        self.stage = self.move_on(rt, site, worker, link, stage);
+        self.stage = self.move_on(rt, site, worker, tools, link, stage);
     }
 
     // Where it stands after one move from here.
@@ -150,7 +151,8 @@ impl Connection {
         &mut self,
         rt: &R,
         site: &Site<'_, C>,
-        worker: &mut Worker<B, M>,
+        worker: &mut Worker,
+        tools: &mut Tools<B, M>,
         link: &mut L,
         stage: Stage,
     ) -> Stage
@@ -164,16 +166,16 @@ impl Connection {
             stage result }
         ensures next { IsNext stage result }
         ensures faults { L.faults link.old ≤ L.faults link.new }
-        ensures silences { B.silences worker.new.bell ≡ B.silences worker.old.bell }
+        ensures silences { B.silences tools.new.bell ≡ B.silences tools.old.bell }
     {
         match stage {
             Stage::Reading => self.read(&mut worker.trail, link),
-            Stage::Asked { body, closing } => ask(rt, site, worker, body, closing),
+            Stage::Asked { body, closing } => ask(rt, site, worker, tools, body, closing),
             Stage::Waiting {
                 waiting,
                 closing,
                 ..
-            } => collected(rt, worker, waiting, closing),
+            } => collected(rt, worker, &mut tools.bell, waiting, closing),
             Stage::Owing(owed) => self.write(link, &owed),
             Stage::Over(end) => Stage::Over(end),
         }
@@ -252,7 +254,8 @@ pub(crate) fn refused(trail: &mut Trail, refusal: HttpRefusal) -> Stage
 pub(crate) fn ask<R: Wait, C: Clock, B: Bell, M: Names>(
     rt: &R,
     site: &Site<'_, C>,
-    worker: &mut Worker<B, M>,
+    worker: &mut Worker,
+    tools: &mut Tools<B, M>,
     body: SharedText,
     closing: bool,
 ) -> Stage
@@ -264,18 +267,19 @@ pub(crate) fn ask<R: Wait, C: Clock, B: Bell, M: Names>(
         (record { stream = stream; given = given; trail = worker.new.trail; purse = worker.new.purse; faults = faults })
         (Stage.Asked body closing) result }
     ensures next { is_called result ≡ true }
-    ensures silences { B.silences worker.new.bell ≡ B.silences worker.old.bell }
+    ensures silences { B.silences tools.new.bell ≡ B.silences tools.old.bell }
 {
-    match worker.answer(rt, site, body) {
+    match worker.answer(rt, site, tools, body) {
         Ok(answering) => stage_of(answering, closing, false),
         Err(AllocError) => Stage::Owing(Owed::NoMemory),
     }
 }
 
 // Looks for the answer of a request that waits.
-pub(crate) fn collected<R: Wait, B: Bell, M: Names>(
+pub(crate) fn collected<R: Wait, B: Bell>(
     rt: &R,
-    worker: &mut Worker<B, M>,
+    worker: &mut Worker,
+    bell: &mut B,
     waiting: Waiting,
     closing: bool,
 ) -> Stage
@@ -287,9 +291,9 @@ pub(crate) fn collected<R: Wait, B: Bell, M: Names>(
         (record { stream = stream; given = given; trail = worker.new.trail; purse = worker.new.purse; faults = faults })
         (Stage.Waiting waiting closing looked) result }
     ensures next { is_looked_at result ≡ true }
-    ensures silences { B.silences worker.new.bell ≡ B.silences worker.old.bell }
+    ensures silences { B.silences bell.new ≡ B.silences bell.old }
 {
-    stage_of(worker.collect(rt, waiting), closing, true)
+    stage_of(worker.collect(rt, bell, waiting), closing, true)
 }
 
 fn stage_of(answering: Answering, closing: bool, looked: bool) -> Stage

@@ -16,7 +16,7 @@ use crate::answering::{Answering, evidence_of, session_of};
 use crate::arriving::ring;
 use crate::asked::Asked;
 use crate::trail::TrailLine;
-use crate::worker::{Site, Worker};
+use crate::worker::{Site, Tools, Worker};
 use bosh_ports::Bell;
 use bosh_types::{
     Condition, CopyIn, HostName, HostNames, Moment, SharedText, Stanzas, Text, copy_items,
@@ -27,12 +27,13 @@ use session_table::{Limits, NewSession, Opening};
 use std::alloc::{AllocError, Global};
 use std::sync::Wait;
 
-impl<B: Bell, M: Names> Worker<B, M> {
+impl Worker {
     /// Opens a session at the host at this place.
-    pub(crate) fn create<R: Wait, C: Clock>(
+    pub(crate) fn create<R: Wait, C: Clock, B: Bell, M: Names>(
         &mut self,
         rt: &R,
         site: &Site<'_, C>,
+        tools: &mut Tools<B, M>,
         request: Request,
         body: SharedText,
         place: usize,
@@ -44,21 +45,27 @@ impl<B: Bell, M: Names> Worker<B, M> {
             self.old.purse self.new.purse) }
         ensures err { OnErr result (self.new.trail ≡ self.old.trail) }
         ensures lost { OnErr result (IsLost (setting site.now.hosts.now site.now.limits (C.moment site.now.clock.now)) body self.old.purse self.new.purse) }
-        ensures silences { B.silences self.new.bell ≡ B.silences self.old.bell }
+        ensures silences { B.silences tools.new.bell ≡ B.silences tools.old.bell }
     {
-        let name = self.names.name()?;
+        let name = tools.names.name()?;
         let host = host_at(site.hosts, place);
         let at = site.clock.now();
         let opening = opening_at(site.alloc, name, host, request, body, at, site.limits)?;
         let new = self.purse.open(rt, site.directory, opening)?;
         match new {
             NewSession::Opened { number, answer } => {
-                ring(&mut self.bell, number);
+                ring(&mut tools.bell, number);
                 self.trail.open(session_of(&self.purse, number))?;
                 Ok(Answering::Now(answer))
             }
-            NewSession::TableFull => self.no_room(site.alloc),
-            NewSession::OpeningsSpent => self.no_room(site.alloc),
+            NewSession::TableFull => {
+                tools.refused.table_full = tools.refused.table_full.saturating_add(1);
+                self.no_room(site.alloc)
+            }
+            NewSession::OpeningsSpent => {
+                tools.refused.openings_spent = tools.refused.openings_spent.saturating_add(1);
+                self.no_room(site.alloc)
+            }
         }
     }
 
@@ -68,7 +75,6 @@ impl<B: Bell, M: Names> Worker<B, M> {
         ensures line { IfOk result (λ _. Adds self.old.trail self.new.trail (TrailLine.NoSession Condition.UndefinedCondition)
             (ShowsDirectory (known self.old.purse.directory))) }
         ensures purse { self.new.purse ≡ self.old.purse }
-        ensures silences { B.silences self.new.bell ≡ B.silences self.old.bell }
         ensures err { OnErr result (self.new.trail ≡ self.old.trail) }
     {
         let evidence = evidence_of(&self.purse);

@@ -25,4 +25,4 @@ pub use polled_serve::serve_polled;
 pub use serve::serve_connection;
 pub use trail::{Evidence, Traced, Trail, TrailLine};
 pub use turned_away::turn_away;
-pub use worker::{Site, Worker};
+pub use worker::{Refused, Site, Tools, Worker};

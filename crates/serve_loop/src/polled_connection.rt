@@ -15,10 +15,10 @@ use crate::connection::{
 };
 use crate::owed::Owed;
 use crate::trail::Trail;
-use crate::worker::{Site, Worker};
+use crate::worker::{Site, Tools, Worker};
 use bosh_http::{Awaited, HttpIn};
 use bosh_ports::{Bell, Polled};
-use polled_http::{GiveRoom, Given, HttpPolled, PolledReader, Rooms, TakeRoom};
+use polled_http::{GiveRoom, Given, HttpPolled, PolledReader, TakeRoom};
 use server_ports::{Clock, Names};
 use std::alloc::Global;
 use std::mem::replace;
@@ -144,8 +144,8 @@ impl PolledConnection {
         &mut self,
         rt: &R,
         site: &Site<'_, C>,
-        worker: &mut Worker<B, M>,
-        rooms: &mut Rooms,
+        worker: &mut Worker,
+        tools: &mut Tools<B, M>,
         link: &mut K,
     ) -> Moved
         requires pass { IsPassOf site.now.directory.now worker.old.purse.directory }
@@ -170,14 +170,14 @@ impl PolledConnection {
         // A connection that waits for its answer isn't read.
         ensures alone { asks_link self.old.standing.stage ≡ false → (link.new ≡ link.old) × (result ≡ Moved.On) }
         ensures faults { K.faults link.old ≤ K.faults link.new }
-        ensures silences { B.silences worker.new.bell ≡ B.silences worker.old.bell }
+        ensures silences { B.silences tools.new.bell ≡ B.silences tools.old.bell }
     {
         let first = Standing {
             stage: Stage::Reading,
             place: 0,
         };
         let standing = replace(&mut self.standing, first);
-        let reached = self.move_on(rt, site, worker, rooms, link, standing);
+        let reached = self.move_on(rt, site, worker, tools, link, standing);
         self.standing = reached.standing;
         reached.moved
     }
@@ -187,8 +187,8 @@ impl PolledConnection {
         &mut self,
         rt: &R,
         site: &Site<'_, C>,
-        worker: &mut Worker<B, M>,
-        rooms: &mut Rooms,
+        worker: &mut Worker,
+        tools: &mut Tools<B, M>,
         link: &mut K,
         standing: Standing,
     ) -> Reached
@@ -210,18 +210,20 @@ impl PolledConnection {
         ensures answered { result.moved ≡ Moved.On → K.waits link.new ≡ K.waits link.old }
         ensures alone { asks_link standing.stage ≡ false → (link.new ≡ link.old) × (result.moved ≡ Moved.On) }
         ensures faults { K.faults link.old ≤ K.faults link.new }
-        ensures silences { B.silences worker.new.bell ≡ B.silences worker.old.bell }
+        ensures silences { B.silences tools.new.bell ≡ B.silences tools.old.bell }
     {
         let Standing { stage, place } = standing;
         match stage {
-            Stage::Reading => self.read(&mut worker.trail, &mut rooms.taking, link, place),
-            Stage::Asked { body, closing } => at(ask(rt, site, worker, body, closing)),
+            Stage::Reading => {
+                self.read(&mut worker.trail, &mut tools.rooms.taking, link, place)
+            },
+            Stage::Asked { body, closing } => at(ask(rt, site, worker, tools, body, closing)),
             Stage::Waiting {
                 waiting,
                 closing,
                 ..
-            } => at(collected(rt, worker, waiting, closing)),
-            Stage::Owing(owed) => give(&mut rooms.giving, link, owed, place),
+            } => at(collected(rt, worker, &mut tools.bell, waiting, closing)),
+            Stage::Owing(owed) => give(&mut tools.rooms.giving, link, owed, place),
             Stage::Over(end) => at(Stage::Over(end)),
         }
     }

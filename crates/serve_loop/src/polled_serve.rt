@@ -8,9 +8,8 @@ ghost use Rattle.serve_loop.specs.Trail.{setting};
 use crate::connection::{ConnectionEnd, Stage};
 use crate::polled_connection::PolledConnection;
 use crate::serve::is_silent;
-use crate::worker::{Site, Worker};
+use crate::worker::{Site, Tools, Worker};
 use bosh_ports::{Bell, Polled};
-use polled_http::Rooms;
 use server_ports::{Clock, Names};
 use std::sync::Wait;
 
@@ -19,8 +18,8 @@ use std::sync::Wait;
 pub fn serve_polled<R: Wait, K: Polled, C: Clock, B: Bell, M: Names>(
     rt: &R,
     site: &Site<'_, C>,
-    worker: &mut Worker<B, M>,
-    rooms: &mut Rooms,
+    worker: &mut Worker,
+    tools: &mut Tools<B, M>,
     link: &mut K,
 ) -> ConnectionEnd
     requires { IsPassOf site.now.directory.now worker.old.purse.directory }
@@ -30,18 +29,18 @@ pub fn serve_polled<R: Wait, K: Polled, C: Clock, B: Bell, M: Names>(
     ensures served { Serves (setting site.now.hosts.now site.now.limits (C.moment site.now.clock.now))
         (outside [] (K.left link.old) (K.given link.old) worker.old.trail worker.old.purse (K.faults link.old))
         (K.left link.new) (K.given link.new) worker.new.trail worker.new.purse (K.faults link.new) result }
-    ensures silent { result ≡ ConnectionEnd.Silent → HasRisen (B.silences worker.old.bell) (B.silences worker.new.bell) }
+    ensures silent { result ≡ ConnectionEnd.Silent → HasRisen (B.silences tools.old.bell) (B.silences tools.new.bell) }
     ensures never_gone { result ≢ ConnectionEnd.Gone }
-    ensures silences { B.silences worker.old.bell ≤ B.silences worker.new.bell }
+    ensures silences { B.silences tools.old.bell ≤ B.silences tools.new.bell }
     ensures faults { K.faults link.old ≤ K.faults link.new }
 {
     let _ = worker.purse.drop_removed(rt, site.directory);
     let mut connection = PolledConnection::new(site.alloc);
     for _ in rt.forever() {
-        connection.step(rt, site, worker, rooms, link);
+        connection.step(rt, site, worker, tools, link);
         match &connection.standing.stage {
             Stage::Waiting { looked, .. } => {
-                if is_silent(&mut worker.bell, *looked) {
+                if is_silent(&mut tools.bell, *looked) {
                     return ConnectionEnd::Silent;
                 }
             }

@@ -6,7 +6,7 @@ ghost use Rattle.serve_loop.specs.Connections.{outside, Serves};
 ghost use Rattle.serve_loop.specs.Trail.{setting};
 
 use crate::connection::{Connection, ConnectionEnd, Stage};
-use crate::worker::{Site, Worker};
+use crate::worker::{Site, Tools, Worker};
 use bosh_ports::{Bell, Link, Woken};
 use server_ports::{Clock, Names};
 use std::sync::Wait;
@@ -16,7 +16,8 @@ use std::sync::Wait;
 pub fn serve_connection<R: Wait, L: Link, C: Clock, B: Bell, M: Names>(
     rt: &R,
     site: &Site<'_, C>,
-    worker: &mut Worker<B, M>,
+    worker: &mut Worker,
+    tools: &mut Tools<B, M>,
     link: &mut L,
 ) -> ConnectionEnd
     requires { IsPassOf site.now.directory.now worker.old.purse.directory }
@@ -26,18 +27,18 @@ pub fn serve_connection<R: Wait, L: Link, C: Clock, B: Bell, M: Names>(
     ensures served { Serves (setting site.now.hosts.now site.now.limits (C.moment site.now.clock.now))
         (outside [] (L.left link.old) (L.given link.old) worker.old.trail worker.old.purse (L.faults link.old))
         (L.left link.new) (L.given link.new) worker.new.trail worker.new.purse (L.faults link.new) result }
-    ensures silent { result ≡ ConnectionEnd.Silent → HasRisen (B.silences worker.old.bell) (B.silences worker.new.bell) }
+    ensures silent { result ≡ ConnectionEnd.Silent → HasRisen (B.silences tools.old.bell) (B.silences tools.new.bell) }
     ensures never_gone { result ≢ ConnectionEnd.Gone }
-    ensures silences { B.silences worker.old.bell ≤ B.silences worker.new.bell }
+    ensures silences { B.silences tools.old.bell ≤ B.silences tools.new.bell }
     ensures faults { L.faults link.old ≤ L.faults link.new }
 {
     let _ = worker.purse.drop_removed(rt, site.directory);
     let mut connection = Connection::new(site.alloc);
     for _ in rt.forever() {
-        connection.step(rt, site, worker, link);
+        connection.step(rt, site, worker, tools, link);
         match &connection.stage {
             Stage::Waiting { looked, .. } => {
-                if is_silent(&mut worker.bell, *looked) {
+                if is_silent(&mut tools.bell, *looked) {
                     return ConnectionEnd::Silent;
                 }
             }

@@ -25,8 +25,8 @@ pub(crate) fn last_of(session: &SessionHandle) -> LastEntry
     ensures place { result.place ≡ length (known session.now.pass).seen - 1 }
 {
     LastEntry {
-        caller: session.pass.number(),
-        place: session.pass.length().saturating_sub(1),
+        caller: session.caller(),
+        place: session.seen().saturating_sub(1),
     }
 }
 

@@ -1,4 +1,4 @@
-// A worker, and what all workers of a server share.
+// A worker, what its thread serves it with, and what all workers of a server share.
 ghost use Rattle.std.specs.Prelude.{◌≡◌, false, IfNone, IfOk, IfSome, IsTrue};
 ghost use Rattle.std.specs.List.{list_all};
 ghost use Rattle.session_attrs.specs.Serving.{can_serve};
@@ -8,6 +8,7 @@ use crate::trail::Trail;
 use bosh_ports::Bell;
 use bosh_types::HostNames;
 use parked_gate::Gate;
+use polled_http::Rooms;
 use server_ports::{Clock, Names};
 use session_table::{Directory, Limits, Purse};
 use std::alloc::{AllocError, Global};
@@ -49,11 +50,35 @@ impl<'s, C: Clock> Site<'s, C> {
     }
 }
 
-/// One worker: what it keeps of the directory, its end of the bell, its maker of names, and the trail of what it served.
+/// One worker: what it keeps of the directory, and the trail of what it served. In a loop each connection has its own.
 #[derive(Drop)]
-pub struct Worker<B: Bell, M: Names> {
+pub struct Worker {
     pub purse: Purse,
+    pub trail: Trail,
+}
+
+/// How many creations were refused at the limits that sessions are opened within, for who tells of it.
+#[derive(Clone, Copy, Debug, PartialEq, Eq)]
+pub struct Refused {
+    /// As many sessions were live as may be.
+    pub table_full: u64,
+    /// As many sessions were opened as may be.
+    pub openings_spent: u64,
+}
+
+impl Refused {
+    pub const NONE: Refused = Refused {
+        table_full: 0,
+        openings_spent: 0,
+    };
+}
+
+/// What a thread serves its workers with: its end of the bell, its maker of names, and its rooms for what is read and given; and what it
+/// counts of them.
+#[derive(Drop)]
+pub struct Tools<B: Bell, M: Names> {
     pub bell: B,
     pub names: M,
-    pub trail: Trail,
+    pub rooms: Rooms,
+    pub refused: Refused,
 }

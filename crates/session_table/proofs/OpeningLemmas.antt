@@ -1,6 +1,6 @@
 -- What a session may be opened with under each number.
 use Rattle.std.proofs.Common.{◌≡◌, ◌≤◌, ◌<◌, ◌+◌, ◌^◌, ℕ, Bool, true, false, List, [], ◌∷◌, ◌++◌, length, refl, sym, subst, length-append, arith}
-use Rattle.std.specs.Prelude.{◌&&◌}
+use Rattle.std.specs.Prelude.{◌&&◌, max, min}
 use Rattle.std.specs.Fmt.{decimal}
 use Rattle.std.specs.List.{list_all}
 use Rattle.std.proofs.lemmas.Bool.Decides.{nat_tests}
@@ -36,6 +36,9 @@ sid_text name number is few = (
   omega (arith, length-append name (decimal number), is.few, length-decimal-le 19 number (omega arith) (omega arith) (omega arith)),
 )
 
+gap_within : (waits : ℕ) → (1 ≤ min (max waits 1) 10) × (min (max waits 1) 10 ≤ 10)
+gap_within waits = (grind (arith, nat_tests), grind (arith, nat_tests))
+
 -- the session is opened under its name
 pub may_open : (o : Opening) (number : ℕ) (sid : List ℕ) (terms : Terms) (may : MayOpen o) → number ≤ highest_number
     → terms ≡ terms_of may.creation.0 → sid ≡ sid_of o.name number → IsOpening (session_opening sid terms o)
@@ -45,5 +48,6 @@ may_open o number sid terms may few terms_is sid_is =
       creation = (may.creation.0, may.creation.1, terms_is);
       sid = sid_text o.name number may.name few;
       host = may.host;
+      gap = gap_within o.limits.gap_waits;
       greeting = may.greeting;
     })

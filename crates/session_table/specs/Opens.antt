@@ -5,7 +5,7 @@ use Rattle.session_journal.specs.declared.entry.Entered.TheVariants as stored
 use Rattle.session_journal.specs.declared.entry.Entry.{Entry}
 
 abbrev pub sid_in : Entered → Option (List ℕ)
-sid_in (stored.Open sid host greeting body now limit) = Some sid
+sid_in (stored.Open sid host greeting body now limit gap_waits) = Some sid
 sid_in _ = None
 
 -- a session's history begins with its opening, which the directory makes: its caller is 0

@@ -1,5 +1,5 @@
 -- A directory as the object of a gate: what calls and questions are told after a history.
-use Rattle.std.specs.Prelude.{◌≡◌, ℕ, ◌+◌, ◌<◌, ◌≤◌, IsTrue, List, [], ◌∷◌, length, map, Option, Some, None, Result, Ok, Err}
+use Rattle.std.specs.Prelude.{◌≡◌, ℕ, ◌+◌, ◌<◌, ◌≤◌, IsTrue, List, [], ◌∷◌, length, map, max, min, Option, Some, None, Result, Ok, Err}
 use Rattle.std.specs.Arc.{arc_value}
 use Rattle.std.specs.List.{list_all}
 use Rattle.std.specs.declared.alloc.AllocError.{AllocError}
@@ -60,14 +60,18 @@ IsFull limits log = limits.live ≤ length (live_of log)
 abbrev pub IsSpent : Limits → List Entry → Type 0
 IsSpent limits log = limits.openings ≤ length (openings_of log)
 
+-- after how many times its `wait` a session strikes a copy beyond a gap, within 1 and 10
+abbrev pub gap_waits_in : Limits → ℕ
+gap_waits_in limits = min (max limits.gap_waits 1) 10
+
 -- what the session itself is opened with, under its whole name and with its terms
 abbrev pub session_opening : List ℕ → Terms → Opening → core.Opening
 session_opening sid terms o =
-    record { request = o.request; body = o.body; terms = terms; sid = sid; host = o.host; greeting = o.greeting; at = o.at; limit = o.limits.journal }
+    record { request = o.request; body = o.body; terms = terms; sid = sid; host = o.host; greeting = o.greeting; at = o.at; limit = o.limits.journal; gap_waits = gap_waits_in o.limits }
 
 -- what a session has seen of itself when it is opened
 abbrev pub first_seen : List ℕ → Opening → List journal_entry.Entry
-first_seen sid o = record { caller = 0; call = stored.Open sid o.host o.greeting o.body o.at o.limits.journal } ∷ []
+first_seen sid o = record { caller = 0; call = stored.Open sid o.host o.greeting o.body o.at o.limits.journal (gap_waits_in o.limits) } ∷ []
 
 -- what was seen of a session tells a journal, and this is the answer of its creation
 pub record IsAnswered (log : List journal_entry.Entry) (answer : List ℕ) : Type 0 where

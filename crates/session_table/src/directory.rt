@@ -51,6 +51,14 @@ impl Model for Directory {
     ghost invariant = { λ d. Keeps d.sessions.entries d.entries d.openings };
 }
 
+/// Leave to split a handle of a session. Only this file can make one, so that the directory alone hands out passes of sessions.
+#[derive(Clone, Copy)]
+pub(crate) struct MaySplit {
+    given: (),
+}
+
+const MAY_SPLIT: MaySplit = MaySplit { given: () };
+
 /// A session that was just opened, and the body that answers its creation.
 type Started = (SessionHandle, SharedText);
 
@@ -101,7 +109,7 @@ impl Directory {
             return Ok(DirectoryReply::OpeningsSpent);
         }
         let (mut session, answer) = start(self.alloc, self.openings + 1, opening)?;
-        let handed_out = session.split()?;
+        let handed_out = session.split(MAY_SPLIT)?;
         self.enter(caller, session)?;
         Ok(DirectoryReply::Opened(Opened {
             session: handed_out,
@@ -119,7 +127,7 @@ impl Directory {
     {
         self.entries.room()?;
         let sid = session.sid.again()?;
-        let event = Event::Opened(Snapshot::of(&*session.gate));
+        let event = Event::Opened(Snapshot::of(session.gate()));
         let number = session.number;
         self.sessions.insert(number, session)?;
         self.entries.add(&Entry { caller, sid, event });
@@ -155,7 +163,7 @@ impl Directory {
         let Some(session) = self.sessions.get_mut(&number) else {
             unreachable!();
         };
-        let handle = session.split()?;
+        let handle = session.split(MAY_SPLIT)?;
         Ok(Some(handle))
     }
 
@@ -207,13 +215,7 @@ fn start(alloc: Global, number: u64, opening: &Opening) -> Result<Started, Alloc
     let Ok(gate) = Arc::new(alloc, gate) else {
         return Err(AllocError);
     };
-    let session = SessionHandle {
-        sid,
-        number,
-        gate,
-        pass,
-    };
-    Ok((session, answer))
+    Ok((SessionHandle::new(sid, number, gate, pass), answer))
 }
 
 // The session of this name, and the body that answers its creation. Nobody keeps its entry.
@@ -254,6 +256,7 @@ fn session_opening(
         greeting: Stanzas::from_vec(greeting),
         at: opening.at,
         limit: opening.limits.journal,
+        gap_waits: opening.limits.gap_waits_within(),
     })
 }
 

@@ -1,23 +1,27 @@
 // A session as a directory hands it out.
-ghost use Rattle.std.specs.Prelude.{◌≡◌, [], IfOk, Some};
+ghost use Rattle.std.specs.Prelude.{◌≡◌, [], IfOk, Some, length};
 ghost use Rattle.std.specs.Arc.{arc_value};
 ghost use Rattle.parked_gate.specs.Passes.{IsPassOf, gate_of, known};
 ghost use Rattle.session_table.specs.Opens.{opened_sid};
 
+mod serving;
+
+use crate::directory::MaySplit;
 use bosh_types::SharedText;
 use parked_gate::{Gate, Pass};
 use session_journal::Recorded;
 use std::alloc::{AllocError, Global};
 use std::sync::Arc;
 
-/// The gate of a session, with a pass to call it with.
+/// The gate of a session, with a pass to call it with. Nobody else sees either: who holds a handle makes the calls that it has, by this
+/// pass, and the directory alone splits one off.
 #[derive(Drop)]
 pub struct SessionHandle {
     pub sid: SharedText,
     /// How many sessions were opened up to it.
     pub number: u64,
-    pub gate: Arc<Gate<Recorded>, Global>,
-    pub pass: Pass<Recorded>,
+    gate: Arc<Gate<Recorded>, Global>,
+    pass: Pass<Recorded>,
     pub ghost fits: { IsPassOf (arc_value gate) pass },
     // The pass has seen that the session was opened under this name.
     pub ghost opened: { opened_sid (known pass).seen ≡ Some sid },
@@ -26,8 +30,51 @@ pub struct SessionHandle {
 impl SessionHandle {
     ghost use Rattle.session_table.specs.Handles.{IsSplitOf, IsSameHandle};
 
+    /// The session of this gate, with the pass that was made with it.
+    pub(crate) fn new(
+        sid: SharedText,
+        number: u64,
+        gate: Arc<Gate<Recorded>, Global>,
+        pass: Pass<Recorded>,
+    ) -> SessionHandle
+        requires fits { IsPassOf (arc_value gate) pass }
+        requires opened { opened_sid (known pass).seen ≡ Some sid }
+        ensures sid { result.sid ≡ sid }
+        ensures number { result.number ≡ number }
+        ensures gate { result.gate ≡ gate }
+        ensures pass { result.pass ≡ pass }
+    {
+        SessionHandle {
+            sid,
+            number,
+            gate,
+            pass,
+        }
+    }
+
+    /// The session's gate, by which no call can be made without a pass.
+    pub(crate) fn gate(&self) -> &Gate<Recorded>
+        ensures { result.now ≡ arc_value self.now.gate }
+    {
+        &self.gate
+    }
+
+    /// The number under which the handle's pass makes its entries.
+    pub fn caller(&self) -> u32
+        ensures { result ≡ (known self.now.pass).number }
+    {
+        self.pass.number()
+    }
+
+    /// How many entries of the session's history the handle's pass has seen.
+    pub fn seen(&self) -> u64
+        ensures { result ≡ length (known self.now.pass).seen }
+    {
+        self.pass.length()
+    }
+
     /// Another handle of the session, with a pass of its own. The only error is want of memory.
-    pub fn split(&mut self) -> Result<SessionHandle, AllocError>
+    pub(crate) fn split(&mut self, _leave: MaySplit) -> Result<SessionHandle, AllocError>
         ensures same { IsSameHandle self.old self.new }
         ensures split { IfOk result (IsSplitOf self.old) }
     {

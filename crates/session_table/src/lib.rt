@@ -10,7 +10,6 @@ mod laws;
 mod object;
 mod opening;
 mod purse;
-mod serving;
 mod sid;
 
 pub use calls::{

@@ -1,7 +1,12 @@
 // What a session is opened with.
+ghost use Rattle.std.specs.Prelude.{◌≡◌};
+ghost use Rattle.session_table.specs.Replies.{gap_waits_in};
+
 use bosh_types::limits::{JOURNAL_BYTES, MOST_OPENINGS, MOST_SESSIONS};
 use bosh_types::{Moment, SharedText, Stanzas, Text};
 use session_attrs::Request;
+
+const MOST_GAP_WAITS: u32 = 10;
 
 /// How much may be kept where a session is opened.
 #[derive(Clone, Copy, Debug, PartialEq, Eq)]
@@ -12,6 +17,9 @@ pub struct Limits {
     pub openings: u32,
     /// How many counted bytes the journal of each may have.
     pub journal: u64,
+    /// After how many times its `wait` a session answers a request beyond a gap by an error (XEP-0124, section 17.3): 1 to 10. What is
+    /// less counts as 1, and what is more as 10.
+    pub gap_waits: u32,
 }
 
 impl Limits {
@@ -20,7 +28,15 @@ impl Limits {
         live: MOST_SESSIONS,
         openings: MOST_OPENINGS,
         journal: JOURNAL_BYTES,
+        gap_waits: 1,
     };
+
+    // How many times it is, within 1 and 10.
+    pub(crate) fn gap_waits_within(&self) -> u32
+        ensures { result ≡ gap_waits_in self.now }
+    {
+        self.gap_waits.max(1).min(MOST_GAP_WAITS)
+    }
 }
 
 /// A creation, which its body gives, for a host with a greeting; the part of the session's name that was drawn for it; and the limits

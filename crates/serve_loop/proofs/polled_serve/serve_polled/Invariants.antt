@@ -19,6 +19,6 @@ invariant-loop g l = record {
       (outside [] (g.K.Polled.left l.fn.link) (g.K.Polled.given l.fn.link) l.fn.worker.trail first (g.K.Polled.faults l.fn.link))
       (outside l.connection.reader (g.K.Polled.left l.link) (g.K.Polled.given l.link) l.worker.trail l.worker.purse (g.K.Polled.faults l.link))
       l.connection.standing.place l.connection.standing.stage;
-  silences : g.B.Bell.silences l.fn.worker.bell ≤ g.B.Bell.silences l.worker.bell;
+  silences : g.B.Bell.silences l.fn.tools.bell ≤ g.B.Bell.silences l.tools.bell;
   faults : g.K.Polled.faults l.fn.link ≤ g.K.Polled.faults l.link;
 }

@@ -18,6 +18,6 @@ invariant-loop g l = record {
       (outside [] (g.L.Link.left l.fn.link) (g.L.Link.given l.fn.link) l.fn.worker.trail first (g.L.Link.faults l.fn.link))
       (outside l.connection.reader (g.L.Link.left l.link) (g.L.Link.given l.link) l.worker.trail l.worker.purse (g.L.Link.faults l.link))
       l.connection.stage;
-  silences : g.B.Bell.silences l.fn.worker.bell ≤ g.B.Bell.silences l.worker.bell;
+  silences : g.B.Bell.silences l.fn.tools.bell ≤ g.B.Bell.silences l.tools.bell;
   faults : g.L.Link.faults l.fn.link ≤ g.L.Link.faults l.link;
 }

@@ -11,7 +11,7 @@ ghost use Rattle.session_journal.specs.Seen.{Answers, IsStateAfter, RepliesTo};
 ghost use Rattle.session_table.specs.Handles.{IsOfSame};
 ghost use Rattle.session_table.specs.Serving.{PollsAs, WaitsAs};
 
-use crate::handle::SessionHandle;
+use super::SessionHandle;
 use bosh_ports::Bell;
 use bosh_types::Ticket;
 use parked_gate::Waited;
