@@ -1,0 +1,5 @@
+pub mod Told
+pub mod Asking
+pub mod Seeing
+pub mod Naming
+pub mod Superseding
