@@ -2,6 +2,7 @@
 use denote.RattleType.{RattleType}
 use denote.Param.Send.{IsSend, IsSync, sendable}
 use Rattle.std.proofs.Crossing as heap
+use Rattle.server_watch.proofs.Crossing.{tally_send}
 use Rattle.serve_trace.specs.contracts.queue.TraceQueue as Queue
 use Rattle.serve_trace.specs.contracts.tap.Tap as Tap
 use Rattle.serve_trace.specs.contracts.traced_link.TracedLink as Link
@@ -24,4 +25,4 @@ link R L runtime own = search (tap, queue_send, queue_sync, crosses) depth 200 f
 
 -- a back end that may cross
 pub end_ : (R E : RattleType) → IsSend R → IsSend E → IsSend (End.the_row R E)
-end_ R E runtime own = search (queue_send, queue_sync, crosses) depth 200 fits 100000
+end_ R E runtime own = search (tally_send, queue_send, queue_sync, crosses) depth 200 fits 100000

@@ -1,42 +1,31 @@
 // A back end that is listened in on.
-ghost use Rattle.std.specs.Prelude.{◌≡◌, ◌↔◌, ◌*◌, ◌+◌, ◌<◌, ℕ, true};
-
 use crate::noted::{Noted, Seen};
 use crate::queue::TraceQueue;
 use crate::remark::Remark;
 use bosh_types::{Inward, SharedText, Wire};
+use server_watch::{Tally, is_plain, session_of};
 use std::sync::{Arc, Wait};
 use xmpp_backend::{Backend, Passed, Polled};
 
-/// How many wires a session may have: the number of a wire is that of its session times this, and that of its stream.
-const STREAMS: u64 = 8;
-
-/// A back end that hands on all that it is asked. Where there is a queue, what it gave and what it was passed is noted there.
+/// A back end that hands on all that it is asked. Where there is a queue, what it gave and what it was passed is noted there; and its tally
+/// counts what it carried.
 #[derive(Drop)]
 pub struct TracedBackend<R: Wait + Copy + Drop, E: Backend> {
     rt: R,
     end: E,
     queue: Option<Arc<TraceQueue>>,
+    tally: Tally,
 }
 
 impl<R: Wait + Copy + Drop, E: Backend> TracedBackend<R, E> {
-    pub fn new(rt: R, end: E, queue: Option<Arc<TraceQueue>>) -> TracedBackend<R, E> {
-        TracedBackend { rt, end, queue }
+    pub fn new(rt: R, end: E, queue: Option<Arc<TraceQueue>>, tally: Tally) -> TracedBackend<R, E> {
+        TracedBackend {
+            rt,
+            end,
+            queue,
+            tally,
+        }
     }
-}
-
-// The opening number of the session that has this wire.
-fn session_of(wire: Wire) -> u64
-    ensures { (opening stream : ℕ) → stream < 8 → wire ≡ opening * 8 + stream → result ≡ opening }
-{
-    wire.number() / STREAMS
-}
-
-// Whether a wire is that of its session's one stream.
-fn is_plain(wire: Wire) -> bool
-    ensures { (opening stream : ℕ) → stream < 8 → wire ≡ opening * 8 + stream → (result ≡ true) ↔ (stream ≡ 0) }
-{
-    wire.number() % STREAMS == 0
 }
 
 // What was seen on this wire is noted, or lost, where there was no memory for it.
@@ -110,24 +99,29 @@ impl<R: Wait + Copy + Drop, E: Backend> Backend for TracedBackend<R, E> {
     ghost counts = { λ b. E.counts b.end };
 
     fn open(&mut self, wire: Wire, to: &[u8]) -> Passed {
-        self.end.open(wire, to)
+        let answer = self.end.open(wire, to);
+        self.tally.opened(&self.rt, wire, answer);
+        answer
     }
 
     fn pass(&mut self, wire: Wire, item: &Inward) -> Passed {
         let answer = self.end.pass(wire, item);
         note_passed(&self.rt, &self.queue, wire, item, answer);
+        self.tally.passed(&self.rt, wire, item, answer);
         answer
     }
 
     fn poll(&mut self) -> Polled {
         let polled = self.end.poll();
         note_given(&self.rt, &self.queue, &polled);
+        self.tally.polled(&self.rt, &polled);
         polled
     }
 
     fn close(&mut self, wire: Wire) -> Passed {
         let answer = self.end.close(wire);
         note_closed(&self.rt, &self.queue, wire, answer);
+        self.tally.closed(&self.rt, wire, answer);
         answer
     }
 

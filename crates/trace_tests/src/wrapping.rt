@@ -5,6 +5,7 @@ use bosh_ports::Link;
 use bosh_types::{Inward, SharedText, StreamNo, Text, Wire};
 use serve_trace::{Batch, Recorder, TraceQueue, TracedBackend, TracedNetwork};
 use server_ports::{Accepted, Network, QuietNetwork};
+use server_watch::{Tally, Watch};
 use std::alloc::{AllocError, Global};
 use std::sync::{Arc, Wait};
 use std::test::Fail;
@@ -84,7 +85,9 @@ fn what_is_carried_is_noted(rt: HostRuntime) -> Result<(), Fail> {
     let alloc = rt.alloc();
     let queue = TraceQueue::new(alloc)?;
     let own = Arc::try_clone(&queue)?;
-    let mut end = TracedBackend::new(rt, Echo::new(alloc), Some(own));
+    let host = SharedText::new(alloc, Text::from_vec(b"a".to_vec(alloc)?))?;
+    let tally = Tally::new(alloc, Watch::off(), host, false);
+    let mut end = TracedBackend::new(rt, Echo::new(alloc), Some(own), tally);
     carry(rt, alloc, &queue, &mut end)?;
     let mut recorder = Recorder::new(alloc, Pages::new(alloc), Vec::new(alloc));
     let mut batch = Batch::new(alloc);
