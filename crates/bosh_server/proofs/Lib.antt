@@ -1,2 +1,5 @@
+mod PumpLemmas
 mod HostLemmas
 mod Crossing
+mod FateLemmas
+mod RollLemmas

@@ -21,7 +21,7 @@ impl<W: Rouse + Drop> Doors<W> {
     }
 }
 
-/// The bell of a connection in a loop. Who is tuned to a key is told by the door of its loop, and the loop is what waits.
+/// The bell of the connections of a loop. Who is tuned to a key is told by the door of the loop, and the loop is what waits.
 #[derive(Drop)]
 pub(crate) struct LoopBell<R, B, W>
 where

@@ -1,26 +1,34 @@
 // The jobs of a server, made before any is started.
-ghost use Rattle.std.specs.Prelude.{◌≡◌, ◌++◌, ◌∷◌, [], IfOk, OnOk, true, filter};
+ghost use Rattle.std.specs.Prelude.{◌≡◌, ◌++◌, ◌∷◌, [], IfOk, OnOk, true, filter, map};
 ghost use Rattle.std.specs.Arc.{arc_value};
 ghost use Rattle.std.specs.List.{list_all};
-ghost use Rattle.parked_gate.specs.Passes.{IsPassOf};
+ghost use Rattle.parked_gate.specs.Passes.{IsPassOf, gate_of, known};
+ghost use Rattle.serve_loop.specs.Trail.{setting};
 ghost use Rattle.session_attrs.specs.Serving.{can_serve};
+ghost use Rattle.session_pump.specs.Pumping.{facts_of};
 
-use crate::bells::{Doors, PumpBell};
+use crate::bells::{Doors, LoopBell, PumpBell};
+use crate::ends::{Ends, Naming};
+use crate::fates::Fates;
 use crate::looping::LoopJob;
 use crate::plan::ServePlan;
-use crate::pumping::PumpJob;
+use crate::pump_end::PumpHome;
+use crate::pumping::{PumpJob, PumpPost};
 use crate::seat::LoopTools;
-use crate::yard::{Post, Yard};
+use crate::yard::Yard;
 use bosh_ports::{Bell, Polled};
 use bosh_types::{HostName, HostNames};
 use connection_loops::{Door, Inbox, Loop, Poller, Pollers, Rouse};
 use parked_gate::{Gate, Pass};
 use polled_http::Rooms;
+use serve_loop::{Refused, Tools as Serving};
 use server_ports::{Clock, Names};
+use server_watch::Watch;
 use session_attrs::can_serve;
 use session_pump::Hosts;
-use session_table::{Directory, Purse};
+use session_table::Directory;
 use std::alloc::{AllocError, Global};
+use std::marker::PhantomData;
 use std::sync::{Arc, Wait};
 use xmpp_backend::Backend;
 
@@ -55,14 +63,18 @@ pub(crate) fn new_yard<E: Backend>(
     hosts: &Hosts<E>,
     plan: &ServePlan,
     room: u32,
+    watch: &Watch,
 ) -> Result<(Arc<Yard>, Pass<Directory>), AllocError>
-    ensures { IfOk result (λ made. IsPassOf (arc_value made.0).directory made.1) }
+    ensures pass { IfOk result (λ made. IsPassOf (arc_value made.0).directory made.1) }
+    ensures hosts { IfOk result (λ made. (arc_value made.0).hosts ≡ filter can_serve (map (λ stand. record { name = stand.host.name; greeting = stand.host.greeting }) hosts.now.stands.items)) }
+    ensures limits { IfOk result (λ made. (arc_value made.0).limits ≡ plan.now.limits) }
 {
     let hosts = served_hosts(alloc, hosts.names(alloc)?)?;
     let Ok((directory, pass)) = Gate::new(alloc, Directory::new(alloc)) else {
         return Err(AllocError);
     };
-    let Ok(yard) = Arc::new(alloc, Yard::new(alloc, directory, hosts, plan, room)) else {
+    let yard = Yard::new(alloc, directory, hosts, plan, room, watch)?;
+    let Ok(yard) = Arc::new(alloc, yard) else {
         return Err(AllocError);
     };
     Ok((yard, pass))
@@ -114,7 +126,7 @@ where
     Q::Rouse: Drop,
 {
     let (poller, rouse) = pollers.poller()?;
-    let door = shared(alloc, Door::new(rouse))?;
+    let door = shared(alloc, Door::new(alloc, rouse)?)?;
     let inbox = shared(alloc, Inbox::with_room(alloc, ROOM, door)?)?;
     Ok(Lane { poller, inbox })
 }
@@ -193,30 +205,36 @@ where
     W: Rouse + Drop,
 {
     /// A loop for each lane. The only error is want of memory.
-    pub(crate) fn loops<L: Polled + Drop, M: Names + Drop, P: Poller<L> + Drop>(
+    pub(crate) fn loops<J: Naming, L: Polled + Drop, M: Names + Drop, P: Poller<L> + Drop>(
         &self,
+        ends: &Arc<Ends<J, L>>,
         lanes: Vec<Lane<L, P, W>>,
         pass: &mut Pass<Directory>,
         names: &mut M,
-    ) -> Result<Vec<LoopJob<R, L, C, B, M, P, W>>, AllocError>
-        requires { IsPassOf (arc_value self.now.yard.now).directory pass.old }
+    ) -> Result<Vec<LoopJob<J, R, L, C, B, M, P, W>>, AllocError>
+        requires pass { IsPassOf (arc_value self.now.yard.now).directory pass.old }
+        requires home { gate_of (arc_value self.now.yard.now).directory ≡ J.home }
+        requires site { setting (arc_value self.now.yard.now).hosts (arc_value self.now.yard.now).limits (C.moment self.now.clock.now) ≡ J.site }
         ensures { IsPassOf (arc_value self.now.yard.now).directory pass.new }
     {
         let mut loops = Vec::with_capacity(self.alloc, lanes.len())?;
         for lane in lanes {
-            loops.push(self.looped(lane, pass, names)?)?;
+            loops.push(self.looped(ends, lane, pass, names)?)?;
         }
         Ok(loops)
     }
 
     // A loop with a pass of its own.
-    fn looped<L: Polled + Drop, M: Names + Drop, P: Poller<L> + Drop>(
+    fn looped<J: Naming, L: Polled + Drop, M: Names + Drop, P: Poller<L> + Drop>(
         &self,
+        ends: &Arc<Ends<J, L>>,
         lane: Lane<L, P, W>,
         pass: &mut Pass<Directory>,
         names: &mut M,
-    ) -> Result<LoopJob<R, L, C, B, M, P, W>, AllocError>
-        requires { IsPassOf (arc_value self.now.yard.now).directory pass.old }
+    ) -> Result<LoopJob<J, R, L, C, B, M, P, W>, AllocError>
+        requires pass { IsPassOf (arc_value self.now.yard.now).directory pass.old }
+        requires home { gate_of (arc_value self.now.yard.now).directory ≡ J.home }
+        requires site { setting (arc_value self.now.yard.now).hosts (arc_value self.now.yard.now).limits (C.moment self.now.clock.now) ≡ J.site }
         ensures { IsPassOf (arc_value self.now.yard.now).directory pass.new }
     {
         let Lane { poller, inbox } = lane;
@@ -224,45 +242,65 @@ where
         let tools = self.loop_tools(own, Arc::try_clone(&inbox.door)?, names)?;
         Ok(LoopJob {
             rt: *self.rt,
-            yard: Arc::try_clone(self.yard)?,
+            ends: Arc::try_clone(ends)?,
             inbox,
             looped: Loop::new(self.alloc, poller, tools)?,
         })
     }
 
     // What a loop with this pass and this door has for its connections. The only error is want of memory.
-    fn loop_tools<M: Names + Drop>(
+    fn loop_tools<J: Naming, L: Polled + Drop, M: Names + Drop>(
         &self,
         pass: Pass<Directory>,
         own: Arc<Door<W>>,
         names: &mut M,
-    ) -> Result<LoopTools<R, C, B, M, W>, AllocError>
-        requires { IsPassOf (arc_value self.now.yard.now).directory pass }
+    ) -> Result<LoopTools<J, R, L, C, B, M, W>, AllocError>
+        requires pass { IsPassOf (arc_value self.now.yard.now).directory pass }
+        requires home { gate_of (arc_value self.now.yard.now).directory ≡ J.home }
+        requires site { setting (arc_value self.now.yard.now).hosts (arc_value self.now.yard.now).limits (C.moment self.now.clock.now) ≡ J.site }
     {
         Ok(LoopTools {
-            rt: *self.rt,
             alloc: self.alloc,
             yard: Arc::try_clone(self.yard)?,
             pass,
-            posts: Vec::new(self.alloc),
-            doors: Arc::try_clone(self.doors)?,
-            own,
+            stalls: Vec::new(self.alloc),
             clock: self.clock.share(),
-            bell: self.bell.share()?,
-            names: names.share(),
-            rooms: Rooms::new(self.alloc),
+            serving: Serving {
+                bell: self.loop_bell(own)?,
+                names: names.share(),
+                rooms: Rooms::new(self.alloc),
+                refused: Refused::NONE,
+            },
+            fates: Fates::new(),
+            settled: 0,
+            of: PhantomData,
         })
     }
 
-    /// The pump of these hosts, with this pass. The only error is want of memory.
-    pub(crate) fn pump<E: Backend>(
+    // The bell of a loop with this door. The only error is want of memory.
+    fn loop_bell(&self, own: Arc<Door<W>>) -> Result<LoopBell<R, B, W>, AllocError> {
+        Ok(LoopBell {
+            rt: *self.rt,
+            yard: Arc::try_clone(self.yard)?,
+            doors: Arc::try_clone(self.doors)?,
+            own,
+            bell: self.bell.share()?,
+        })
+    }
+
+    /// The pump of these hosts, with this pass, whose end is to be left there. The only error is want of memory.
+    pub(crate) fn pump<J: Naming, E: Backend>(
         &self,
         pass: Pass<Directory>,
         hosts: Hosts<E>,
-    ) -> Result<PumpJob<R, C, PumpBell<B, W>, Hosts<E>>, AllocError>
-        requires { IsPassOf (arc_value self.now.yard.now).directory pass }
+        last: &Arc<PumpHome<J, E>>,
+    ) -> Result<PumpJob<R, C, PumpBell<B, W>, PumpPost<J, E>>, AllocError>
+        requires pass { IsPassOf (arc_value self.now.yard.now).directory pass }
+        requires home { gate_of (arc_value self.now.yard.now).directory ≡ J.home }
+        requires stands { map (facts_of E.told E.counts) hosts.stands.items ≡ J.stands }
+        requires no_entry { (known pass).mine ≡ [] }
     {
-        let post = self.post(pass)?;
+        let post = self.pump_post(pass, hosts, last)?;
         let bell = PumpBell {
             bell: self.bell.share()?,
             doors: Arc::try_clone(self.doors)?,
@@ -270,19 +308,29 @@ where
         Ok(PumpJob {
             rt: *self.rt,
             alloc: self.alloc,
-            post,
             clock: self.clock.share(),
             bell,
-            hosts,
+            post,
         })
     }
 
-    // A place with this pass.
-    fn post(&self, pass: Pass<Directory>) -> Result<Post, AllocError>
-        requires { IsPassOf (arc_value self.now.yard.now).directory pass }
+    // The pump before it begins.
+    fn pump_post<J: Naming, E: Backend>(
+        &self,
+        pass: Pass<Directory>,
+        hosts: Hosts<E>,
+        last: &Arc<PumpHome<J, E>>,
+    ) -> Result<PumpPost<J, E>, AllocError>
+        requires pass { IsPassOf (arc_value self.now.yard.now).directory pass }
+        requires home { gate_of (arc_value self.now.yard.now).directory ≡ J.home }
+        requires stands { map (facts_of E.told E.counts) hosts.stands.items ≡ J.stands }
+        requires no_entry { (known pass).mine ≡ [] }
     {
-        let yard = Arc::try_clone(self.yard)?;
-        let purse = Purse::new(self.alloc, pass);
-        Ok(Post { yard, purse })
+        Ok(PumpPost {
+            hosts,
+            yard: Arc::try_clone(self.yard)?,
+            pass,
+            last: Arc::try_clone(last)?,
+        })
     }
 }

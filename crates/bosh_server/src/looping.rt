@@ -2,19 +2,20 @@
 ghost use Rattle.std.specs.Prelude.{◌≡◌, ◌≤◌, false, true};
 ghost use Rattle.bosh_ports.specs.Faults.{HasRisen};
 
-use crate::seat::ConnectionSeat;
+use crate::ends::{End, Ends, Naming};
+use crate::seat::{ConnectionSeat, LoopTools};
 use crate::starting::{Startup, start_all};
-use crate::yard::Yard;
 use bosh_ports::{Bell, Polled};
 use connection_loops::{Inbox, Loop, Poller, Rouse, Turned};
 use server_ports::{Clock, Job, Leave, Names, Spawner};
 use std::sync::{Arc, Wait};
 use std::thread::Threads;
 
-/// Serves the links that are left for it, all at once, until no more come and none is here.
+/// Serves the links that are left for it, all at once, until no more come and none is here. What became of each is told by its end.
 #[derive(Drop)]
-pub(crate) struct LoopJob<R, L, C, B, M, P, W>
+pub(crate) struct LoopJob<J, R, L, C, B, M, P, W>
 where
+    J: Naming,
     R: Wait + Copy + Drop,
     L: Polled + Drop,
     C: Clock + Drop,
@@ -24,13 +25,14 @@ where
     W: Rouse + Drop,
 {
     pub(crate) rt: R,
-    pub(crate) yard: Arc<Yard>,
+    pub(crate) ends: Arc<Ends<J, L>>,
     pub(crate) inbox: Arc<Inbox<L, W>>,
-    pub(crate) looped: Loop<ConnectionSeat<R, L, C, B, M, W>, P>,
+    pub(crate) looped: Loop<LoopTools<J, R, L, C, B, M, W>, ConnectionSeat<J, L>, P>,
 }
 
-impl<R, L, C, B, M, P, W> Job for LoopJob<R, L, C, B, M, P, W>
+impl<J, R, L, C, B, M, P, W> Job for LoopJob<J, R, L, C, B, M, P, W>
 where
+    J: Naming,
     R: Wait + Copy + Drop,
     L: Polled + Drop,
     C: Clock + Drop,
@@ -42,7 +44,7 @@ where
     fn run(self, _leave: Leave) {
         let LoopJob {
             rt,
-            yard,
+            ends,
             inbox,
             looped,
         } = self;
@@ -52,17 +54,33 @@ where
                 break;
             }
         }
-        yard.end_worker(&rt);
+        let LoopTools {
+            fates,
+            settled,
+            pass,
+            of,
+            ..
+        } = looped.into_tools();
+        ends.put(
+            &rt,
+            End {
+                fates,
+                settled,
+                pass,
+                of,
+            },
+        );
     }
 }
 
 /// Starts loops in their order, up to one that is refused. Those behind it are dropped.
-pub(crate) fn start_loops<R, S, L, C, B, M, P, W>(
+pub(crate) fn start_loops<J, R, S, L, C, B, M, P, W>(
     rt: &R,
     spawner: &mut S,
-    loops: Vec<LoopJob<R, L, C, B, M, P, W>>,
+    loops: Vec<LoopJob<J, R, L, C, B, M, P, W>>,
 ) -> Startup
 where
+    J: Naming + Send + Sync + 'static,
     R: Wait + Threads + Copy + Send + Drop + 'static,
     S: Spawner,
     L: Polled + Send + Drop + 'static,

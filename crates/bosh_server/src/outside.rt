@@ -1,5 +1,12 @@
-/// What a server runs over: a network that listens, what its jobs have shares of, and what tells its loops of their links.
-pub struct Outside<N, C, B, S, M, Q> {
+ghost use Rattle.std.specs.Prelude.{◌≡◌};
+
+use crate::fates::Roll;
+use server_watch::Watch;
+use session_pump::Pump;
+use xmpp_backend::Backend;
+
+/// What a server runs over: a network that listens, what its jobs have shares of, what tells its loops of their links, and who watches it.
+pub struct Outside<N, C, B, S, M, Q, L, E: Backend> {
     pub net: N,
     /// How many links of the network may be open at once.
     pub room: u32,
@@ -8,4 +15,17 @@ pub struct Outside<N, C, B, S, M, Q> {
     pub spawner: S,
     pub names: M,
     pub pollers: Q,
+    /// Whom it tells of what it does.
+    pub watch: Watch,
+    /// What became of the links that it accepted. It takes no memory.
+    pub roll: Roll<L>,
+    /// Its pump as it ended, with its hosts and their back ends.
+    pub pump: Option<Pump<E>>,
+}
+
+/// This pump stands there now, or none. The one that stood there is dropped.
+pub fn put_pump<E: Backend>(place: &mut Option<Pump<E>>, pump: Option<Pump<E>>)
+    ensures { place.new ≡ pump }
+{
+    *place = pump;
 }

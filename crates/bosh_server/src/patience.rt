@@ -39,6 +39,8 @@ pub(crate) struct Patience {
     since: Moment,
     // No request was read yet.
     is_first: bool,
+    // How many requests were read that weren't taken up yet.
+    requests: u64,
 }
 
 impl Patience {
@@ -48,6 +50,7 @@ impl Patience {
             awaiting: Awaiting::Head,
             since: now,
             is_first: true,
+            requests: 0,
         }
     }
 
@@ -69,12 +72,33 @@ impl Patience {
     /// After a step the connection wants this; where it wants bytes it awaits that, and where it wants room it has given so many bytes.
     pub(crate) fn note(&mut self, wants: Wants, awaited: Awaited, place: u128, now: Moment) {
         let awaiting = self.awaiting_by(wants, awaited, place);
+        if self.is_reading() && has_come(wants) {
+            self.requests = self.requests.saturating_add(1);
+        }
         if awaiting == Awaiting::Nothing {
             self.is_first = false;
         }
         if awaiting != self.awaiting {
             self.awaiting = awaiting;
             self.since = now;
+        }
+    }
+
+    /// How many requests came since that was asked for last.
+    pub(crate) fn take_requests(&mut self) -> u64
+        ensures taken { result ≡ self.old.requests }
+        ensures none { self.new ≡ record self.old { requests = 0 } }
+    {
+        let requests = self.requests;
+        self.requests = 0;
+        requests
+    }
+
+    // Whether some of a request is waited for.
+    fn is_reading(&self) -> bool {
+        match self.awaiting {
+            Awaiting::Request | Awaiting::Head | Awaiting::Content(_) => true,
+            Awaiting::Room(_) | Awaiting::Nothing => false,
         }
     }
 
@@ -89,5 +113,13 @@ impl Patience {
             Wants::Room => Awaiting::Room(place),
             Wants::Answer(_) | Wants::End(_) | Wants::Nothing => Awaiting::Nothing,
         }
+    }
+}
+
+// Whether a connection that wants this has read a request, where it was reading one.
+fn has_come(wants: Wants) -> bool {
+    match wants {
+        Wants::Nothing | Wants::Room | Wants::Answer(_) => true,
+        Wants::Bytes | Wants::End(_) => false,
     }
 }

@@ -2,21 +2,26 @@
 ghost use Rattle.std.specs.Prelude.{◌≡◌};
 ghost use Rattle.bosh_server.specs.Quotas.{taken_with};
 
+use server_watch::{Limit, Watch};
 use std::sync::{Mutex, Wait};
 
-/// So much of something, of which some is taken.
+/// So much of something, of which some is taken. What is refused is told.
 #[derive(Drop)]
 pub(crate) struct Quota {
     most: u64,
     taken: Mutex<u64>,
+    limit: Limit,
+    watch: Watch,
 }
 
 impl Quota {
-    /// Nothing is taken of so much.
-    pub(crate) fn new(most: u64) -> Quota {
+    /// Nothing is taken of so much. What is refused is so at this limit.
+    pub(crate) fn new(most: u64, limit: Limit, watch: Watch) -> Quota {
         Quota {
             most,
             taken: Mutex::new(0),
+            limit,
+            watch,
         }
     }
 
@@ -27,6 +32,14 @@ impl Quota {
 
     /// Takes so much, where it is left. Whether it was.
     pub(crate) fn take<R: Wait>(&self, rt: &R, count: u64) -> bool {
+        if self.take_left(rt, count) {
+            return true;
+        }
+        self.watch.refuse(rt, self.limit);
+        false
+    }
+
+    fn take_left<R: Wait>(&self, rt: &R, count: u64) -> bool {
         let mut taken = self.taken.lock(rt);
         match taken_with(self.most, *taken, count) {
             Some(sum) => {

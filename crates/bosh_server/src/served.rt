@@ -5,35 +5,37 @@ ghost use Rattle.parked_gate.specs.Passes.{IsPassOf};
 ghost use Rattle.serve_loop.specs.Connections.{IsServedBy, Outside, outside, wanted_by};
 ghost use Rattle.serve_loop.specs.Stepping.{Steps};
 ghost use Rattle.serve_loop.specs.Trail.{Setting, setting};
+ghost use Rattle.bosh_server.specs.Fates.{IsFresh};
 ghost use Rattle.bosh_server.specs.Quotas.{content_awaited};
 
 use crate::patience::Patience;
 use crate::quota::Quota;
 use bosh_ports::{Bell, Polled};
 use bosh_types::Moment;
-use polled_http::Rooms;
-use serve_loop::{Awaited, ConnectionEnd, Moved, PolledConnection, Site, Wants, Worker};
+use serve_loop::{Awaited, ConnectionEnd, Moved, PolledConnection, Site, Tools, Wants, Worker};
 use server_ports::{Clock, Names};
 use std::alloc::Global;
 use std::sync::Wait;
 
 /// A connection with its link and its worker, how long it waits for its peer, and how much is coming in on it.
 #[derive(Drop)]
-pub(crate) struct Served<L: Polled + Drop, B: Bell + Drop, M: Names + Drop> {
-    connection: PolledConnection,
+pub(crate) struct Served<L: Polled + Drop> {
+    pub(crate) connection: PolledConnection,
     pub(crate) link: L,
-    pub(crate) worker: Worker<B, M>,
-    patience: Patience,
+    pub(crate) worker: Worker,
+    pub(crate) patience: Patience,
     // How many bytes the content has that is coming in, where one is.
     pub(crate) coming: u64,
     // Its peer left while its request waited.
     is_left: bool,
 }
 
-impl<L: Polled + Drop, B: Bell + Drop, M: Names + Drop> Served<L, B, M> {
+impl<L: Polled + Drop> Served<L> {
     /// A connection on which nothing came yet. It takes no memory.
-    pub(crate) fn new(alloc: Global, link: L, worker: Worker<B, M>, now: Moment) -> Served<L, B, M>
+    pub(crate) fn new(alloc: Global, link: L, worker: Worker, now: Moment) -> Served<L>
         ensures worker { result.worker ≡ worker }
+        ensures link { result.link ≡ link }
+        ensures fresh { IsFresh result.connection }
         ensures held { IsServedBy result.worker.purse.sessions result.connection.standing.stage }
     {
         Served {
@@ -68,6 +70,9 @@ impl<L: Polled + Drop, B: Bell + Drop, M: Names + Drop> Served<L, B, M> {
         ensures stays { IfNone result (self.new.is_left ≡ self.old.is_left) }
         ensures connection { self.new.connection ≡ self.old.connection }
         ensures worker { self.new.worker ≡ self.old.worker }
+        ensures left { L.left self.new.link ≡ L.left self.old.link }
+        ensures given { L.given self.new.link ≡ L.given self.old.link }
+        ensures faults { L.faults self.new.link ≡ L.faults self.old.link }
     {
         let Wants::Answer(number) = self.connection.wants() else {
             return None;
@@ -79,13 +84,13 @@ impl<L: Polled + Drop, B: Bell + Drop, M: Names + Drop> Served<L, B, M> {
         Some(number)
     }
 
-    // One step, at this moment.
-    fn step<R: Wait, C: Clock>(
+    // One step, at this moment. A head may be whole by it though the link has no more for now, so what is awaited is looked at in any case.
+    fn step<R: Wait, C: Clock, B: Bell, M: Names>(
         &mut self,
         rt: &R,
         site: &Site<'_, C>,
         incoming: &Quota,
-        rooms: &mut Rooms,
+        tools: &mut Tools<B, M>,
         now: Moment,
     ) -> Moved
         requires pass { IsPassOf site.now.directory.now self.old.worker.purse.directory }
@@ -100,23 +105,20 @@ impl<L: Polled + Drop, B: Bell + Drop, M: Names + Drop> Served<L, B, M> {
     {
         let moved = self
             .connection
-            .step(rt, site, &mut self.worker, rooms, &mut self.link);
-        if moved == Moved::On {
-            let connection = &self.connection;
-            self.patience.note(
-                connection.wants(),
-                connection.awaits(),
-                connection.place(),
-                now,
-            );
-            self.count_coming(rt, incoming);
-        }
-        moved
+            .step(rt, site, &mut self.worker, tools, &mut self.link);
+        let connection = &self.connection;
+        self.patience.note(
+            connection.wants(),
+            connection.awaits(),
+            connection.place(),
+            now,
+        );
+        self.count_coming(rt, incoming, moved)
     }
 
     // Takes room for the content that is coming in, and gives back what isn't needed any longer. Where there isn't so much the request is
-    // given up.
-    fn count_coming<R: Wait>(&mut self, rt: &R, incoming: &Quota)
+    // given up, and the connection goes on, whether its link had something or not.
+    fn count_coming<R: Wait>(&mut self, rt: &R, incoming: &Quota, moved: Moved) -> Moved
         ensures worker { self.new.worker ≡ self.old.worker }
         ensures link { self.new.link ≡ self.old.link }
         ensures reader { self.new.connection.reader ≡ self.old.connection.reader }
@@ -126,25 +128,26 @@ impl<L: Polled + Drop, B: Bell + Drop, M: Names + Drop> Served<L, B, M> {
     {
         let wanted = content_awaited(self.connection.wants(), self.connection.awaits());
         if wanted == self.coming {
-            return;
+            return moved;
         }
         incoming.give_back(rt, self.coming);
         self.coming = 0;
         if incoming.take(rt, wanted) {
             self.coming = wanted;
-            return;
+            return moved;
         }
         self.connection.give_up();
+        Moved::On
     }
 
     /// Makes steps, at most so many, until its link has nothing, nothing is there yet for a request that waits, or it is over. It says what the
     /// connection wants then, or `Nothing` where it made all these steps; that it has ended, where its peer left.
-    pub(crate) fn go_on<R: Wait, C: Clock>(
+    pub(crate) fn go_on<R: Wait, C: Clock, B: Bell, M: Names>(
         &mut self,
         rt: &R,
         site: &Site<'_, C>,
         incoming: &Quota,
-        rooms: &mut Rooms,
+        tools: &mut Tools<B, M>,
         most: u32,
     ) -> Wants
         requires pass { IsPassOf site.now.directory.now self.old.worker.purse.directory }
@@ -165,7 +168,7 @@ impl<L: Polled + Drop, B: Bell + Drop, M: Names + Drop> Served<L, B, M> {
         }
         let now = site.clock.now();
         for _ in 0..most {
-            if self.step(rt, site, incoming, rooms, now) == Moved::NotYet {
+            if self.step(rt, site, incoming, tools, now) == Moved::NotYet {
                 return self.connection.wants();
             }
             if rests(self.connection.wants()) {

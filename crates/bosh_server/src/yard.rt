@@ -1,5 +1,5 @@
 // What all jobs of a server share.
-ghost use Rattle.std.specs.Prelude.{◌≡◌, IsTrue};
+ghost use Rattle.std.specs.Prelude.{◌≡◌, IfOk, IsTrue};
 ghost use Rattle.std.specs.Arc.{arc_value};
 ghost use Rattle.std.specs.List.{list_all};
 ghost use Rattle.parked_gate.specs.Passes.{IsPassOf};
@@ -10,9 +10,10 @@ use crate::quota::Quota;
 use crate::rings::Rings;
 use bosh_types::HostNames;
 use parked_gate::Gate;
+use server_watch::{Limit, Watch};
 use session_table::{Directory, Limits, Purse};
-use std::alloc::Global;
-use std::sync::{Arc, Condvar, Mutex, Wait};
+use std::alloc::{AllocError, Global};
+use std::sync::{Arc, Mutex, Wait};
 
 /// What the pump is to do.
 #[derive(Clone, Copy, Debug, PartialEq, Eq)]
@@ -23,15 +24,6 @@ pub(crate) enum Phase {
     Closing,
     /// To do so once more and then to end, since nobody is served any longer.
     Over,
-}
-
-/// How far a server is.
-#[derive(Clone, Copy, Debug)]
-struct Progress {
-    phase: Phase,
-    /// How many workers have ended.
-    workers: u64,
-    has_pump_ended: bool,
 }
 
 /// The directory at its gate, the hosts, and how far the server is.
@@ -45,9 +37,9 @@ pub(crate) struct Yard {
     // The connections that are open, and the bytes of contents that are coming in.
     pub(crate) open: Quota,
     pub(crate) incoming: Quota,
-    progress: Mutex<Progress>,
-    // Some job has ended.
-    ended: Condvar,
+    // Whom the server tells of what it does.
+    pub(crate) watch: Watch,
+    phase: Mutex<Phase>,
     // A session can be opened at each of the hosts.
     pub(crate) ghost serves: { IsTrue (list_all can_serve hosts) },
 }
@@ -61,68 +53,40 @@ pub(crate) struct Post {
 }
 
 impl Yard {
+    // The only error is want of memory.
     pub(crate) fn new(
         alloc: Global,
         directory: Gate<Directory>,
         hosts: HostNames,
         plan: &ServePlan,
         room: u32,
-    ) -> Yard
+        watch: &Watch,
+    ) -> Result<Yard, AllocError>
         requires { IsTrue (list_all can_serve hosts) }
-        ensures { result.directory ≡ directory }
+        ensures directory { IfOk result (λ yard. yard.directory ≡ directory) }
+        ensures hosts { IfOk result (λ yard. yard.hosts ≡ hosts) }
+        ensures limits { IfOk result (λ yard. yard.limits ≡ plan.now.limits) }
     {
-        Yard {
+        let most = u64::from(plan.open.unwrap_or(room));
+        let open = Quota::new(most, Limit::Connections, watch.again()?);
+        let incoming = Quota::new(plan.incoming, Limit::Incoming, watch.again()?);
+        Ok(Yard {
             directory,
             hosts,
             rings: Rings::new(alloc),
             limits: plan.limits,
-            open: Quota::new(u64::from(plan.open.unwrap_or(room))),
-            incoming: Quota::new(plan.incoming),
-            progress: Mutex::new(Progress {
-                phase: Phase::Serving,
-                workers: 0,
-                has_pump_ended: false,
-            }),
-            ended: Condvar::new(),
-        }
+            open,
+            incoming,
+            watch: watch.again()?,
+            phase: Mutex::new(Phase::Serving),
+        })
     }
 
     pub(crate) fn phase<R: Wait>(&self, rt: &R) -> Phase {
-        self.progress.lock(rt).phase
+        *self.phase.lock(rt)
     }
 
     pub(crate) fn enter_phase<R: Wait>(&self, rt: &R, phase: Phase) {
-        self.progress.lock(rt).phase = phase;
-    }
-
-    /// A worker has ended.
-    pub(crate) fn end_worker<R: Wait>(&self, rt: &R) {
-        let mut progress = self.progress.lock(rt);
-        progress.workers = progress.workers.saturating_add(1);
-        self.ended.notify_all();
-    }
-
-    /// The pump has ended.
-    pub(crate) fn end_pump<R: Wait>(&self, rt: &R) {
-        self.progress.lock(rt).has_pump_ended = true;
-        self.ended.notify_all();
-    }
-
-    /// Waits until so many workers have ended.
-    pub(crate) fn wait_for_workers<R: Wait>(&self, rt: &R, wanted: u64) {
-        self.ended.wait_while(
-            rt,
-            self.progress.lock(rt),
-            |progress| progress.workers < wanted,
-        );
-    }
-
-    /// Waits until the pump has ended.
-    pub(crate) fn wait_for_pump<R: Wait>(&self, rt: &R) {
-        self.ended.wait_while(
-            rt,
-            self.progress.lock(rt),
-            |progress| !progress.has_pump_ended,
-        );
+        *self.phase.lock(rt) = phase;
     }
 }

@@ -24,8 +24,9 @@ use Rattle.session_pump.specs.declared.line.Line.{Line}
 use Rattle.pump_laws.specs.CallsMade.{taken}
 use Rattle.pump_laws.specs.InTurn.{Every, IsNothing, in_turn, passed_in_turn, passed_on}
 use Rattle.pump_laws.specs.Passing.{CanFail, HandsInOrder, PassedOf, PassesInOrder}
-use Rattle.pump_laws.specs.Rows.{AllTell, IsNew, IsNewHost, IsUnused, Row, no_call, one_more}
-use Rattle.pump_laws.specs.Rows as rows
+use Rattle.session_pump.specs.Rows.{Row, no_call, one_more}
+use Rattle.pump_laws.specs.Rows.{AllTell, IsNew, IsNewHost, IsUnused}
+use Rattle.session_pump.specs.Rows as rows
 use Rattle.pump_laws.proofs.BenchLemmas.{every_append, every_first, every_last, every_mapped}
 use Rattle.pump_laws.proofs.CallLemmas.{carries_closing, carries_look}
 use Rattle.pump_laws.proofs.KeepsLemmas.{Good, IdleAt, Keeps, LineKeeps, host_at, is_gone, none_some, same_of, unmet, was_met}

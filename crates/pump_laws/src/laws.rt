@@ -1,9 +1,10 @@
 ghost use Rattle.std.specs.Prelude.{◌≡◌, ◌<◌, ◌^◌, ℕ, Some};
 ghost use Rattle.session_table.specs.History.{IsLegal};
 ghost use Rattle.session_pump.specs.Pumping.{Pumping, line_of};
+ghost use Rattle.session_pump.specs.Rows.{Row};
 ghost use Rattle.session_pump.specs.declared.line.Line.{Line};
 ghost use Rattle.pump_laws.specs.Passing.{HandsInOrder, PassesInOrder};
-ghost use Rattle.pump_laws.specs.Rows.{AllTell, IsNew, Row};
+ghost use Rattle.pump_laws.specs.Rows.{AllTell, IsNew};
 
 /// After any calls of a pump, whatever they answered and however many back ends failed: what the back ends of a session's host were
 /// passed on its wire is what was taken of the session, in order, each item once, and the one that is kept comes next. And what one of

@@ -8,7 +8,8 @@ use crate::bell::TurningBell;
 use crate::link::{Manner, RowLink};
 use bosh_types::{HostNames, Moment, Rid, Stanzas, Text};
 use parked_gate::{Gate, Pass};
-use serve_loop::{ConnectionEnd, Site, Trail, Worker, serve_connection};
+use polled_http::Rooms;
+use serve_loop::{ConnectionEnd, Refused, Site, Tools, Trail, Worker, serve_connection};
 use server_ports::{GivenNames, StillClock};
 use session_journal::{Answer, Question};
 use session_pump::{Host, Hosts, Pump};
@@ -17,8 +18,12 @@ use std::alloc::{AllocError, Global};
 use std::sync::{Arc, Wait};
 use xmpp_backend::InMemory;
 
-/// The worker of such a server. Its bell has the pump.
-pub type OneWorker<R> = Worker<TurningBell<R>, GivenNames>;
+/// The worker of such a server, and what it is served with. Its bell has the pump.
+#[derive(Drop)]
+pub struct OneWorker<R: Wait + Copy + Drop> {
+    pub own: Worker,
+    pub tools: Tools<TurningBell<R>, GivenNames>,
+}
 
 /// How often a request that waits hears a turn of the pump.
 pub const TURNS: u32 = 3;
@@ -51,7 +56,7 @@ pub struct Place {
 pub struct Scene<R: Wait + Copy + Drop> {
     pub place: Arc<Place>,
     pub worker: OneWorker<R>,
-    pub ghost fits: { IsPassOf (arc_value place).directory worker.purse.directory },
+    pub ghost fits: { IsPassOf (arc_value place).directory worker.own.purse.directory },
 }
 
 /// A server of these hosts.
@@ -67,11 +72,17 @@ pub fn begin<R: Wait + Copy + Drop>(
     let Some(first) = Rid::new(1) else {
         return Err(AllocError);
     };
-    let worker = Worker {
-        purse: Purse::new(alloc, mine),
-        bell,
-        names: GivenNames::new(alloc, b"s", first),
-        trail: Trail::new(),
+    let worker = OneWorker {
+        own: Worker {
+            purse: Purse::new(alloc, mine),
+            trail: Trail::new(),
+        },
+        tools: Tools {
+            bell,
+            names: GivenNames::new(alloc, b"s", first),
+            rooms: Rooms::new(alloc),
+            refused: Refused::NONE,
+        },
     };
     Ok(Scene { place, worker })
 }
@@ -129,11 +140,11 @@ impl Place {
         link: &mut RowLink,
         turns: u32,
     ) -> Option<ConnectionEnd>
-        requires { IsPassOf self.now.directory worker.old.purse.directory }
-        ensures { IsPassOf self.now.directory worker.new.purse.directory }
+        requires { IsPassOf self.now.directory worker.old.own.purse.directory }
+        ensures { IsPassOf self.now.directory worker.new.own.purse.directory }
     {
         let clock = StillClock {
-            moment: Moment::from_millis(worker.bell.at),
+            moment: Moment::from_millis(worker.tools.bell.at),
         };
         let Ok(Some(site)) = Site::new(
             self.alloc,
@@ -144,9 +155,10 @@ impl Place {
         ) else {
             return None;
         };
-        worker.bell.left = turns;
-        worker.trail = Trail::new();
-        Some(serve_connection(rt, &site, worker, link))
+        worker.tools.bell.left = turns;
+        worker.own.trail = Trail::new();
+        let OneWorker { own, tools } = worker;
+        Some(serve_connection(rt, &site, own, tools, link))
     }
 
     /// Serves these bytes on a new link, and says what it was given and how it ended.
@@ -158,8 +170,8 @@ impl Place {
         manner: Manner,
         turns: u32,
     ) -> Result<String, AllocError>
-        requires { IsPassOf self.now.directory worker.old.purse.directory }
-        ensures { IsPassOf self.now.directory worker.new.purse.directory }
+        requires { IsPassOf self.now.directory worker.old.own.purse.directory }
+        ensures { IsPassOf self.now.directory worker.new.own.purse.directory }
     {
         let mut link = RowLink::new(self.alloc, bytes, manner)?;
         let end = self.serve(rt, worker, &mut link, turns);

@@ -88,21 +88,21 @@ fn played_step<R: Wait + Copy + Drop>(
     step: &str,
     rest: &str,
 ) -> Result<String, AllocError>
-    requires { IsPassOf place.now.directory worker.old.purse.directory }
-    ensures { IsPassOf place.now.directory worker.new.purse.directory }
+    requires { IsPassOf place.now.directory worker.old.own.purse.directory }
+    ensures { IsPassOf place.now.directory worker.new.own.purse.directory }
 {
     let alloc = place.alloc;
     match step {
         "link" => linked(rt, place, worker, rest, TURNS),
         "alone" => linked(rt, place, worker, rest, 0),
         "lost" => lost(rt, place, worker, rest),
-        "turn" => match worker.bell.turn() {
+        "turn" => match worker.tools.bell.turn() {
             Some(live) => format!(in alloc; "{live} live"),
             None => String::from_str(alloc, "no memory"),
         },
         _ => {
-            worker.bell.at = rest.parse::<u64>().unwrap_or(0);
-            let at = worker.bell.at;
+            worker.tools.bell.at = rest.parse::<u64>().unwrap_or(0);
+            let at = worker.tools.bell.at;
             format!(in alloc; "{at}")
         }
     }
@@ -116,8 +116,8 @@ fn linked<R: Wait + Copy + Drop>(
     text: &str,
     turns: u32,
 ) -> Result<String, AllocError>
-    requires { IsPassOf place.now.directory worker.old.purse.directory }
-    ensures { IsPassOf place.now.directory worker.new.purse.directory }
+    requires { IsPassOf place.now.directory worker.old.own.purse.directory }
+    ensures { IsPassOf place.now.directory worker.new.own.purse.directory }
 {
     let Some(bytes) = row_text::bytes_of(place.alloc, text)? else {
         return String::from_str(place.alloc, "a wrong escape");
@@ -132,8 +132,8 @@ fn lost<R: Wait + Copy + Drop>(
     worker: &mut OneWorker<R>,
     row: &str,
 ) -> Result<String, AllocError>
-    requires { IsPassOf place.now.directory worker.old.purse.directory }
-    ensures { IsPassOf place.now.directory worker.new.purse.directory }
+    requires { IsPassOf place.now.directory worker.old.own.purse.directory }
+    ensures { IsPassOf place.now.directory worker.new.own.purse.directory }
 {
     let alloc = place.alloc;
     let (count, text) = row_text::first_word(row);

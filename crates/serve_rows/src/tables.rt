@@ -47,8 +47,8 @@ fn tried<R: Wait + Copy + Drop>(
     let mut worker = worker;
     let mut link = RowLink::new(alloc, bytes, manner)?;
     let end = place.serve(rt, &mut worker, &mut link, TURNS);
-    let _ = worker.bell.turn();
-    let waits = waiting(rt, &mut worker.purse);
+    let _ = worker.tools.bell.turn();
+    let waits = waiting(rt, &mut worker.own.purse);
     let missing = if waits.is_some() {
         Vec::from_slice(alloc, SECOND)?
     } else {

@@ -4,7 +4,8 @@ ghost use Rattle.parked_gate.specs.Passes.{IsPassOf};
 use bosh_ports::{Bell, ListedBell, MemoryLink, MemorySink, MemorySource};
 use bosh_types::{HostName, HostNames, Moment, Rid, Stanzas, Text};
 use parked_gate::{Gate, Pass};
-use serve_loop::{ConnectionEnd, Site, Trail, Worker, serve_connection};
+use polled_http::Rooms;
+use serve_loop::{ConnectionEnd, Refused, Site, Tools, Trail, Worker, serve_connection};
 use server_ports::{GivenNames, StillClock};
 use session_table::{Directory, Limits, Purse};
 use std::alloc::{AllocError, Global};
@@ -58,11 +59,15 @@ fn serve_by<R: Wait, B: Bell + Drop>(
     };
     let mut worker = Worker {
         purse,
-        bell,
-        names: GivenNames::new(site.alloc, b"s", first),
         trail: Trail::new(),
     };
-    Ok(serve_connection(rt, site, &mut worker, link))
+    let mut tools = Tools {
+        bell,
+        names: GivenNames::new(site.alloc, b"s", first),
+        rooms: Rooms::new(site.alloc),
+        refused: Refused::NONE,
+    };
+    Ok(serve_connection(rt, site, &mut worker, &mut tools, link))
 }
 
 /// Serves a link at a directory of its own.

@@ -1,3 +1,4 @@
+mod ends;
 mod ports;
 mod rows;
 mod same;

@@ -12,7 +12,7 @@ use Rattle.std.proofs.lemmas.Option.{none-some}
 use Rattle.std.specs.Bool.{⊤}
 use Rattle.std.specs.BTreeMap.{keys}
 use Rattle.std.specs.List.{Contains}
-use Rattle.std.specs.Result.{OnOk}
+use Rattle.std.specs.Result.{OnErr, OnOk}
 use Rattle.std.specs.declared.alloc.AllocError.{AllocError}
 use Rattle.std.specs.Map.{keys_of}
 use Rattle.std.specs.Map.Iter.{deref_pair}
@@ -236,3 +236,8 @@ noted_all_so old new items slice first dues result same are nothing noted others
 pub keys_shown : {V : Type 0} (shown : List (Bor ℕ × Bor V)) → map (λ e. e.0.now) shown ≡ keys_of (map deref_pair shown)
 keys_shown [] = refl
 keys_shown (e ∷ es) = ap (λ (ns : List ℕ). e.0.now ∷ ns) (keys_shown es)
+
+-- these were asked before memory was wanted
+pub asked_before : (result : Result ⊤ AllocError) (old new : Sessions) (numbers : List ℕ) → AskDues old numbers new → OnErr result ((asked : List ℕ) × AskDues old asked new)
+asked_before (Ok done) old new numbers is = tt
+asked_before (Err error) old new numbers is = (numbers, is)

@@ -3,9 +3,11 @@ pub mod Ends
 pub mod Dues
 pub mod Giving
 pub mod Leaving
+pub mod News
 pub mod NumberedTurns
 pub mod Places
 pub mod Pumping
+pub mod Rows
 pub mod Sides
 pub mod Taking
 pub mod Turns

@@ -1,5 +1,5 @@
 -- What becomes of something that is given to a session.
-use Rattle.std.specs.Prelude.{◌≡◌, ◌≢◌, ◌+◌, ◌&&◌, ◌||◌, ℕ, Bool, true, false, is_some, nat_lt, nat_le, List, length, Option, Some, None, Result, Ok, Err}
+use Rattle.std.specs.Prelude.{◌≡◌, ◌≢◌, ◌+◌, ◌&&◌, ◌||◌, ℕ, Bool, true, false, is_some, nat_lt, nat_le, List, length, Option, None, Result, Ok, Err}
 use Rattle.std.specs.declared.alloc.AllocError.{AllocError}
 use Rattle.bosh_types.specs.Limits.{most_waiting, waiting_bytes}
 use Rattle.bosh_types.specs.declared.ending.Ending.{Ending}

@@ -1,5 +1,5 @@
 // When time next has something to do for the sessions.
-ghost use Rattle.std.specs.Prelude.{◌≡◌, ◌≢◌, ◌<◌, ℕ, IfOk, OnErr, OnOk};
+ghost use Rattle.std.specs.Prelude.{◌≡◌, ◌≢◌, ◌<◌, ℕ, List, IfOk, OnErr, OnOk};
 ghost use Rattle.std.specs.BTreeMap.{keys};
 ghost use Rattle.std.specs.List.{All, Contains};
 ghost use Rattle.pause_rules.specs.NextDue.{IsLeastMoment, moment_of};
@@ -46,6 +46,7 @@ impl<E: Backend> Pump<E> {
     pub fn note_all<R: Wait>(&mut self, rt: &R) -> Result<(), AllocError>
         ensures noted { OnOk result ((number : ℕ) → IsNoted number self.new.purse.sessions self.new.dues) }
         ensures asked { OnOk result (AskDues self.old.purse.sessions (keys self.old.purse.sessions) self.new.purse.sessions) }
+        ensures wanted { OnErr result ((asked : List ℕ) × AskDues self.old.purse.sessions asked self.new.purse.sessions) }
         ensures directory { self.new.purse.directory ≡ self.old.purse.directory }
         ensures lines { self.new.lines ≡ self.old.lines }
         ensures hosts { self.new.hosts ≡ self.old.hosts }
@@ -72,6 +73,7 @@ impl<E: Backend> Pump<E> {
         ensures noted { OnOk result ((number : ℕ) → Contains numbers.now number → IsNoted number self.new.purse.sessions self.new.dues) }
         ensures others { (number : ℕ) → (Contains numbers.now number → ⊥) → moment_of self.new.dues number ≡ moment_of self.old.dues number }
         ensures asked { OnOk result (AskDues self.old.purse.sessions numbers.now self.new.purse.sessions) }
+        ensures wanted { OnErr result ((asked : List ℕ) × AskDues self.old.purse.sessions asked self.new.purse.sessions) }
         ensures directory { self.new.purse.directory ≡ self.old.purse.directory }
         ensures lines { self.new.lines ≡ self.old.lines }
         ensures hosts { self.new.hosts ≡ self.old.hosts }
@@ -94,6 +96,7 @@ impl<E: Backend> Pump<E> {
         ensures noted { OnOk result ((number : ℕ) → Contains numbers.now number → IsNoted number self.new.purse.sessions self.new.dues) }
         ensures others { (number : ℕ) → (Contains numbers.now number → ⊥) → moment_of self.new.dues number ≡ moment_of self.old.dues number }
         ensures asked { OnOk result (AskDues self.old.purse.sessions numbers.now self.new.purse.sessions) }
+        ensures wanted { OnErr result ((asked : List ℕ) × AskDues self.old.purse.sessions asked self.new.purse.sessions) }
         ensures over { OnOk result ((number : ℕ) → Contains numbers.now number → IsOver number self.new.purse.sessions self.new.dues → Contains over.new.items number) }
         ensures kept { (number : ℕ) → Contains over.old.items number → Contains over.new.items number }
         ensures directory { self.new.purse.directory ≡ self.old.purse.directory }

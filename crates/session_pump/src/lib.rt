@@ -6,6 +6,7 @@ mod dues;
 mod giving;
 mod hosts;
 mod line;
+mod news;
 mod numbered;
 mod passing;
 mod polling;
@@ -16,6 +17,7 @@ mod turn;
 
 pub use hosts::{Host, Hosts, Replaced, Stand};
 pub use line::{Line, Owing, Stage};
+pub use news::{Met, News, Removed};
 pub use polling::poll_host;
 pub use pump::Pump;
 pub use serving::serve_line;

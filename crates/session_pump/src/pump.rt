@@ -4,6 +4,7 @@ ghost use Rattle.std.specs.List.{list_any};
 
 use crate::hosts::{Hosts, Stand};
 use crate::line::Line;
+use crate::news::News;
 use pause_rules::DueIndex;
 use session_table::Purse;
 use std::alloc::Global;
@@ -20,6 +21,8 @@ pub struct Pump<E: Backend> {
     pub lines: BTreeMap<u64, Line>,
     /// When time next has something to do for each of the sessions, as they answered when that was last noted.
     pub dues: DueIndex,
+    /// What there is to tell of sessions that were met and removed, where that is wanted.
+    pub news: News,
 }
 
 impl<E: Backend> Pump<E> {
@@ -36,6 +39,7 @@ impl<E: Backend> Pump<E> {
             hosts,
             lines: BTreeMap::new(alloc),
             dues: DueIndex::new(alloc),
+            news: News::new(alloc),
         }
     }
 

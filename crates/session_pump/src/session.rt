@@ -1,5 +1,5 @@
 // One session in a turn.
-ghost use Rattle.std.specs.Prelude.{◌≡◌, ◌≢◌, ◌^◌, ◌<◌, ◌≤◌, ℕ, IfNone, IfOk, IfSome, IsOk, IsSome, List, None, Ok, OnErr, OnOk, Option, Some, false, length, true};
+ghost use Rattle.std.specs.Prelude.{◌≡◌, ◌≢◌, ◌+◌, ◌-◌, ◌^◌, ◌<◌, ◌≤◌, ◌++◌, ◌∷◌, ◌⊎◌, [], ℕ, IfNone, IfOk, IfSome, IsOk, IsSome, List, None, Ok, OnErr, OnOk, Option, Some, false, length, min, true};
 ghost use Rattle.std.specs.BTreeMap.{IsUnchanged};
 ghost use Rattle.parked_gate.specs.Passes.{IsPassOf, Known, Looks, known};
 ghost use Rattle.session_journal.specs.declared.asking.Answer.TheVariants as answers;
@@ -7,6 +7,7 @@ ghost use Rattle.session_journal.specs.declared.asking.Question.TheVariants as q
 ghost use Rattle.session_journal.specs.declared.entry.Entry.{Entry};
 ghost use Rattle.session_journal.specs.Seen.{Answers};
 ghost use Rattle.session_pump.specs.Leaving.{HasNothing, IsAtRest};
+ghost use Rattle.session_pump.specs.News.{host_by};
 ghost use Rattle.session_table.specs.Purses.{OthersStay, Turned, held};
 ghost use Rattle.session_pump.specs.Ends.{ends_of};
 ghost use Rattle.session_pump.specs.Sides.{PassesAll, Serves};
@@ -21,7 +22,7 @@ use crate::passing::{drop_all, pass_all};
 use crate::pump::Pump;
 use crate::serving::{serve_line, tell_cut, tick};
 use bosh_ports::Bell;
-use bosh_types::{Moment, SharedText, Text};
+use bosh_types::{Ending, Moment, SharedText, Text};
 use parked_gate::Gate;
 use server_ports::Clock;
 use session_journal::{Answer, Question, State};
@@ -79,7 +80,10 @@ impl<E: Backend> Pump<E> {
             result }
         ensures silences { B.silences bell.new ≡ B.silences bell.old }
     {
+        let is_new = self.lines.get(&number).is_none();
         self.meet(rt, number)?;
+        let host = host_of_line(&self.lines, number);
+        self.news.meet(is_new, number, sid, host);
         self.serve_met(rt, directory, clock, bell, number, sid)
     }
 
@@ -226,7 +230,7 @@ impl<E: Backend> Pump<E> {
         }
         self.pass_rest(rt, number)?;
         self.close_wire(number)?;
-        self.remove(rt, directory, number, sid)
+        self.remove(rt, directory, number, sid, state.ending)
     }
 
     // Passes on what came before a session ended.
@@ -271,25 +275,30 @@ impl<E: Backend> Pump<E> {
         close_line(line, stand)
     }
 
-    // Removes a session from the directory, and lets go what is kept of it.
+    // Removes a session that has ended so from the directory, lets go what is kept of it, and keeps that as news where it is wanted.
     fn remove<R: Wait>(
         &mut self,
         rt: &R,
         directory: &Gate<Directory>,
         number: u64,
         sid: &SharedText,
+        ending: Option<Ending>,
     ) -> Result<(), AllocError>
         requires { IsPassOf directory.now self.old.purse.directory }
         ensures pass { IsPassOf directory.now self.new.purse.directory }
         ensures removes { Removes number sid.now
             (pumping_of E.told E.counts self.old) (pumping_of E.told E.counts self.new)
             result }
+        ensures told { self.old.news.is_wanted ≡ true → OnOk result ((self.new.news.removed.items ≡ self.old.news.removed.items
+            ++ (record { number = number; sid = sid.now; ending = ending }) ∷ []) ⊎ (self.new.news.lost ≡ min (self.old.news.lost + 1) (2 ^ 64 - 1))) }
     {
+        let removed = sid;
         let sid = Text::from_vec(Vec::from_slice(self.alloc, sid.as_slice())?);
         directory.call(rt, &mut self.purse.directory, DirectoryCall::Remove { sid })?;
         forget_line(&mut self.lines, number);
         forget_due(&mut self.dues, number);
         self.purse.let_go(number);
+        self.news.remove(number, removed, ending);
         Ok(())
     }
 
@@ -338,6 +347,16 @@ impl<E: Backend> Pump<E> {
             unreachable!();
         };
         tell_cut(rt, &mut self.purse, number, line, stand, clock, bell)
+    }
+}
+
+// The place of the host to which the session has a line.
+fn host_of_line(lines: &BTreeMap<u64, Line>, number: u64) -> Option<usize>
+    ensures { result ≡ host_by (line_of lines.now number) }
+{
+    match lines.get(&number) {
+        Some(line) => line.host,
+        None => None,
     }
 }
 

@@ -1,11 +1,12 @@
 // Servers over links whose requests are written out.
 use super::ports::{Given, PausingBell, ShownLink, ShownNetwork};
 use bosh_ports::QuietSource;
-use bosh_server::{Outside, Ran, ServePlan, run_workers};
+use bosh_server::{Outside, Ran, Roll, ServePlan, run_workers};
 use bosh_types::{Moment, Rid, Stanzas, Text};
 use connection_loops::StillPollers;
 use server_ports::{GivenNames, ListedSpawner, StillClock, ThreadSpawner};
-use session_pump::Host;
+use server_watch::Watch;
+use session_pump::{Host, Pump};
 use std::alloc::{AllocError, Global};
 use std::rt::Clock;
 use std::sync::{Arc, Mutex, Wait};
@@ -27,7 +28,7 @@ pub(crate) fn post(alloc: Global, body: &str) -> Result<String, AllocError> {
 }
 
 // The answer with this content.
-fn answer(alloc: Global, body: &str) -> Result<String, AllocError> {
+pub(crate) fn answer(alloc: Global, body: &str) -> Result<String, AllocError> {
     let length = body.len();
     format!(in alloc;
         "HTTP/1.1 200 OK\r\nContent-Type: text/xml; charset=utf-8\r\nContent-Length: {length}\r\n\r\n{body}"
@@ -48,12 +49,12 @@ fn two_requests(alloc: Global, content: &str) -> Result<String, AllocError> {
 }
 
 // Nothing was given yet.
-fn given_nothing(alloc: Global) -> Result<Given, Fail> {
+pub(crate) fn given_nothing(alloc: Global) -> Result<Given, Fail> {
     Ok(Arc::new(alloc, Mutex::new(Vec::new(alloc)))?)
 }
 
 // A link with these bytes.
-fn link<R: Wait + Clock + Copy + Drop>(
+pub(crate) fn link<R: Wait + Clock + Copy + Drop>(
     rt: &R,
     text: &String,
     given: &Given,
@@ -73,12 +74,12 @@ fn link<R: Wait + Clock + Copy + Drop>(
 }
 
 // Whether this was given last.
-fn ends_with<R: Wait>(rt: &R, given: &Given, text: &String) -> bool {
+pub(crate) fn ends_with<R: Wait>(rt: &R, given: &Given, text: &String) -> bool {
     given.lock(rt).as_slice().ends_with(text.as_bytes())
 }
 
 // The host `example.org` with this back end behind it.
-fn one_host(alloc: Global, end: InMemory) -> Result<Vec<Host<InMemory>>, AllocError> {
+pub(crate) fn one_host(alloc: Global, end: InMemory) -> Result<Vec<Host<InMemory>>, AllocError> {
     let features = Text::from_vec(b"<stream:features/>".to_vec(alloc)?);
     let greeting = Stanzas::from_vec(vec![in alloc; features]?);
     let name = Text::from_vec(b"example.org".to_vec(alloc)?);
@@ -103,6 +104,26 @@ fn served<R: Wait + Threads + Clock + Copy + Send + Sync + Drop + 'static>(
     refused: Vec<u64>,
     hosts: Vec<Host<InMemory>>,
 ) -> Result<Ran, Fail> {
+    let After { ran, pump: _pump } = served_with(rt, alloc, net, plan, refused, hosts)?;
+    Ok(ran)
+}
+
+/// How a server ended, and its pump, where that was started.
+#[derive(Drop)]
+pub(crate) struct After {
+    pub(crate) ran: Ran,
+    pub(crate) pump: Option<Pump<InMemory>>,
+}
+
+/// The same, with the pump as it ended.
+pub(crate) fn served_with<R: Wait + Threads + Clock + Copy + Send + Sync + Drop + 'static>(
+    rt: &R,
+    alloc: Global,
+    net: ShownNetwork<R>,
+    plan: &ServePlan,
+    refused: Vec<u64>,
+    hosts: Vec<Host<InMemory>>,
+) -> Result<After, Fail> {
     let names = GivenNames::new(alloc, b"s", Rid::new(1000).ok_or("an id")?);
     let mut outside = Outside {
         net,
@@ -114,6 +135,9 @@ fn served<R: Wait + Threads + Clock + Copy + Send + Sync + Drop + 'static>(
         spawner: ListedSpawner::new(ThreadSpawner::new(alloc), refused),
         names,
         pollers: StillPollers { rt: *rt, alloc },
+        watch: Watch::off(),
+        roll: Roll::new(),
+        pump: None,
     };
     let ran = run_workers(rt, alloc, &mut outside, plan, hosts);
     let Outside {
@@ -124,9 +148,12 @@ fn served<R: Wait + Threads + Clock + Copy + Send + Sync + Drop + 'static>(
         spawner,
         names: _names,
         pollers: _pollers,
+        watch: _watch,
+        roll: _roll,
+        pump,
     } = outside;
     spawner.into_inner().join_all(rt);
-    Ok(ran?)
+    Ok(After { ran: ran?, pump })
 }
 
 /// What a loop gives to a link over these bytes, behind which stands a back end that gives nothing.
@@ -320,6 +347,21 @@ fn a_content_that_is_too_much_is_given_up(rt: HostRuntime) -> Result<(), Fail> {
     let request = later(alloc, 1001, content.as_str())?;
     links.push(link(&rt, &request, &given, None)?)?;
     let ran = served_narrowly(&rt, alloc, links, 100_000)?;
+    assert_eq!(rt; ran, Ran::Done { connections: 1 });
+    assert_eq!(rt; given.lock(&rt).as_slice(), NO_ROOM);
+    Ok(())
+}
+
+#[test]
+fn a_content_is_too_much_before_any_of_it_came(rt: HostRuntime) -> Result<(), Fail> {
+    let alloc = rt.alloc();
+    let spaces = " ".repeat(alloc, 200_000)?;
+    let content = format!(in alloc; "<a>{spaces}</a>")?;
+    let given = given_nothing(alloc)?;
+    let request = later(alloc, 1001, content.as_str())?;
+    let mut only = link(&rt, &request, &given, Some(Arc::try_clone(&given)?))?;
+    only.lead = request.as_str().find("\r\n\r\n").map_or(0, |at| at + 4);
+    let ran = served_narrowly(&rt, alloc, vec![in alloc; only]?, 100_000)?;
     assert_eq!(rt; ran, Ran::Done { connections: 1 });
     assert_eq!(rt; given.lock(&rt).as_slice(), NO_ROOM);
     Ok(())

@@ -37,3 +37,6 @@ returns-clause-serves g c =
 pub returns-clause-opened : goal.returns-clause-opened
 returns-clause-opened g c =
     on_ok {P = c.pass_all.new.line.stage ≢ stages.Unopened} _ (λ is. c.in_ok-tell_cut.ensures.opened c.in_ok-open_wire.ensures.opened (sym (c.pass_all.ensures.stage ∙ c.in_ok-give_owed.ensures.stage) ∙ is))
+
+pub pass_all-requires-clause-opened : goal.pass_all-requires-clause-opened
+pass_all-requires-clause-opened g c = λ is. c.in_ok-tell_cut.ensures.opened c.in_ok-open_wire.ensures.opened (sym c.in_ok-give_owed.ensures.stage ∙ is)

@@ -4,8 +4,8 @@ use Rattle.serve_loop.specs.Stepping.{StandsAt}
 use Rattle.serve_loop.specs.Trail.{setting}
 use Rattle.bosh_server.proofs.served.Served.step.Goals as goal
 
-pub returns-then-eq-clause-moves : goal.returns-then-eq-clause-moves
-returns-then-eq-clause-moves g c = λ start stands.
+pub returns-clause-moves : goal.returns-clause-moves
+returns-clause-moves g c = λ start stands.
     let port = g.L.Polled in
     let site = setting c.args.site.now.hosts.now c.args.site.now.limits (g.C.Clock.moment c.args.site.now.clock.now) in
     let stepped = c.step-moved.new in

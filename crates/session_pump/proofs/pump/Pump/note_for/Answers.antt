@@ -1,6 +1,6 @@
 use Rattle.std.proofs.Common.{◌∙◌, refl, rules}
-use Rattle.session_pump.specs.Dues.{asked_none}
-use Rattle.session_pump.proofs.DueLemmas.{all_asked, ask_more, noted_all_of, noted_first, noted_more, others_more, read_at}
+use Rattle.session_pump.specs.Dues.{asked_none, asked_one}
+use Rattle.session_pump.proofs.DueLemmas.{all_asked, ask_more, asked_before, noted_all_of, noted_first, noted_more, others_more, read_at}
 use Rattle.session_pump.proofs.pump.Pump.note_for.Goals as goal
 
 pub loop-number-init : goal.loop-number-init
@@ -19,6 +19,9 @@ loop-number-preserved g c = record {
 
 pub returns-in_err-note-clause-others : goal.returns-in_err-note-clause-others
 returns-in_err-note-clause-others g c = others_more _ _ _ _ _ _ c.loop-number-test.true (read_at _ _ _ c.loop-number-test.true) c.loop-number.invariant.others c.in_err-note.ensures.others
+
+pub returns-in_err-note-clause-wanted : goal.returns-in_err-note-clause-wanted
+returns-in_err-note-clause-wanted g c = asked_before _ _ _ _ (asked_one _ c.loop-number.invariant.asked c.in_err-note.ensures.asked)
 
 pub returns-clause-noted : goal.returns-clause-noted
 returns-clause-noted g c = noted_all_of _ _ c.loop-number.self.purse.sessions c.loop-number.self.dues (search rules) c.loop-number.invariant.noted

@@ -1,6 +1,6 @@
 use Rattle.std.proofs.Common.{◌∙◌, refl, rules}
-use Rattle.session_pump.specs.Dues.{asked_none}
-use Rattle.session_pump.proofs.DueLemmas.{all_asked, ask_more, noted_all_of, noted_first, noted_more, others_more, over_all, over_first, over_more, read_at}
+use Rattle.session_pump.specs.Dues.{asked_none, asked_one}
+use Rattle.session_pump.proofs.DueLemmas.{all_asked, ask_more, asked_before, noted_all_of, noted_first, noted_more, others_more, over_all, over_first, over_more, read_at}
 use Rattle.session_pump.proofs.pump.Pump.note_given.Goals as goal
 
 pub loop-number-init : goal.loop-number-init
@@ -35,6 +35,9 @@ returns-in_err-note_one_given-clause-others g c =
 
 pub returns-in_err-note_one_given-clause-kept : goal.returns-in_err-note_one_given-clause-kept
 returns-in_err-note_one_given-clause-kept g c = λ number within. c.in_err-note_one_given.ensures.kept number (c.loop-number.invariant.kept number within)
+
+pub returns-in_err-note_one_given-clause-wanted : goal.returns-in_err-note_one_given-clause-wanted
+returns-in_err-note_one_given-clause-wanted g c = asked_before _ _ _ _ (asked_one _ c.loop-number.invariant.asked c.in_err-note_one_given.ensures.asked)
 
 pub returns-clause-noted : goal.returns-clause-noted
 returns-clause-noted g c = noted_all_of _ _ c.loop-number.self.purse.sessions c.loop-number.self.dues (search rules) c.loop-number.invariant.noted
