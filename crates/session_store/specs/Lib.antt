@@ -1,0 +1,4 @@
+pub mod Journals
+pub mod Opened
+pub mod Replay
+pub mod Store
