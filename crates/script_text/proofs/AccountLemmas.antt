@@ -7,7 +7,6 @@ use Rattle.std.proofs.lemmas.List.{append-nil}
 use Rattle.std.proofs.lemmas.List.Elements.{All-nil, All-cons, All-head, All-tail, All-append, All-map, All-weaker}
 use Rattle.session_attrs.specs.declared.request.Request.{Request}
 use Rattle.session_core.specs.Journal.{Journal, state_of}
-use Rattle.session_core.specs.Machine.{bytes_for}
 use Rattle.session_core.specs.State.{is_over}
 use Rattle.session_laws.proofs.Tests.{true_false, both_true, neither}
 use Rattle.script_text.specs.declared.event.Event.{Event}
@@ -15,7 +14,7 @@ use Rattle.script_text.specs.declared.event.Event.TheVariants.{Passes}
 use Rattle.script_text.specs.declared.live.Parked.{Parked}
 use Rattle.script_text.specs.declared.report.ReportLine.{ReportLine}
 use Rattle.script_text.specs.declared.report.ReportLine.TheVariants.{In, Out, Lost, Gone, Refused, Over, Done, Bad}
-use Rattle.script_text.specs.Answered.{Posting, Stage, IsFor, IsGivenBy, IsAccounted, AreAccounted, latest_on}
+use Rattle.script_text.specs.Answered.{Posting, Stage, GivesId, IsFor, IsGivenBy, IsAccounted, AreAccounted, latest_on}
 use Rattle.script_text.specs.Headline.{is_opened, is_numbered}
 use Rattle.script_text.specs.Live.{PlainLive, state, Turn, turn_at, if_live, if_over}
 use Rattle.script_text.specs.Manager.{PlainManager, Change, only, waits_on, closed_on, closed, with_closed, place_of, turned_at, comes_at, comes, passed_lines, passed_live, passed_over}
@@ -58,7 +57,7 @@ stages_accounted opened more sessions others wider still stages all =
 
 -- the answers of one session's turn
 of_one : (posted : List Posting) (opened number : ℕ) (sessions : List PlainLive) (journal : Journal) → is_opened opened number ≡ true
-    → ((request : Request) (bytes : List ℕ) → IsFor request number journal → bytes_for (state_of journal) request.rid ≡ Some bytes → IsGivenBy sessions number request bytes)
+    → ((request : Request) (bytes : List ℕ) → IsFor request number journal → GivesId (state_of journal) request.rid bytes → IsGivenBy sessions number request bytes)
     → (line : ReportLine) → IsOf posted number journal line → IsAccounted opened sessions posted line
 of_one posted opened number sessions journal known gives (In session item) is = tt
 of_one posted opened number sessions journal known gives (Out conn body) is = elim is [
@@ -106,7 +105,7 @@ all_but P over front back s all =
 
 -- this session, if it has this number, gave a request's id these bytes
 abbrev GaveTo : ℕ → Request → List ℕ → PlainLive → Type 0
-GaveTo number request bytes s = s.number ≡ number → IsFor request number s.journal × (bytes_for (state s) request.rid ≡ Some bytes)
+GaveTo number request bytes s = s.number ≡ number → IsFor request number s.journal × GivesId (state s) request.rid bytes
 
 -- no session of these has this number
 gives_nothing : (number : ℕ) (request : Request) (bytes : List ℕ) (sessions : List PlainLive) → All (λ x. is_numbered number x ≡ false) sessions → IsGivenBy sessions number request bytes
@@ -136,7 +135,7 @@ module _ (report : List ReportLine) (over front back : List PlainLive) (s : Plai
       let gave = parts.1 (sym t.number ∙ same) in
       (for_later request number s.journal turn.after.journal answers.opening gave.0, answers.keeps request.rid bytes gave.1))
 
-  gives : (request : Request) (bytes : List ℕ) → IsFor request s.number turn.after.journal → bytes_for (state turn.after) request.rid ≡ Some bytes
+  gives : (request : Request) (bytes : List ℕ) → IsFor request s.number turn.after.journal → GivesId (state turn.after) request.rid bytes
       → IsGivenBy sessions s.number request bytes
   gives request bytes is_for is = all_put (GaveTo s.number request bytes) over front back turn.after
       (gives_nothing s.number request bytes (over ++ (front ++ back)) (all_apart report over front back s turn opened tells t)) (λ same. (is_for, is))
@@ -170,7 +169,7 @@ module _ (report : List ReportLine) (over live : List PlainLive) (opened : ℕ) 
       let never : true ≡ false = sym is ∙ ap (is_opened opened) (sym same ∙ t.number ∙ number) ∙ (new_number opened).0 in
       absurd (true_false never))
 
-  new_gives : (request : Request) (bytes : List ℕ) → IsFor request s.number turn.after.journal → bytes_for (state turn.after) request.rid ≡ Some bytes
+  new_gives : (request : Request) (bytes : List ℕ) → IsFor request s.number turn.after.journal → GivesId (state turn.after) request.rid bytes
       → IsGivenBy all_sessions s.number request bytes
   new_gives request bytes is_for is = all_put (GaveTo s.number request bytes) over live [] turn.after
       (gives_nothing s.number request bytes (over ++ (live ++ [])) others_apart) (λ same. (is_for, is))
@@ -236,7 +235,7 @@ module _ (posted : List Posting) (posting : Posting) where
   posted_waits number journal parked waits other is_open =
       let w = waits is_open in
       let apart = swapped parked.conn posting.conn (not_on parked.is_open (parked.conn == posting.conn) other is_open) in
-      (w.0, ((w.1).0, ap (λ b. if b then Some posting.body else latest_on parked.conn posted) apart ∙ (w.1).1, (w.1).2), w.2, w.3)
+      (w.0, ((w.1).0, ap (λ b. if b then Some posting.body else latest_on parked.conn posted) apart ∙ (w.1).1, (w.1).2), w.2, w.3, w.4)
 
   session_waits : (s : PlainLive) → Waiting posted s → list_any (waits_on posting.conn) s.parked ≡ false → Waiting (posting ∷ posted) s
   session_waits s waits none = all_both (WaitsFor posted s.number s.journal) (λ parked. waits_on posting.conn parked ≡ false) (WaitsFor (posting ∷ posted) s.number s.journal)

@@ -18,13 +18,15 @@ use Rattle.session_core.specs.declared.replies.Taken.TheVariants as takings
 use Rattle.session_core.specs.declared.replies.Ticked.{Ticked}
 use Rattle.session_core.specs.declared.replies.Ticked.TheVariants.{Changed, Quiet}
 use Rattle.session_core.specs.Copy.{unnamed}
-use Rattle.session_core.specs.Journal.{Call, Arrive, Back, BackClosed, Collect, Tick, TakeInward, Entered, Journal, ToArrive, IsJournal, IsAllowed, state_of, step, entered_by}
+use Rattle.session_core.specs.Journal.{Call, Arrive, Back, BackClosed, Collect, Tick, TakeInward, Entered, Entry, Journal, ToArrive, IsJournal, IsAllowed, state_of, step, entered_by}
 use Rattle.session_core.specs.Machine.{opened, created_parts, bytes_for, arrive, back, back_closed, tick}
 use Rattle.session_core.specs.declared.opening.Opening.{Opening}
 use Rattle.session_core.specs.State.{PlainSession, Issued}
 use Rattle.session_core.specs.TicketsOut.{issued_at}
 use Rattle.session_laws.specs.Replies.{IsToldTo}
 use Rattle.session_laws.specs.Tickets.{Tells}
+use Rattle.session_laws.specs.Growing.{with_later}
+use Rattle.session_laws.proofs.Grows.{every_grows}
 use Rattle.session_laws.proofs.LawsOf.{every_answer_told, every_same_bytes}
 use Rattle.session_laws.proofs.Tests.{some_is}
 use Rattle.session_laws.proofs.TicketLemmas.{collect_tells}
@@ -33,37 +35,44 @@ use Rattle.script_text.specs.declared.event.Event.TheVariants.{Arrives, Gives, S
 use Rattle.script_text.specs.declared.live.Parked.{Parked}
 use Rattle.script_text.specs.declared.report.ReportLine.{ReportLine}
 use Rattle.script_text.specs.declared.report.ReportLine.TheVariants.{In, Out, Lost, Gone, Refused, Over, Done, Bad}
-use Rattle.script_text.specs.Answered.{Posting, IsRefusal, Asks, IsFor}
+use Rattle.script_text.specs.Answered.{Posting, GivesId, IsRefusal, Asks, IsFor, WasStruck}
 use Rattle.session_calls.specs.After.{after_call, all_taken, untaken, with_entered, with_taken}
 use Rattle.script_text.specs.Live.{PlainLive, state, Turn, fate, answer_line, fate_lines, is_not_yet, still, still_parked, collected_lines, all_collected, over_lines, settled_after, told, refused_first, with_journal, with_parked, not_found, arrived, refusal_of_back, refusal_of_shut, ticked, turn_at}
 use Rattle.script_text.specs.Manager.{opened_live}
 use Rattle.script_text.specs.Stands.{IsEvent}
 use Rattle.script_text.proofs.JournalSteps.{after_is, after_made}
 use Rattle.script_text.proofs.BodiesLemmas.{with_opening}
+use Rattle.script_text.proofs.StruckTickets.{TicketTold, after_told, parked_told, still_struck, told_struck}
 use Rattle.script_text.proofs.TicketIds.{KeepsIds, id_at, called_reply, after_keeps_ids, issued_id, parked_id}
 use Rattle.script_text.proofs.ToldLemmas.{same_number}
 use Rattle.script_text.proofs.TurnLemmas.{IsUp}
 
 -- what an id was given in this state it is given in that one
 abbrev pub KeepsBytes : PlainSession → PlainSession → Type 0
-KeepsBytes s t = (rid : ℕ) (bytes : List ℕ) → bytes_for s rid ≡ Some bytes → bytes_for t rid ≡ Some bytes
+KeepsBytes s t = (rid : ℕ) (bytes : List ℕ) → GivesId s rid bytes → GivesId t rid bytes
 
 keeps_by : (journal : Journal) (o : Option Entered) → IsJournal (with_entered journal o) → KeepsBytes (state_of journal) (state_of (with_entered journal o))
 keeps_by journal None made = λ rid bytes is. is
-keeps_by journal (Some entered) made = λ rid bytes is. every_same_bytes journal (record { caller = 0; entered = entered } ∷ []) made rid bytes is
+keeps_by journal (Some entered) made = λ rid bytes is.
+    let later : List Entry = record { caller = 0; entered = entered } ∷ [] in
+    elim is [
+      | inl given ↦ inl (every_same_bytes journal later made rid bytes given)
+      | inr error ↦ inr (error.0, still_struck (state_of journal) (state_of (with_later journal later)) (every_grows journal later made).placings rid error.1)
+    ]
 
 after_keeps : (journal : Journal) (call : Call) → IsJournal journal → IsAllowed call → KeepsBytes (state_of journal) (state_of (after_call journal call))
 after_keeps journal call made allowed = keeps_by journal (entered_by (state_of journal) call) (after_made journal call made allowed)
 
--- a journal that goes on: it is one, opened by the same request, gives what it gave, and its tickets are for what they were
+-- a journal that goes on: it is one, opened by the same request, gives what it gave, and its tickets are for what they were and told of as they were
 record GoesTo (journal later : Journal) : Type 0 where
   pub made : IsJournal later
   pub opening : later.opening ≡ journal.opening
   pub keeps : KeepsBytes (state_of journal) (state_of later)
   pub ids : KeepsIds (state_of journal).tickets (state_of later).tickets
+  pub struck : (number : ℕ) → TicketTold (state_of journal) number → TicketTold (state_of later) number
 
 goes_same : (journal : Journal) → IsJournal journal → GoesTo journal journal
-goes_same journal made = record { made = made; opening = refl; keeps = λ rid bytes is. is; ids = λ number rid is. is }
+goes_same journal made = record { made = made; opening = refl; keeps = λ rid bytes is. is; ids = λ number rid is. is; struck = λ number told. told }
 
 goes_on : (one two three : Journal) → GoesTo one two → GoesTo two three → GoesTo one three
 goes_on one two three first next = record {
@@ -71,6 +80,7 @@ goes_on one two three first next = record {
   opening = next.opening ∙ first.opening;
   keeps = λ rid bytes is. next.keeps rid bytes (first.keeps rid bytes is);
   ids = λ number rid is. next.ids number rid (first.ids number rid is);
+  struck = λ number told. next.struck number (first.struck number told);
 }
 
 call_goes : (journal : Journal) (call : Call) → IsJournal journal → IsAllowed call → GoesTo journal (after_call journal call)
@@ -78,7 +88,8 @@ call_goes journal call made allowed = record {
   made = after_made journal call made allowed;
   opening = with_opening journal (entered_by (state_of journal) call);
   keeps = after_keeps journal call made allowed;
-  ids = after_keeps_ids journal made call;
+  ids = after_keeps_ids journal made call allowed;
+  struck = after_told journal made call allowed;
 }
 
 taken_goes : (count : ℕ) (journal : Journal) → IsJournal journal → GoesTo journal (with_taken count journal)
@@ -110,7 +121,7 @@ for_later request number journal later same is = elim is [
 abbrev pub IsOf : List Posting → ℕ → Journal → ReportLine → Type 0
 IsOf posted number journal (In session item) = ⊤
 IsOf posted number journal (Out conn body) =
-    IsRefusal body ⊎ ((request : Request) × Asks posted conn request × IsFor request number journal × (bytes_for (state_of journal) request.rid ≡ Some body))
+    IsRefusal body ⊎ ((request : Request) × Asks posted conn request × IsFor request number journal × GivesId (state_of journal) request.rid body)
 IsOf posted number journal (Lost conn) = ⊤
 IsOf posted number journal (Gone conn) = ⊤
 IsOf posted number journal (Refused session refusal) = ⊤
@@ -118,11 +129,12 @@ IsOf posted number journal (Over session ending) = ⊤
 IsOf posted number journal (Done line) = ⊤
 IsOf posted number journal (Bad line kind) = ⊤
 
--- a request that waits on an open connection is the latest there, and its ticket is for its id
+-- a request that waits on an open connection is the latest there, and its ticket is for its id; where that has the error of a struck copy, one was
 abbrev pub WaitsFor : List Posting → ℕ → Journal → Parked → Type 0
 WaitsFor posted number journal parked =
     parked.is_open ≡ true
     → (request : Request) × Asks posted parked.conn request × IsFor request number journal × (id_at (state_of journal).tickets parked.ticket ≡ Some request.rid)
+    × TicketTold (state_of journal) parked.ticket
 
 abbrev pub Waiting : List Posting → PlainLive → Type 0
 Waiting posted s = All (WaitsFor posted s.number s.journal) s.parked
@@ -153,7 +165,7 @@ module _ (posted : List Posting) (number : ℕ) where
   waits_later : (journal later : Journal) → GoesTo journal later → (parked : Parked) → WaitsFor posted number journal parked → WaitsFor posted number later parked
   waits_later journal later goes parked waits is_open =
       let w = waits is_open in
-      (w.0, w.1, for_later w.0 number journal later goes.opening w.2, goes.ids parked.ticket w.0.rid w.3)
+      (w.0, w.1, for_later w.0 number journal later goes.opening w.2, goes.ids parked.ticket w.0.rid w.3, goes.struck parked.ticket w.4)
 
   all_waits_later : (journal later : Journal) → GoesTo journal later → (parked : List Parked) → All (WaitsFor posted number journal) parked
       → All (WaitsFor posted number later) parked
@@ -168,6 +180,12 @@ module _ (posted : List Posting) (number : ℕ) where
       let same : t.rid ≡ request.rid = some_is t.rid request.rid (sym (issued_id (state_of journal).tickets ticket t issued) ∙ asked) in
       subst (λ rid. bytes_for (state_of journal) rid ≡ Some body) same gives
 
+  same_struck : (journal : Journal) (ticket : ℕ) (request : Request) (t : Issued) → id_at (state_of journal).tickets ticket ≡ Some request.rid
+      → issued_at (state_of journal).tickets ticket ≡ Some t → WasStruck (state_of journal) t.rid → WasStruck (state_of journal) request.rid
+  same_struck journal ticket request t asked issued was =
+      let same : t.rid ≡ request.rid = some_is t.rid request.rid (sym (issued_id (state_of journal).tickets ticket t issued) ∙ asked) in
+      subst (WasStruck (state_of journal)) same was
+
   answer_of : (journal : Journal) (parked : Parked) (body : List ℕ) → WaitsFor posted number journal parked → Tells (state_of journal) parked.ticket (collections.Answer body)
       → All (IsOf posted number journal) (answer_line parked body ∷ [])
   answer_of journal parked body waits tells = by parked.is_open refl
@@ -175,7 +193,13 @@ module _ (posted : List Posting) (number : ℕ) where
       by : (b : Bool) → parked.is_open ≡ b → All (IsOf posted number journal) ((if b then Out parked.conn body else Lost parked.conn) ∷ [])
       by true is =
           let w = waits is in
-          one_of journal (Out parked.conn body) (inr (w.0, w.1, w.2, same_id journal parked.ticket body w.0 tells.0 w.3 tells.1 tells.3))
+          one_of journal (Out parked.conn body) (inr (w.0, w.1, w.2, given w.0 w.3 w.4))
+        where
+          given : (request : Request) → id_at (state_of journal).tickets parked.ticket ≡ Some request.rid → TicketTold (state_of journal) parked.ticket → GivesId (state_of journal) request.rid body
+          given request asked told = elim tells.2 [
+            | inl waits ↦ inl (same_id journal parked.ticket body request tells.0 asked tells.1 waits.1)
+            | inr struck ↦ inr (struck.1, same_struck journal parked.ticket request tells.0 asked tells.1 (told_struck (state_of journal) parked.ticket tells.0 tells.1 told struck.0))
+          ]
       by false is = one_of journal (Lost parked.conn) tt
 
   gone_of : (journal : Journal) (is_open : Bool) (conn : ℕ) → All (IsOf posted number journal) (if is_open then Gone conn ∷ [] else [])
@@ -300,7 +324,7 @@ module _ (posted : List Posting) where
 
     told_to : (bytes : List ℕ) → IsToldTo (step (state s) arriving).0 request.rid bytes → IsOf posted s.number then_journal (Out conn bytes)
     told_to bytes is = elim is [
-      | inl given ↦ inr (request, asks, for_then, ap (λ (t : PlainSession). bytes_for t request.rid) (after_is s.journal arriving) ∙ given)
+      | inl given ↦ inr (request, asks, for_then, inl (ap (λ (t : PlainSession). bytes_for t request.rid) (after_is s.journal arriving) ∙ given))
       | inr refused ↦ elim refused.1 [
         | inl lost ↦ inl (ItemNotFound, lost)
         | inr full ↦ inl (UndefinedCondition, full)
@@ -319,7 +343,7 @@ module _ (posted : List Posting) where
         let new : Parked = record { ticket = ticket; conn = conn; is_open = true } in
         called_answers s up arriving allowed (with_parked s ticket conn).parked []
         (All-append P s.parked (new ∷ []) then_waiting
-        (All-cons P new [] (λ is_open. (request, asks, for_then, parked_id s.journal up.made request body now allowed up.goes_on ticket is)) (All-nil P)))
+        (All-cons P new [] (λ is_open. (request, asks, for_then, parked_id s.journal up.made request body now allowed up.goes_on ticket is, parked_told s.journal up.made request body now allowed up.goes_on ticket is)) (All-nil P)))
         (none_of posted s.number then_journal)
     arrived_answers arrivals.Over is =
         called_answers s up arriving allowed s.parked (not_found conn ∷ []) then_waiting (one_of posted s.number then_journal (not_found conn) (inl (ItemNotFound, refl)))
@@ -361,4 +385,4 @@ pub opened_answers : (posted : List Posting) (number conn : ℕ) (o : Opening) �
     → Answers posted (opened_live number o) (told (opened_live number o) (Out conn (answer_text (created_parts o)) ∷ []))
 opened_answers posted number conn o asks made = told_answers posted (opened_live number o) (Out conn (answer_text (created_parts o)) ∷ []) made
     (All-nil (WaitsFor posted number (opened_live number o).journal))
-    (one_of posted number (opened_live number o).journal (Out conn (answer_text (created_parts o))) (inr (o.request, asks, inr refl, created_bytes o)))
+    (one_of posted number (opened_live number o).journal (Out conn (answer_text (created_parts o))) (inr (o.request, asks, inr refl, inl (created_bytes o))))

@@ -170,7 +170,7 @@ drive_holds (line ∷ others) run n report over holds =
         (rest after (report ++ step.lines) (over ++ step.over) follows))
     by rest (Ends outcome) follows = follows
 
-none_opened : (k : ℕ) → 0 ≡ one_if (is_opened 0 k)
+pub none_opened : (k : ℕ) → 0 ≡ one_if (is_opened 0 k)
 none_opened k = by (nat_le 1 k) (nat_le k 0) refl refl
   where
     by : (a b : Bool) → nat_le 1 k ≡ a → nat_le k 0 ≡ b → 0 ≡ one_if (a && b)

@@ -4,7 +4,7 @@ use Rattle.std.specs.Prelude.{⊤, sum_by, slice_get}
 use Rattle.session_core.specs.Journal.{Call, Arrive, Back, BackClosed, Collect, Tick, TakeInward, Entered, Entry, Journal, Reply, ToCollect, ToTakeInward, IsJournal, IsAllowed, state_of, entered_by, step, called}
 use Rattle.session_core.specs.Machine.{collect, collected_from, collected_by, collected_bytes, bytes_for, passed_on, take_inward, is_full, body_cost, stanza_cost, plain_cost}
 use Rattle.session_core.specs.Passed.{passes}
-use Rattle.session_core.specs.State.{PlainSession, Issued, TicketState, Waits, Replaced, UsedUp, inward, is_over}
+use Rattle.session_core.specs.State.{PlainSession, Issued, TicketState, Waits, Replaced, Struck, UsedUp, inward, is_over}
 use Rattle.session_core.specs.Time.{is_due}
 use Rattle.session_laws.specs.Growing.{Begins}
 use Rattle.session_laws.proofs.Calls.{as_entered, unentered}
@@ -148,6 +148,7 @@ bytes_same s index ticket (Some bytes) = (_, refl)
 ticket_same : (s : PlainSession) (index : ℕ) (ticket : Issued) (state : TicketState) → SameButTickets s (collected_by s index ticket state).0
 ticket_same s index ticket Waits = bytes_same s index ticket (bytes_for s ticket.rid)
 ticket_same s index ticket Replaced = (_, refl)
+ticket_same s index ticket Struck = (_, refl)
 ticket_same s index ticket UsedUp = (s.tickets, refl)
 
 from_same : (s : PlainSession) (index : ℕ) (o : Option Issued) → SameButTickets s (collected_from s index o).0

@@ -6,7 +6,13 @@ pub mod CollectingLemmas
 pub mod DriveLemmas
 pub mod GivenLemmas
 pub mod GivesLemmas
+pub mod GrowLemmas
 pub mod HeadlineLemmas
+pub mod KeptLemmas
+pub mod KeptRun
+pub mod KeptSteps
+pub mod KeptTold
+pub mod ResumedLemmas
 pub mod InwardLemmas
 pub mod JournalSteps
 pub mod LiveLemmas
@@ -20,6 +26,7 @@ pub mod Rows
 pub mod SaidLemmas
 pub mod SessionsLemmas
 pub mod StepLemmas
+pub mod StruckTickets
 pub mod TakingLemmas
 pub mod TicketIds
 pub mod ToldLemmas

@@ -9,8 +9,8 @@ use Rattle.session_core.specs.State.{is_over}
 use Rattle.script_text.specs.declared.event.Event.TheVariants.{Passes}
 use Rattle.script_text.specs.declared.live.Live.{Live}
 use Rattle.script_text.specs.declared.report.ReportLine.{ReportLine}
-use Rattle.script_text.specs.Live.{PlainLive, if_live, state, turn_at}
-use Rattle.script_text.specs.Manager.{passed_lines, passed_live, waits_on, with_closed}
+use Rattle.script_text.specs.Live.{PlainLive, if_live, if_over, state, turn_at}
+use Rattle.script_text.specs.Manager.{passed_lines, passed_live, passed_over, waits_on, with_closed}
 use Rattle.script_text.specs.Stands.{AreLive, IsBefore, IsLive, Rests}
 
 pub live_append : (lives others : List Live) (ss ts : List PlainLive) → AreLive lives ss → AreLive others ts → AreLive (lives ++ others) (ss ++ ts)
@@ -106,6 +106,27 @@ kept_last lives lives' live s through is on longer are =
 pub not_kept : (lives : List Live) (s : PlainLive) (through : List PlainLive) → is_over (state s) ≡ true → AreLive lives through → AreLive lives (through ++ if_live s)
 not_kept lives s through over are =
     subst (λ l. AreLive lives (through ++ l)) (sym (goes s over)) (subst (λ l. AreLive lives l) (sym (append-nil through)) are)
+
+-- the same of those that have ended
+pub over_stays : (s : PlainLive) → is_over (state s) ≡ true → s ∷ [] ≡ if_over s
+over_stays s over = ap (λ b. if b then s ∷ [] else []) (sym over)
+
+pub over_goes : (s : PlainLive) → is_over (state s) ≡ false → if_over s ≡ []
+over_goes s on = ap (λ b. if b then s ∷ [] else []) on
+
+pub kept_over : (overs overs' : List Live) (live : Live) (s : PlainLive) (ended : List PlainLive) → IsLive live s → is_over (state s) ≡ true → overs' ≡ overs ++ live ∷ []
+    → AreLive overs ended → AreLive overs' (ended ++ if_over s)
+kept_over overs overs' live s ended is over longer are =
+    subst (λ l. AreLive l (ended ++ if_over s)) (sym longer)
+    (subst (λ l. AreLive (overs ++ live ∷ []) (ended ++ l)) (over_stays s over) (live_append overs (live ∷ []) ended (s ∷ []) are (is, tt)))
+
+pub not_over : (overs : List Live) (s : PlainLive) (ended : List PlainLive) → is_over (state s) ≡ false → AreLive overs ended → AreLive overs (ended ++ if_over s)
+not_over overs s ended on are =
+    subst (λ l. AreLive overs (ended ++ l)) (sym (over_goes s on)) (subst (λ l. AreLive overs l) (sym (append-nil ended)) are)
+
+-- no session at all
+pub none_live : (lives : List Live) → lives ≡ [] → AreLive lives []
+none_live lives none = subst (λ l. AreLive l []) (sym none) tt
 
 -- kept at a place
 pub kept_at : (place : ℕ) (lives lives' : List Live) (live : Live) (s : PlainLive) (ss : List PlainLive) → IsLive live s → is_over (state s) ≡ false
@@ -238,3 +259,37 @@ pub host_at : (hosts : List HostName) (place : ℕ) → place < length hosts →
 host_at [] place within = absurd (omega (arith, within))
 host_at (host ∷ hosts) zero within = (host, refl)
 host_at (host ∷ hosts) (suc place) within = host_at hosts place (omega (arith, within))
+
+-- Those that ended while time passed.
+
+pub record PassesAway (now : ℕ) (over rest : List Live) (whole : List PlainLive) : Type 0 where
+  pub left : List PlainLive
+  pub gone : List PlainLive
+  pub are_left : AreLive rest left
+  pub are_gone : AreLive over gone
+  pub ended : passed_over now whole ≡ gone ++ passed_over now left
+
+pub away_from : (now : ℕ) (lives : List Live) (ss : List PlainLive) → AreLive lives ss → PassesAway now [] lives ss
+away_from now lives ss are = record { left = ss; gone = []; are_left = are; are_gone = tt; ended = refl }
+
+pub away_more : (now : ℕ) (over over' rest : List Live) (first : Live) (whole : List PlainLive) → PassesAway now over (first ∷ rest) whole
+    → ((s : PlainLive) → IsLive first s → (ended : List PlainLive) → AreLive over ended → AreLive over' (ended ++ if_over (turn_at now Passes s).after))
+    → PassesAway now over' rest whole
+away_more now over over' rest first whole away turns = by away.left away.are_left away.ended
+  where
+    by : (left : List PlainLive) → AreLive (first ∷ rest) left → passed_over now whole ≡ away.gone ++ passed_over now left → PassesAway now over' rest whole
+    by [] are is = absurd are
+    by (s ∷ left) are is = record {
+      left = left;
+      gone = away.gone ++ if_over (turn_at now Passes s).after;
+      are_left = are.1;
+      are_gone = turns s are.0 away.gone away.are_gone;
+      ended = is ∙ sym (append_assoc away.gone (if_over (turn_at now Passes s).after) (passed_over now left));
+    }
+
+pub away_end : (now : ℕ) (over : List Live) (whole : List PlainLive) → PassesAway now over [] whole → AreLive over (passed_over now whole)
+away_end now over whole away = by away.left away.are_left away.ended
+  where
+    by : (left : List PlainLive) → AreLive [] left → passed_over now whole ≡ away.gone ++ passed_over now left → AreLive over (passed_over now whole)
+    by [] are is = subst (λ l. AreLive over l) (sym (is ∙ append-nil away.gone)) away.are_gone
+    by (s ∷ left) are is = absurd are

@@ -42,6 +42,7 @@ opens host number now body sid name request creation terms good few small sid_is
       creation = (creation, kind, terms_is);
       sid = subst (λ n. IsText n × (1 ≤ length n) × (length n ≤ 64)) (sym sid_is) (sid_text number few small);
       host = subst (λ n. IsText n × (1 ≤ length n) × (length n ≤ 1023)) (sym name_is) (host_text host.name known.0);
+      gap = (omega arith, omega arith);
       greeting = greeting_fits host.greeting known.1;
     }
 

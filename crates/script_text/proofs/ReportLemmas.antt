@@ -54,7 +54,7 @@ none_ended report over m holds = subst (λ o. Holds report o m) (sym (append-nil
 pub none_reported : (report : List ReportLine) (over : List PlainLive) (m : PlainManager) → Holds report over m → Holds (report ++ []) over m
 none_reported report over m holds = subst (λ r. Holds r over m) (sym (append-nil report)) holds
 
-closed_counts : (conn k : ℕ) (live : List PlainLive) → count_by (is_numbered k) (map (with_closed conn) live) ≡ count_by (is_numbered k) live
+pub closed_counts : (conn k : ℕ) (live : List PlainLive) → count_by (is_numbered k) (map (with_closed conn) live) ≡ count_by (is_numbered k) live
 closed_counts conn k [] = refl
 closed_counts conn k (s ∷ live) =
     count_cons (is_numbered k) (with_closed conn s) (map (with_closed conn) live)

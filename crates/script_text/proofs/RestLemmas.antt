@@ -10,10 +10,10 @@ use Rattle.session_core.specs.Time.{is_due}
 use Rattle.session_core.specs.declared.replies.Ticked.TheVariants.{Quiet}
 use Rattle.session_calls.specs.After.{after_call}
 use Rattle.script_text.specs.declared.event.Event.TheVariants.{Passes}
-use Rattle.script_text.specs.Live.{PlainLive, if_live, state, ticked, turn_at, with_journal}
-use Rattle.script_text.specs.Manager.{passed_lines, passed_live, with_closed}
+use Rattle.script_text.specs.Live.{PlainLive, if_live, if_over, state, ticked, turn_at, with_journal}
+use Rattle.script_text.specs.Manager.{passed_lines, passed_live, passed_over, with_closed}
 use Rattle.script_text.specs.Stands.{IsBefore, Rests}
-use Rattle.script_text.proofs.ManagerLemmas.{goes, stays}
+use Rattle.script_text.proofs.ManagerLemmas.{goes, over_goes, stays}
 
 -- ---- a moment at which nothing is due
 
@@ -42,11 +42,17 @@ same_live now (s ∷ ss) all =
     ap₂ (λ turn live. if_live turn.after ++ live) (quiet_turn now s (All-head (IsQuiet now) s ss all).quiet) (same_live now ss (All-tail (IsQuiet now) s ss all))
     ∙ ap (λ l. l ++ ss) (sym (stays s (All-head (IsQuiet now) s ss all).goes_on))
 
+none_over : (now : ℕ) (ss : List PlainLive) → All (IsQuiet now) ss → passed_over now ss ≡ []
+none_over now [] all = refl
+none_over now (s ∷ ss) all =
+    ap₂ (λ turn over. if_over turn.after ++ over) (quiet_turn now s (All-head (IsQuiet now) s ss all).quiet) (none_over now ss (All-tail (IsQuiet now) s ss all))
+    ∙ ap (λ l. l ++ []) (over_goes s (All-head (IsQuiet now) s ss all).goes_on)
+
 pub passes_by : (soonest : Option ℕ) (now : ℕ) (ss : List PlainLive) → now < 2 ^ 64 → IsBefore now soonest → All (Rests soonest) ss
-    → (passed_lines now ss ≡ []) × (passed_live now ss ≡ ss)
+    → (passed_lines now ss ≡ []) × (passed_live now ss ≡ ss) × (passed_over now ss ≡ [])
 passes_by soonest now ss range before rest =
     let all = quiet_at soonest now ss range before rest in
-    (no_lines now ss all, same_live now ss all)
+    (no_lines now ss all, same_live now ss all, none_over now ss all)
 
 -- ---- the first moment at which something is
 

@@ -182,8 +182,8 @@ restarted : report_of (codes "host example.org <stream:features/>\npost 1 <body 
 unfolding scripts_compute
 restarted = refl
 
--- a request behind a gap waits, and the session is silent all the same
-silent_behind_a_gap : report_of (codes "host example.org <stream:features/>\npost 1 <body rid='1000' to='example.org' wait='60' hold='1' ver='1.6' xmlns='http://jabber.org/protocol/httpbind'/>\nat 20000\npost 2 <body rid='1002' sid='s1' xmlns='http://jabber.org/protocol/httpbind'><b/></body>\nat 50000\nat 50001\nend\n") ≡ codes "out 1 <body xmlns='http://jabber.org/protocol/httpbind' xmlns:xmpp='urn:xmpp:xbosh' xmlns:stream='http://etherx.jabber.org/streams' sid='s1' wait='60' requests='2' inactivity='30' polling='5' maxpause='120' hold='1' ver='1.6' from='example.org' ack='1000' xmpp:version='1.0' xmpp:restartlogic='true'><stream:features/></body>\nout 2 <body xmlns='http://jabber.org/protocol/httpbind' type='terminate' condition='item-not-found'/>\nover s1 silent 20000 50001\ndone 7\n"
+-- a request behind a gap is told that it counts as not received, once it has waited, and the session is silent from then on
+silent_behind_a_gap : report_of (codes "host example.org <stream:features/>\npost 1 <body rid='1000' to='example.org' wait='60' hold='1' ver='1.6' xmlns='http://jabber.org/protocol/httpbind'/>\nat 20000\npost 2 <body rid='1002' sid='s1' xmlns='http://jabber.org/protocol/httpbind'><b/></body>\nat 50001\nat 79999\nat 80000\nat 110000\nat 110001\nend\n") ≡ codes "out 1 <body xmlns='http://jabber.org/protocol/httpbind' xmlns:xmpp='urn:xmpp:xbosh' xmlns:stream='http://etherx.jabber.org/streams' sid='s1' wait='60' requests='2' inactivity='30' polling='5' maxpause='120' hold='1' ver='1.6' from='example.org' ack='1000' xmpp:version='1.0' xmpp:restartlogic='true'><stream:features/></body>\nout 2 <body xmlns='http://jabber.org/protocol/httpbind' type='error'/>\nover s1 silent 80000 110001\ndone 10\n"
 unfolding scripts_compute
 silent_behind_a_gap = refl
 

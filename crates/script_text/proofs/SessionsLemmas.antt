@@ -87,18 +87,18 @@ place_splits (y ∷ xs) (suc k) x is = ap (λ l. y ∷ l) (place_splits xs k x i
 
 -- Numbers.
 
-one_if-few : (b : Bool) → one_if b ≤ 1
+pub one_if-few : (b : Bool) → one_if b ≤ 1
 one_if-few true = omega arith
 one_if-few false = omega arith
 
-one_if-true : (b : Bool) → 1 ≤ one_if b → b ≡ true
+pub one_if-true : (b : Bool) → 1 ≤ one_if b → b ≡ true
 one_if-true true some = refl
 one_if-true false some = absurd (omega arith)
 
 pub swapped : (a b : ℕ) → (a == b) ≡ false → (b == a) ≡ false
 swapped a b is = ne_eqb b a (λ same. eqb-false a b is (sym same))
 
-opened_more : (opened k : ℕ) → one_if (is_opened opened k) + one_if ((opened + 1) == k) ≡ one_if (is_opened (opened + 1) k)
+pub opened_more : (opened k : ℕ) → one_if (is_opened opened k) + one_if ((opened + 1) == k) ≡ one_if (is_opened (opened + 1) k)
 opened_more opened k = by (nat_le 1 k) (nat_le k opened) ((opened + 1) == k) (nat_le k (opened + 1)) refl refl refl refl
   where
     by : (a b c d : Bool) → nat_le 1 k ≡ a → nat_le k opened ≡ b → ((opened + 1) == k) ≡ c → nat_le k (opened + 1) ≡ d
@@ -160,21 +160,21 @@ tells_told report lines over live opened tells = tells_same (report ++ lines) (r
 
 -- A session after its turn.
 
-if_over-part : (P : PlainLive → Type 0) (s : PlainLive) → (is_over (state s) ≡ true → P s) → All P (if_over s)
+pub if_over-part : (P : PlainLive → Type 0) (s : PlainLive) → (is_over (state s) ≡ true → P s) → All P (if_over s)
 if_over-part P s holds = by (is_over (state s)) refl
   where
     by : (b : Bool) → is_over (state s) ≡ b → All P (if b then s ∷ [] else [])
     by true is = All-cons P s [] (holds is) (All-nil P)
     by false is = All-nil P
 
-if_live-part : (P : PlainLive → Type 0) (s : PlainLive) → (is_over (state s) ≡ false → P s) → All P (if_live s)
+pub if_live-part : (P : PlainLive → Type 0) (s : PlainLive) → (is_over (state s) ≡ false → P s) → All P (if_live s)
 if_live-part P s holds = by (is_over (state s)) refl
   where
     by : (b : Bool) → is_over (state s) ≡ b → All P (if b then [] else s ∷ [])
     by true is = All-nil P
     by false is = All-cons P s [] (holds is) (All-nil P)
 
-either_counts : (p : PlainLive → Bool) (s : PlainLive) → count_by p (if_over s) + count_by p (if_live s) ≡ count_by p (s ∷ [])
+pub either_counts : (p : PlainLive → Bool) (s : PlainLive) → count_by p (if_over s) + count_by p (if_live s) ≡ count_by p (s ∷ [])
 either_counts p s = by (is_over (state s))
   where
     by : (b : Bool) → count_by p (if b then s ∷ [] else []) + count_by p (if b then [] else s ∷ []) ≡ count_by p (s ∷ [])

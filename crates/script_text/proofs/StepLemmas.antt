@@ -41,10 +41,10 @@ by_next : (run : PlainRun) (n : ℕ) (step : Step) (next : PlainNext) (others : 
 by_next run n step (Goes after) others = refl
 by_next run n step (Ends outcome) others = refl
 
-not_past : (n : ℕ) → n ≤ most_lines → nat_lt most_lines n ≡ false
+pub not_past : (n : ℕ) → n ≤ most_lines → nat_lt most_lines n ≡ false
 not_past n within = grind (arith, nat_tests)
 
-past : (n : ℕ) → most_lines < n → nat_lt most_lines n ≡ true
+pub past : (n : ℕ) → most_lines < n → nat_lt most_lines n ≡ true
 past n beyond = grind (arith, nat_tests)
 
 short_enough : (line : List ℕ) (read : LineRead) → length line ≤ longest_line → within_length line read ≡ read
@@ -63,11 +63,11 @@ from_line run n line others read is =
     by_next run n (step_by run n (said n line)) (step_by run n (said n line)).next others
     ∙ ap (λ r. drive_by run n (step_by run n r) others) is
 
-read_short_enough : (n : ℕ) (line : List ℕ) → n ≤ most_lines → length line ≤ longest_line → said n line ≡ line_of line
+pub read_short_enough : (n : ℕ) (line : List ℕ) → n ≤ most_lines → length line ≤ longest_line → said n line ≡ line_of line
 read_short_enough n line within short =
     ap (λ b. if b then BadLine Count else within_length line (line_of line)) (not_past n within) ∙ short_enough line (line_of line) short
 
-read_long : (n : ℕ) (line : List ℕ) → n ≤ most_lines → longest_line < length line → said n line ≡ BadLine Length
+pub read_long : (n : ℕ) (line : List ℕ) → n ≤ most_lines → longest_line < length line → said n line ≡ BadLine Length
 read_long n line within long =
     ap (λ b. if b then BadLine Count else within_length line (line_of line)) (not_past n within) ∙ long_enough line (line_of line) long
 
@@ -110,26 +110,30 @@ counted_out run n [] beyond = ap (λ b. bad_at run n (if b then Count else End))
 counted_out run n (line ∷ others) beyond =
     from_line run n line others (BadLine Count) (ap (λ b. if b then BadLine Count else within_length line (line_of line)) (past n beyond))
 
+-- a whole script over what it begins with
+abbrev pub drive_all : PlainRun → List ℕ → Drive
+drive_all first script = drive_on first 1 (lines_of script)
+
 -- what is left of a script for a run of the code, where what was done of it is in the report
-pub record GoesOn (script rest : List ℕ) (run : Run) (n : ℕ) (old new : Option (List ℕ)) : Type 0 where
+pub record GoesOn (whole : List ℕ → Drive) (script rest : List ℕ) (run : Run) (n : ℕ) (old new : Option (List ℕ)) : Type 0 where
   pub plain : PlainRun
   pub stands : IsRun run plain
-  pub given : HasReported old new (drive_of script).report (drive_on plain n (lines_of rest)).report
-  pub outcome : (drive_of script).outcome ≡ (drive_on plain n (lines_of rest)).outcome
+  pub given : HasReported old new (whole script).report (drive_on plain n (lines_of rest)).report
+  pub outcome : (whole script).outcome ≡ (drive_on plain n (lines_of rest)).outcome
 
 -- the same where the source tells its bytes
-abbrev pub Going : Option (List ℕ) → Option (List ℕ) → Run → ℕ → Option (List ℕ) → Option (List ℕ) → Type 0
-Going None unread run n old new = Unit {0}
-Going (Some script) None run n old new = ⊥
-Going (Some script) (Some rest) run n old new = GoesOn script rest run n old new
+abbrev pub Going : (List ℕ → Drive) → Option (List ℕ) → Option (List ℕ) → Run → ℕ → Option (List ℕ) → Option (List ℕ) → Type 0
+Going whole None unread run n old new = Unit {0}
+Going whole (Some script) None run n old new = ⊥
+Going whole (Some script) (Some rest) run n old new = GoesOn whole script rest run n old new
 
 -- nothing was read yet
-begins : (script : Option (List ℕ)) (old : Option (List ℕ)) → Going script script runs.Beginning 1 old old
-begins None old = tt
-begins (Some script) old = record {
-  plain = Beginning;
-  stands = tt;
-  given = nothing_reported old (drive_of script).report;
+begins : (first : PlainRun) (run : Run) → IsRun run first → (script : Option (List ℕ)) (old : Option (List ℕ)) → Going (drive_all first) script script run 1 old old
+begins first run is None old = tt
+begins first run is (Some script) old = record {
+  plain = first;
+  stands = is;
+  given = nothing_reported old (drive_all first script).report;
   outcome = refl;
 }
 
@@ -142,11 +146,11 @@ left_as : (old mid : Option (List ℕ)) (whole : List ReportLine) (drive other :
 left_as old mid whole drive other same has = subst (λ (d : Drive). HasReported old mid whole d.report) same has
 
 -- one line more
-pub goes : (script unread unread' : Option (List ℕ)) (run after : Run) (n : ℕ) (read : NextLine) (effect : Effect) (old mid new : Option (List ℕ)) → n ≤ most_lines → Going script unread run n old mid → Reads unread unread' read → Did run n read effect → effect.next ≡ nexts.Goes after → Appends mid new (report_text effect.lines.items) → Going script unread' after (n + 1) old new
-goes None unread unread' run after n read effect old mid new within has reads did is gave = tt
-goes (Some script) None unread' run after n read effect old mid new within has reads did is gave = absurd has
-goes (Some script) (Some rest) None run after n read effect old mid new within has reads did is gave = absurd reads
-goes (Some script) (Some rest) (Some rest') run after n read effect old mid new within has reads did is gave =
+pub goes : (whole : List ℕ → Drive) (script unread unread' : Option (List ℕ)) (run after : Run) (n : ℕ) (read : NextLine) (effect : Effect) (old mid new : Option (List ℕ)) → n ≤ most_lines → Going whole script unread run n old mid → Reads unread unread' read → Did run n read effect → effect.next ≡ nexts.Goes after → Appends mid new (report_text effect.lines.items) → Going whole script unread' after (n + 1) old new
+goes whole None unread unread' run after n read effect old mid new within has reads did is gave = tt
+goes whole (Some script) None unread' run after n read effect old mid new within has reads did is gave = absurd has
+goes whole (Some script) (Some rest) None run after n read effect old mid new within has reads did is gave = absurd reads
+goes whole (Some script) (Some rest) (Some rest') run after n read effect old mid new within has reads did is gave =
     let st = step_by has.plain n (read_of read) in
     let does = did has.plain has.stands in
     let further = goes_further has.plain n st st.next after (lines_of rest') (subst (λ k. IsNext k st.next) is does.next) in
@@ -154,68 +158,72 @@ goes (Some script) (Some rest) (Some rest') run after n read effect old mid new 
     record {
       plain = further.plain;
       stands = further.stands;
-      given = more_reported old mid new (drive_of script).report st.lines (drive_on further.plain (n + 1) (lines_of rest')).report
-          (left_as old mid (drive_of script).report _ _ same has.given) (subst (λ l. Appends mid new (report_text l)) does.lines gave);
+      given = more_reported old mid new (whole script).report st.lines (drive_on further.plain (n + 1) (lines_of rest')).report
+          (left_as old mid (whole script).report _ _ same has.given) (subst (λ l. Appends mid new (report_text l)) does.lines gave);
       outcome = has.outcome ∙ ap (λ d. d.outcome) same;
     }
 
 -- the line at which the script ends
-pub ends : (script unread unread' : Option (List ℕ)) (run : Run) (n : ℕ) (read : NextLine) (effect : Effect) (outcome : Driven) (old mid new : Option (List ℕ)) → n ≤ most_lines → Going script unread run n old mid → Reads unread unread' read → Did run n read effect → effect.next ≡ nexts.Ends outcome → Appends mid new (report_text effect.lines.items) → IfSome script (λ s. Reports (drive_of s) outcome old new)
-ends None unread unread' run n read effect outcome old mid new within has reads did is gave = tt
-ends (Some script) None unread' run n read effect outcome old mid new within has reads did is gave = absurd has
-ends (Some script) (Some rest) None run n read effect outcome old mid new within has reads did is gave = absurd reads
-ends (Some script) (Some rest) (Some rest') run n read effect outcome old mid new within has reads did is gave =
+pub ends : (whole : List ℕ → Drive) (script unread unread' : Option (List ℕ)) (run : Run) (n : ℕ) (read : NextLine) (effect : Effect) (outcome : Driven) (old mid new : Option (List ℕ)) → n ≤ most_lines → Going whole script unread run n old mid → Reads unread unread' read → Did run n read effect → effect.next ≡ nexts.Ends outcome → Appends mid new (report_text effect.lines.items) → IfSome script (λ s. Reports (whole s) outcome old new)
+ends whole None unread unread' run n read effect outcome old mid new within has reads did is gave = tt
+ends whole (Some script) None unread' run n read effect outcome old mid new within has reads did is gave = absurd has
+ends whole (Some script) (Some rest) None run n read effect outcome old mid new within has reads did is gave = absurd reads
+ends whole (Some script) (Some rest) (Some rest') run n read effect outcome old mid new within has reads did is gave =
     let st = step_by has.plain n (read_of read) in
     let does = did has.plain has.stands in
     let same = step has.plain n rest rest' read within reads ∙ ends_here has.plain n st st.next outcome (lines_of rest') (subst (λ k. IsNext k st.next) is does.next) in
     let left : (drive_on has.plain n (lines_of rest)).report ≡ st.lines ++ [] = ap (λ d. d.report) same ∙ sym (append-nil st.lines) in (
       sym (has.outcome ∙ ap (λ d. d.outcome) same),
-      all_reported old new (drive_of script).report (more_reported old mid new (drive_of script).report st.lines [] (subst (HasReported old mid (drive_of script).report) left has.given) (subst (λ l. Appends mid new (report_text l)) does.lines gave)),
+      all_reported old new (whole script).report (more_reported old mid new (whole script).report st.lines [] (subst (HasReported old mid (whole script).report) left has.given) (subst (λ l. Appends mid new (report_text l)) does.lines gave)),
     )
 
 -- a line of which a front was given
-pub halts : (script unread unread' : Option (List ℕ)) (run : Run) (n : ℕ) (read : NextLine) (effect : Effect) (old mid new : Option (List ℕ)) → n ≤ most_lines → Going script unread run n old mid → Reads unread unread' read → Did run n read effect → AppendsFront mid new (report_text effect.lines.items) → IfSome script (λ s. AppendsFront old new (report_text (drive_of s).report))
-halts None unread unread' run n read effect old mid new within has reads did gave = tt
-halts (Some script) None unread' run n read effect old mid new within has reads did gave = absurd has
-halts (Some script) (Some rest) None run n read effect old mid new within has reads did gave = absurd reads
-halts (Some script) (Some rest) (Some rest') run n read effect old mid new within has reads did gave =
+pub halts : (whole : List ℕ → Drive) (script unread unread' : Option (List ℕ)) (run : Run) (n : ℕ) (read : NextLine) (effect : Effect) (old mid new : Option (List ℕ)) → n ≤ most_lines → Going whole script unread run n old mid → Reads unread unread' read → Did run n read effect → AppendsFront mid new (report_text effect.lines.items) → IfSome script (λ s. AppendsFront old new (report_text (whole s).report))
+halts whole None unread unread' run n read effect old mid new within has reads did gave = tt
+halts whole (Some script) None unread' run n read effect old mid new within has reads did gave = absurd has
+halts whole (Some script) (Some rest) None run n read effect old mid new within has reads did gave = absurd reads
+halts whole (Some script) (Some rest) (Some rest') run n read effect old mid new within has reads did gave =
     let st = step_by has.plain n (read_of read) in
     let does = did has.plain has.stands in
     let same = step has.plain n rest rest' read within reads in
     let f = comes_first has.plain n st st.next (lines_of rest') in
-    front_reported old mid new (drive_of script).report st.lines f.0 (subst (HasReported old mid (drive_of script).report) (ap (λ d. d.report) same ∙ f.1) has.given) (subst (λ l. AppendsFront mid new (report_text l)) does.lines gave)
+    front_reported old mid new (whole script).report st.lines f.0 (subst (HasReported old mid (whole script).report) (ap (λ d. d.report) same ∙ f.1) has.given) (subst (λ l. AppendsFront mid new (report_text l)) does.lines gave)
 
 -- nothing more was given
-pub halts_there : (script unread : Option (List ℕ)) (run : Run) (n : ℕ) (old new : Option (List ℕ)) → Going script unread run n old new → IfSome script (λ s. AppendsFront old new (report_text (drive_of s).report))
-halts_there None unread run n old new has = tt
-halts_there (Some script) None run n old new has = absurd has
-halts_there (Some script) (Some rest) run n old new has = so_far_reported old new (drive_of script).report (drive_on has.plain n (lines_of rest)).report has.given
+pub halts_there : (whole : List ℕ → Drive) (script unread : Option (List ℕ)) (run : Run) (n : ℕ) (old new : Option (List ℕ)) → Going whole script unread run n old new → IfSome script (λ s. AppendsFront old new (report_text (whole s).report))
+halts_there whole None unread run n old new has = tt
+halts_there whole (Some script) None run n old new has = absurd has
+halts_there whole (Some script) (Some rest) run n old new has = so_far_reported old new (whole script).report (drive_on has.plain n (lines_of rest)).report has.given
 
 -- the script has too many lines
-pub too_many : (script unread : Option (List ℕ)) (run : Run) (n : ℕ) (old mid new : Option (List ℕ)) → most_lines < n → Going script unread run n old mid → Appends mid new (report_text (SaysBad n Count ∷ [])) → IfSome script (λ s. Reports (drive_of s) (Bad n Count) old new)
-too_many None unread run n old mid new beyond has gave = tt
-too_many (Some script) None run n old mid new beyond has gave = absurd has
-too_many (Some script) (Some rest) run n old mid new beyond has gave =
+pub too_many : (whole : List ℕ → Drive) (script unread : Option (List ℕ)) (run : Run) (n : ℕ) (old mid new : Option (List ℕ)) → most_lines < n → Going whole script unread run n old mid → Appends mid new (report_text (SaysBad n Count ∷ [])) → IfSome script (λ s. Reports (whole s) (Bad n Count) old new)
+too_many whole None unread run n old mid new beyond has gave = tt
+too_many whole (Some script) None run n old mid new beyond has gave = absurd has
+too_many whole (Some script) (Some rest) run n old mid new beyond has gave =
     let same = counted_out has.plain n (lines_of rest) beyond in (
       sym (has.outcome ∙ ap (λ d. d.outcome) same),
-      all_reported old new (drive_of script).report (more_reported old mid new (drive_of script).report (SaysBad n Count ∷ []) [] (left_as old mid (drive_of script).report _ _ same has.given) gave),
+      all_reported old new (whole script).report (more_reported old mid new (whole script).report (SaysBad n Count ∷ []) [] (left_as old mid (whole script).report _ _ same has.given) gave),
     )
 
-pub too_many_part : (script unread : Option (List ℕ)) (run : Run) (n : ℕ) (old mid new : Option (List ℕ)) → most_lines < n → Going script unread run n old mid → AppendsFront mid new (report_text (SaysBad n Count ∷ [])) → IfSome script (λ s. AppendsFront old new (report_text (drive_of s).report))
-too_many_part None unread run n old mid new beyond has gave = tt
-too_many_part (Some script) None run n old mid new beyond has gave = absurd has
-too_many_part (Some script) (Some rest) run n old mid new beyond has gave =
+pub too_many_part : (whole : List ℕ → Drive) (script unread : Option (List ℕ)) (run : Run) (n : ℕ) (old mid new : Option (List ℕ)) → most_lines < n → Going whole script unread run n old mid → AppendsFront mid new (report_text (SaysBad n Count ∷ [])) → IfSome script (λ s. AppendsFront old new (report_text (whole s).report))
+too_many_part whole None unread run n old mid new beyond has gave = tt
+too_many_part whole (Some script) None run n old mid new beyond has gave = absurd has
+too_many_part whole (Some script) (Some rest) run n old mid new beyond has gave =
     let same = counted_out has.plain n (lines_of rest) beyond in
-    front_reported old mid new (drive_of script).report (SaysBad n Count ∷ []) [] (left_as old mid (drive_of script).report _ _ same has.given) gave
+    front_reported old mid new (whole script).report (SaysBad n Count ∷ []) [] (left_as old mid (whole script).report _ _ same has.given) gave
 
 -- a reader that holds nothing reads what the source has left
 pub reads_source : (src new : Option (List ℕ)) (held : List ℕ) (read : NextLine) → held ≡ [] → Reads (prepend_known held src) new read → Reads src new read
 reads_source src new held read none reads = subst (λ unread. Reads unread new read) (ap (λ h. prepend_known h src) none ∙ prepend_known-nil src) reads
 
 -- where a reader holds nothing, what is unread is what the source has left
-pub begins_held : (src : Option (List ℕ)) (held : List ℕ) (old : Option (List ℕ)) → held ≡ [] → Going src (prepend_known held src) runs.Beginning 1 old old
-begins_held src held old none = subst (λ unread. Going src unread runs.Beginning 1 old old) (sym (ap (λ h. prepend_known h src) none ∙ prepend_known-nil src)) (begins src old)
+pub begins_held : (first : PlainRun) (run : Run) → IsRun run first → (src : Option (List ℕ)) (held : List ℕ) (old : Option (List ℕ)) → held ≡ [] → Going (drive_all first) src (prepend_known held src) run 1 old old
+begins_held first run is src held old none = subst (λ unread. Going (drive_all first) src unread run 1 old old) (sym (ap (λ h. prepend_known h src) none ∙ prepend_known-nil src)) (begins first run is src old)
+
+-- a script that begins with no session
+pub begins_new : (src : Option (List ℕ)) (held : List ℕ) (old : Option (List ℕ)) → held ≡ [] → Going drive_of src (prepend_known held src) runs.Beginning 1 old old
+begins_new src held old none = begins_held Beginning runs.Beginning tt src held old none
 
 -- the line after the last one that is read
-pub Going-at : (script unread : Option (List ℕ)) (run : Run) (n m : ℕ) (old new : Option (List ℕ)) → n ≡ m → Going script unread run n old new → Going script unread run m old new
-Going-at script unread run n m old new same has = subst (λ k. Going script unread run k old new) same has
+pub Going-at : (whole : List ℕ → Drive) (script unread : Option (List ℕ)) (run : Run) (n m : ℕ) (old new : Option (List ℕ)) → n ≡ m → Going whole script unread run n old new → Going whole script unread run m old new
+Going-at whole script unread run n m old new same has = subst (λ k. Going whole script unread run k old new) same has

@@ -9,14 +9,16 @@ use Rattle.session_core.specs.declared.replies.Arrived.{Arrived}
 use Rattle.session_core.specs.declared.replies.Arrived.TheVariants as arrivals
 use Rattle.session_core.specs.declared.replies.Collected.{Collected}
 use Rattle.session_core.specs.declared.replies.Collected.TheVariants as collections
+use Rattle.session_core.specs.Gap.{strike_ticket}
 use Rattle.session_core.specs.Journal.{Call, Arrive, Back, BackClosed, Collect, Tick, TakeInward, Journal, IsJournal, IsAllowed, ToArrive, called, state_of}
 use Rattle.session_core.specs.Machine.{arrive, collect, replace}
+use Rattle.session_core.specs.Placed.{struck_tickets}
 use Rattle.session_core.specs.State.{PlainSession, Issued, Waits, is_over}
 use Rattle.session_core.specs.TicketsOut.{issued_at}
 use Rattle.session_laws.specs.Tickets.{spent, spent_at, after_arrival, after_collect, tickets_after}
 use Rattle.session_laws.proofs.LawsOf.{every_parked}
 use Rattle.session_laws.proofs.Tests.{split, some_is}
-use Rattle.session_laws.proofs.TicketSteps.{every_ticket}
+use Rattle.session_laws.proofs.TicketSteps.{every_after}
 use Rattle.session_calls.specs.After.{after_call}
 use Rattle.script_text.proofs.JournalSteps.{after_is}
 
@@ -82,21 +84,45 @@ collect_keeps tickets number collections.NotYet = keeps_same tickets tickets ref
 collect_keeps tickets number collections.Superseded = keeps_same tickets _ (spent_at_ids tickets number)
 collect_keeps tickets number collections.UnknownTicket = keeps_same tickets tickets refl
 
-call_keeps : (s : PlainSession) (call : Call) → KeepsIds s.tickets (tickets_after s call)
-call_keeps s (Arrive request body now) = arrival_keeps s.tickets request.rid (arrive s request body now).1
-call_keeps s (Collect number) = collect_keeps s.tickets number (collect s number).1
-call_keeps s (Back stream stanza now) = keeps_same s.tickets s.tickets refl
-call_keeps s (BackClosed stream closing now) = keeps_same s.tickets s.tickets refl
-call_keeps s (Tick now) = keeps_same s.tickets s.tickets refl
-call_keeps s TakeInward = keeps_same s.tickets s.tickets refl
+-- an id that is struck is the id of its tickets as before
+struck_id : (rid : ℕ) (t : Issued) → (strike_ticket rid t).rid ≡ t.rid
+struck_id rid t = split (λ (x : Issued). x.rid ≡ t.rid) (t.rid == rid) _ t (λ here. refl) (λ other. refl)
 
-module _ (journal : Journal) (made : IsJournal journal) (call : Call) where
-  tickets_are : (state_of (after_call journal call)).tickets ≡ tickets_after (state_of journal) call
-  tickets_are = ap (λ (s : PlainSession). s.tickets) (after_is journal call) ∙ every_ticket journal made call
+strike_ids : (rid : ℕ) (tickets : List Issued) → ids (map (strike_ticket rid) tickets) ≡ ids tickets
+strike_ids rid [] = refl
+strike_ids rid (t ∷ tickets) = ap (λ r. r ∷ ids (map (strike_ticket rid) tickets)) (struck_id rid t) ∙ ap (λ l. t.rid ∷ l) (strike_ids rid tickets)
+
+struck_ids : (struck : List ℕ) (tickets : List Issued) → ids (struck_tickets struck tickets) ≡ ids tickets
+struck_ids [] tickets = refl
+struck_ids (rid ∷ struck) tickets = struck_ids struck (map (strike_ticket rid) tickets) ∙ strike_ids rid tickets
+
+length_struck : (struck : List ℕ) (tickets : List Issued) → length (struck_tickets struck tickets) ≡ length tickets
+length_struck [] tickets = refl
+length_struck (rid ∷ struck) tickets = length_struck struck (map (strike_ticket rid) tickets) ∙ length-map tickets (strike_ticket rid)
+
+struck_keeps : (struck : List ℕ) (tickets : List Issued) → KeepsIds tickets (struck_tickets struck tickets)
+struck_keeps struck tickets = keeps_same tickets (struck_tickets struck tickets) (struck_ids struck tickets)
+
+call_keeps : (s : PlainSession) (struck : List ℕ) (call : Call) → KeepsIds s.tickets (tickets_after s struck call)
+call_keeps s struck (Arrive request body now) = λ number rid is.
+    arrival_keeps (struck_tickets struck s.tickets) request.rid (arrive s request body now).1 number rid (struck_keeps struck s.tickets number rid is)
+call_keeps s struck (Collect number) = collect_keeps s.tickets number (collect s number).1
+call_keeps s struck (Back stream stanza now) = struck_keeps struck s.tickets
+call_keeps s struck (BackClosed stream closing now) = struck_keeps struck s.tickets
+call_keeps s struck (Tick now) = struck_keeps struck s.tickets
+call_keeps s struck TakeInward = keeps_same s.tickets s.tickets refl
+
+module _ (journal : Journal) (made : IsJournal journal) (call : Call) (allowed : IsAllowed call) where
+  -- what was struck with the call
+  abbrev struck_with : List ℕ
+  struck_with = (every_after journal made call allowed).0
+
+  tickets_are : (state_of (after_call journal call)).tickets ≡ tickets_after (state_of journal) struck_with call
+  tickets_are = ap (λ (s : PlainSession). s.tickets) (after_is journal call) ∙ (every_after journal made call allowed).1
 
   -- whatever the call
   pub after_keeps_ids : KeepsIds (state_of journal).tickets (state_of (after_call journal call)).tickets
-  after_keeps_ids = subst (KeepsIds (state_of journal).tickets) (sym tickets_are) (call_keeps (state_of journal) call)
+  after_keeps_ids = subst (KeepsIds (state_of journal).tickets) (sym tickets_are) (call_keeps (state_of journal) struck_with call)
 
 -- a ticket that is told of
 pub issued_id : (tickets : List Issued) (number : ℕ) (t : Issued) → issued_at tickets number ≡ Some t → id_at tickets number ≡ Some t.rid
@@ -119,5 +145,7 @@ module _ (journal : Journal) (made : IsJournal journal) (request : Request) (bod
       → id_at (state_of (after_call journal (Arrive request body now))).tickets ticket ≡ Some request.rid
   parked_id ticket is =
       let told = (every_parked journal made request body now ticket allowed on).0 (called_reply (arrive (state_of journal) request body now) ∙ ap ToArrive is) in
-      ap (λ l. id_at l ticket) (tickets_are journal made (Arrive request body now) ∙ ap (after_arrival (state_of journal).tickets request.rid) is)
-      ∙ next_id (state_of journal).tickets request.rid ticket told.0
+      let struck : List ℕ = struck_with journal made (Arrive request body now) allowed in
+      let before : List Issued = struck_tickets struck (state_of journal).tickets in
+      ap (λ l. id_at l ticket) (tickets_are journal made (Arrive request body now) allowed ∙ ap (after_arrival before request.rid) is)
+      ∙ next_id before request.rid ticket (told.0 ∙ ap (λ n. n + 1) (sym (length_struck struck (state_of journal).tickets)))

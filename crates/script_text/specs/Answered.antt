@@ -1,16 +1,16 @@
 -- What the answers of a report are: each is for the latest request on its connection, and is what a session gave that request's
--- id, or a refusal.
+-- id, or the error of a copy of it that was struck, or a refusal.
 use Rattle.std.specs.Prelude.{◌≡◌, ℕ, ◌+◌, ◌==◌, true, false, ⊤, nat_lt, List, [], ◌∷◌, ◌++◌, All, Option, Some, None, slice_get, ◌⊎◌, if◌then◌else◌}
 use Rattle.bosh_types.specs.Limits.{most_lines}
 use Rattle.bosh_types.specs.declared.condition.Condition.{Condition}
 use Rattle.bosh_types.specs.declared.kept.KeptAnswer.{KeptAnswer}
 use Rattle.body_writer.specs.Answer.{answer_text}
 use Rattle.session_attrs.specs.declared.request.Request.{Request}
-use Rattle.session_core.specs.Endings.{terminal}
+use Rattle.session_core.specs.Endings.{error_text, terminal}
 use Rattle.session_core.specs.Journal.{Journal}
 use Rattle.session_core.specs.Kept.{kept_of}
 use Rattle.session_core.specs.Machine.{bytes_for, body_cost, is_full}
-use Rattle.session_core.specs.State.{is_over}
+use Rattle.session_core.specs.State.{PlainSession, Strikes, is_over}
 use Rattle.session_core.specs.Time.{time_applied}
 use Rattle.script_text.specs.declared.line.BadKind.TheVariants.{Count, End}
 use Rattle.script_text.specs.declared.line.LineRead.{LineRead}
@@ -94,13 +94,21 @@ Asks posted conn request = (body : List ℕ) × (latest_on conn posted ≡ Some 
 abbrev pub IsFor : Request → ℕ → Journal → Type 0
 IsFor request number journal = (named_of request.kind ≡ Some number) ⊎ (journal.opening.request ≡ request)
 
+-- a copy of this id was struck
+abbrev pub WasStruck : PlainSession → ℕ → Type 0
+WasStruck s rid = (moment : ℕ) × (place : ℕ) × (slice_get s.placings place ≡ Some (Strikes rid moment))
+
+-- a session gave an id these bytes; or they are the error, and a copy of the id was struck
+abbrev pub GivesId : PlainSession → ℕ → List ℕ → Type 0
+GivesId s rid bytes = (bytes_for s rid ≡ Some bytes) ⊎ ((bytes ≡ error_text) × WasStruck s rid)
+
 -- the request is for the session with this number, which gave its id these bytes
 abbrev pub IsGivenBy : List PlainLive → ℕ → Request → List ℕ → Type 0
 IsGivenBy sessions number request bytes =
-    All (λ s. s.number ≡ number → IsFor request number s.journal × (bytes_for (state s) request.rid ≡ Some bytes)) sessions
+    All (λ s. s.number ≡ number → IsFor request number s.journal × GivesId (state s) request.rid bytes) sessions
 
--- of these sessions, with numbers up to this one, one gave this answer to the id of the latest request on its connection; or
--- the answer is a refusal
+-- of these sessions, with numbers up to this one, one gave this answer to the id of the latest request on its connection, or
+-- told it that a copy of that id was struck; or the answer is a refusal
 abbrev pub IsAccounted : ℕ → List PlainLive → List Posting → ReportLine → Type 0
 IsAccounted opened sessions posted (In session item) = ⊤
 IsAccounted opened sessions posted (Out conn body) =

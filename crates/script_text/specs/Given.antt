@@ -16,8 +16,8 @@ pub record GivesItsReport (script : List ℕ) (old new : Option (List ℕ)) : Ty
   pub came : All (CameFrom (posts_by script)) (sessions_of (drive_of script))
   -- line by line of the script
   pub stages : lines_told (stages_by script) ≡ (drive_of script).report
-  -- each answer that went out is what a session gave, for good, the id of the latest request on its connection, or refuses a
-  -- request
+  -- each answer that went out is what a session gave, for good, the id of the latest request on its connection, or is the
+  -- error of a copy of that id that was struck, or refuses a request
   pub answers : All (AreAccounted (opened_by (drive_of script)) (sessions_of (drive_of script))) (stages_by script)
   -- and a request whose id has a kept answer was given its bytes
   pub repeats : All GivesKept (stages_by script)

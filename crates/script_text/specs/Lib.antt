@@ -3,12 +3,14 @@ pub mod Fault
 pub mod Given
 pub mod Headline
 pub mod Hosts
+pub mod Kept
 pub mod Line
 pub mod Live
 pub mod Manager
 pub mod Names
 pub mod Posted
 pub mod Report
+pub mod Resumed
 pub mod Said
 pub mod Script
 pub mod Stands

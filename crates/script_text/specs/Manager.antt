@@ -143,6 +143,7 @@ opening_by host number body request creation now = record {
   greeting = host.greeting;
   at = now;
   limit = journal_bytes;
+  gap_waits = 1;
 }
 
 abbrev pub opened_live : ℕ → Opening → PlainLive

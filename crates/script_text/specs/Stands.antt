@@ -69,6 +69,7 @@ pub record IsManager (manager : Manager) (m : PlainManager) : Type 0 where
 pub record IsChange (changed : Changed) (change : Change) : Type 0 where
   pub lines : changed.lines.items ≡ change.lines
   pub manager : IsManager changed.manager change.after
+  pub over : AreLive changed.over.items change.over
 
 abbrev pub IsRun : Run → PlainRun → Type 0
 IsRun runs.Beginning Beginning = ⊤
@@ -91,3 +92,4 @@ IsNext (nexts.Ends outcome) (Ends other) = outcome ≡ other
 pub record Does (effect : Effect) (step : Step) : Type 0 where
   pub lines : effect.lines.items ≡ step.lines
   pub next : IsNext effect.next step.next
+  pub over : AreLive effect.over.items step.over

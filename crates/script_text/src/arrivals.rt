@@ -62,11 +62,16 @@ pub(crate) fn arrival_effect(
 fn effect_of(changed: Changed) -> Effect
     ensures { (change : Change) → IsChange changed change → Does result (arrival_change change) }
 {
-    let Changed { mut lines, manager } = changed;
+    let Changed {
+        mut lines,
+        manager,
+        over,
+    } = changed;
     lines.retain(is_told);
     Effect {
         lines,
         next: Next::Goes(Run::Arrivals(manager)),
+        over,
     }
 }
 

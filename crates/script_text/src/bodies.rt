@@ -64,6 +64,7 @@ fn add_host(
     Ok(Effect {
         lines: Vec::new(alloc),
         next: Next::Goes(Run::Bodies(manager)),
+        over: Vec::new(alloc),
     })
 }
 
@@ -136,5 +137,6 @@ fn effect_of(changed: Changed) -> Effect
     Effect {
         lines: changed.lines,
         next: Next::Goes(Run::Bodies(changed.manager)),
+        over: changed.over,
     }
 }

@@ -53,7 +53,11 @@ pub fn run_drive<S: Source, K: Sink>(
     let mut run = Run::Beginning;
     for n in 1..MOST_LINES + 1 {
         let line = reader.next_line(alloc, source)?;
-        let Effect { lines, next } = effect_of(alloc, run, n, line)?;
+        let Effect {
+            lines,
+            next,
+            over: _over,
+        } = effect_of(alloc, run, n, line)?;
         give_lines(alloc, sink, &lines)?;
         match next {
             Next::Goes(after) => run = after,
@@ -67,7 +71,12 @@ pub fn run_drive<S: Source, K: Sink>(
 }
 
 // What a line does.
-fn effect_of(alloc: Global, run: Run, n: u64, line: NextLine) -> Result<Effect, AllocError>
+pub(crate) fn effect_of(
+    alloc: Global,
+    run: Run,
+    n: u64,
+    line: NextLine,
+) -> Result<Effect, AllocError>
     ensures { IfOk result (λ effect. (plain : PlainRun) → IsRun run plain → Does effect (step_by plain n (read_of line))) }
 {
     match read(alloc, line)? {
@@ -113,7 +122,11 @@ fn first_effect(alloc: Global, n: u64, said: ScriptLine) -> Result<Effect, Alloc
 }
 
 // Gives the lines of the report.
-fn give_lines<K: Sink>(alloc: Global, sink: &mut K, lines: &[ReportLine]) -> Result<(), DriveError>
+pub(crate) fn give_lines<K: Sink>(
+    alloc: Global,
+    sink: &mut K,
+    lines: &[ReportLine],
+) -> Result<(), DriveError>
     ensures given { GivesAll result (K.given sink.old) (K.given sink.new) (report_text lines.now) }
     ensures no_read_fault { IsErrOf result DriveError.ReadFault → ⊥ }
     ensures write_fault { IsErrOf result DriveError.WriteFault → HasRisen (K.faults sink.old) (K.faults sink.new) }
@@ -128,7 +141,11 @@ fn give_lines<K: Sink>(alloc: Global, sink: &mut K, lines: &[ReportLine]) -> Res
 }
 
 // Gives one line of the report.
-fn give_line<K: Sink>(alloc: Global, sink: &mut K, line: &ReportLine) -> Result<(), DriveError>
+pub(crate) fn give_line<K: Sink>(
+    alloc: Global,
+    sink: &mut K,
+    line: &ReportLine,
+) -> Result<(), DriveError>
     ensures given { GivesAll result (K.given sink.old) (K.given sink.new) (report_text (line.now ∷ [])) }
     ensures no_read_fault { IsErrOf result DriveError.ReadFault → ⊥ }
     ensures write_fault { IsErrOf result DriveError.WriteFault → HasRisen (K.faults sink.old) (K.faults sink.new) }

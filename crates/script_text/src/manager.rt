@@ -8,7 +8,7 @@ ghost use Rattle.session_attrs.specs.Admission.{admitted_of};
 ghost use Rattle.session_core.specs.Journal.{IsReadFrom};
 ghost use Rattle.script_text.specs.declared.report.ReportLine.{ReportLine};
 ghost use Rattle.script_text.specs.declared.event.Event.TheVariants.{Arrives};
-ghost use Rattle.script_text.specs.Live.{PlainLive, if_live, not_found};
+ghost use Rattle.script_text.specs.Live.{PlainLive, if_live, if_over, not_found};
 ghost use Rattle.script_text.specs.Manager.{PlainManager, admitted_to, at_host, closed, comes, comes_at, comes_to, has_room, is_waiting, new_manager, number_of, only, opened_turn, opening_by, passed, place_of, posted, posted_by, refused, request_in, waits_on};
 ghost use Rattle.session_attrs.specs.Serving.{can_serve};
 ghost use Rattle.script_text.specs.Script.{begun, was_given, with_host};
@@ -43,11 +43,12 @@ pub(crate) struct Manager {
     pub(crate) soonest: Option<Moment>,
 }
 
-// What a line does to a manager: its lines of the report, and the manager after it.
+// What a line does to a manager: its lines of the report, the manager after it, and the sessions that ended with it.
 #[derive(Drop)]
 pub(crate) struct Changed {
     pub(crate) lines: Vec<ReportLine>,
     pub(crate) manager: Manager,
+    pub(crate) over: Vec<Live>,
 }
 
 // A body as it arrived on a connection, and the request that it is.
@@ -122,6 +123,7 @@ impl Manager {
         Ok(Changed {
             lines,
             manager: self,
+            over: Vec::new(alloc),
         })
     }
 
@@ -151,6 +153,7 @@ impl Manager {
         Ok(Changed {
             lines: Vec::new(alloc),
             manager,
+            over: Vec::new(alloc),
         })
     }
 
@@ -165,6 +168,7 @@ impl Manager {
         Ok(Changed {
             lines: Vec::new(alloc),
             manager: self,
+            over: Vec::new(alloc),
         })
     }
 
@@ -173,12 +177,13 @@ impl Manager {
     {
         let mut lines = Vec::new(alloc);
         let mut kept = Vec::new(alloc);
+        let mut over = Vec::new(alloc);
         let mut soonest = None;
         for live in self.live {
             let turned = live.turn(alloc, now, Event::Passes)?;
             push_all(&mut lines, turned.lines)?;
             soonest = sooner(soonest, turned.live.due());
-            keep_live(&mut kept, turned.live)?;
+            keep_live(&mut kept, &mut over, turned.live)?;
         }
         let manager = Manager {
             hosts: self.hosts,
@@ -188,7 +193,11 @@ impl Manager {
             live: kept,
             soonest,
         };
-        Ok(Changed { lines, manager })
+        Ok(Changed {
+            lines,
+            manager,
+            over,
+        })
     }
 
     // Something comes to the live session with this number; where there is none, this line is told.
@@ -225,10 +234,12 @@ impl Manager {
         let live = self.live.remove(place);
         let Turned { lines, live } = live.turn(alloc, self.moment, event)?;
         self.soonest = sooner(self.soonest, live.due());
-        insert_live(&mut self.live, place, live)?;
+        let mut over = Vec::new(alloc);
+        insert_live(&mut self.live, &mut over, place, live)?;
         Ok(Changed {
             lines,
             manager: self,
+            over,
         })
     }
 
@@ -330,7 +341,8 @@ impl Manager {
         let Turned { lines, live } = self.open(alloc, post, creation, place, number)?;
         let soonest = sooner(self.soonest, live.due());
         let mut kept = self.live;
-        keep_live(&mut kept, live)?;
+        let mut over = Vec::new(alloc);
+        keep_live(&mut kept, &mut over, live)?;
         let manager = Manager {
             hosts: self.hosts,
             moment: self.moment,
@@ -339,7 +351,11 @@ impl Manager {
             live: kept,
             soonest,
         };
-        Ok(Changed { lines, manager })
+        Ok(Changed {
+            lines,
+            manager,
+            over,
+        })
     }
 
     // There is room for one more: at most 256 sessions are live, and at most 1,048,576 are opened.
@@ -404,11 +420,12 @@ fn opening_by(
         greeting: Stanzas::from_vec(greeting),
         at,
         limit: JOURNAL_BYTES,
+        gap_waits: 1,
     })
 }
 
 // The earlier of two moments, of which either may never come.
-fn sooner(first: Option<Moment>, other: Option<Moment>) -> Option<Moment>
+pub(crate) fn sooner(first: Option<Moment>, other: Option<Moment>) -> Option<Moment>
     ensures first { (now : ℕ) → IsBefore now result → IsBefore now first }
     ensures other { (now : ℕ) → IsBefore now result → IsBefore now other }
 {
@@ -459,12 +476,19 @@ fn push_all(lines: &mut Vec<ReportLine>, more: Vec<ReportLine>) -> Result<(), Al
     Ok(())
 }
 
-// Keeps the session among those that are live, unless it has ended.
-fn keep_live(kept: &mut Vec<Live>, live: Live) -> Result<(), AllocError>
-    ensures { OnOk result ((s : PlainLive) → IsLive live s → (through : List PlainLive) → AreLive kept.old.items through
+// Keeps the session among those that are live, or where it has ended among those.
+pub(crate) fn keep_live(
+    kept: &mut Vec<Live>,
+    over: &mut Vec<Live>,
+    live: Live,
+) -> Result<(), AllocError>
+    ensures live { OnOk result ((s : PlainLive) → IsLive live s → (through : List PlainLive) → AreLive kept.old.items through
         → AreLive kept.new.items (through ++ if_live s)) }
+    ensures over { OnOk result ((s : PlainLive) → IsLive live s → (ended : List PlainLive) → AreLive over.old.items ended
+        → AreLive over.new.items (ended ++ if_over s)) }
 {
     if live.is_over() {
+        over.push(live)?;
         return Ok(());
     }
     kept.push(live)?;
@@ -472,12 +496,20 @@ fn keep_live(kept: &mut Vec<Live>, live: Live) -> Result<(), AllocError>
 }
 
 // The same at this place.
-fn insert_live(lives: &mut Vec<Live>, place: usize, live: Live) -> Result<(), AllocError>
+fn insert_live(
+    lives: &mut Vec<Live>,
+    over: &mut Vec<Live>,
+    place: usize,
+    live: Live,
+) -> Result<(), AllocError>
     requires { place ≤ length lives.old.items }
-    ensures { OnOk result ((s : PlainLive) → IsLive live s → (ss : List PlainLive) → AreLive lives.old.items ss
+    ensures live { OnOk result ((s : PlainLive) → IsLive live s → (ss : List PlainLive) → AreLive lives.old.items ss
         → AreLive lives.new.items (take place ss ++ (if_live s ++ drop place ss))) }
+    ensures over { OnOk result ((s : PlainLive) → IsLive live s → (ended : List PlainLive) → AreLive over.old.items ended
+        → AreLive over.new.items (ended ++ if_over s)) }
 {
     if live.is_over() {
+        over.push(live)?;
         return Ok(());
     }
     lives.insert(place, live)?;

@@ -1,10 +1,12 @@
 // What a script is run over, and what a line of it does.
 ghost use Rattle.std.specs.Prelude.{IfOk};
-ghost use Rattle.script_text.specs.Script.{bad_step, done_step};
-ghost use Rattle.script_text.specs.Stands.{Does};
+ghost use Rattle.script_text.specs.Headline.{manager_of};
+ghost use Rattle.script_text.specs.Script.{PlainRun, bad_step, done_step};
+ghost use Rattle.script_text.specs.Stands.{AreLive, Does, IsRun};
 
 use crate::driven::Driven;
 use crate::line::BadKind;
+use crate::live::Live;
 use crate::manager::Manager;
 use crate::report::ReportLine;
 use std::alloc::{AllocError, Global};
@@ -20,6 +22,19 @@ pub(crate) enum Run {
     Bodies(Manager),
 }
 
+impl Run {
+    // The sessions that are live.
+    pub(crate) fn live(&self) -> &[Live]
+        ensures { (plain : PlainRun) → IsRun self.now plain → AreLive result.now (manager_of plain).live }
+    {
+        match self {
+            Run::Beginning => &[],
+            Run::Arrivals(manager) => manager.live.as_slice(),
+            Run::Bodies(manager) => manager.live.as_slice(),
+        }
+    }
+}
+
 // What follows a line.
 #[derive(Drop)]
 pub(crate) enum Next {
@@ -27,11 +42,12 @@ pub(crate) enum Next {
     Ends(Driven),
 }
 
-// What a line does: its lines of the report, and what follows it.
+// What a line does: its lines of the report, what follows it, and the sessions that ended with it.
 #[derive(Drop)]
 pub(crate) struct Effect {
     pub(crate) lines: Vec<ReportLine>,
     pub(crate) next: Next,
+    pub(crate) over: Vec<Live>,
 }
 
 impl Effect {
@@ -44,6 +60,7 @@ impl Effect {
         Ok(Effect {
             lines,
             next: Next::Ends(Driven::Bad { line, kind }),
+            over: Vec::new(alloc),
         })
     }
 
@@ -56,6 +73,7 @@ impl Effect {
         Ok(Effect {
             lines,
             next: Next::Ends(Driven::Done),
+            over: Vec::new(alloc),
         })
     }
 }

@@ -8,4 +8,5 @@ pub returns : goal.returns
 returns c = λ change is. record {
   lines = filter_same _ _ _ (λ x b f' k. search rules) _ _ c.retain.ensures.filtered ∙ ap (filter is_told) is.lines;
   next = is.manager;
+  over = is.over;
 }

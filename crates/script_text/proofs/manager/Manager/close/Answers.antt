@@ -1,7 +1,7 @@
 use Rattle.std.proofs.Common.{arith, sym, subst}
 use Rattle.std.proofs.lemmas.Grind.{common_steps}
 use Rattle.std.specs.Vec.Iter.{into_iter_items}
-use Rattle.script_text.proofs.ManagerLemmas.{ClosesOn, closes_more, closes_end, nothing_left}
+use Rattle.script_text.proofs.ManagerLemmas.{ClosesOn, closes_more, closes_end, none_live, nothing_left}
 use Rattle.script_text.proofs.RestLemmas.{rest_closed}
 use Rattle.script_text.proofs.manager.Manager.close.Goals as goal
 
@@ -16,6 +16,7 @@ returns c = λ m is.
     let none = nothing_left (into_iter_items c.loop-live.live-iterator) (grind (arith, common_steps, (c.in-None.ensures.steps).0)) in
     record {
       lines = c.new.ensures.items;
+      over = none_live _ c.new-2.ensures.items;
       manager = record {
         hosts = is.hosts;
         moment = is.moment;
