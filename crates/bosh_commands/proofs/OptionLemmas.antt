@@ -1,5 +1,5 @@
 -- What the parser of words says of the options.
-use Rattle.std.proofs.Common.{◌≡◌, ◌≢◌, ◌⊎◌, List, [], ◌∷◌, Bool, Option, None, Result, Ok, Err, IfOk, true, false, ap, option_map, sym, refl, subst, ◌∙◌, inl, inr, codes}
+use Rattle.std.proofs.Common.{◌≡◌, ◌≢◌, ◌⊎◌, ℕ, List, [], ◌∷◌, Bool, Option, None, Result, Ok, Err, IfOk, true, false, ap, option_map, sym, refl, subst, ◌∙◌, inl, inr, codes}
 use Rattle.clap.specs.Words.{HasKind, IsAmong, Kinds, Row, Text, all_of, first_of, first_value, is_simple, is_simple_and_free, kind_of, matched_of, raw_values, rows_of}
 use Rattle.clap.specs.declared.error.Error.{Error}
 use Rattle.clap.specs.declared.error.kind.ErrorKind.{ErrorKind}
@@ -11,8 +11,9 @@ use Rattle.bosh_server.specs.declared.plan.ServePlan.{ServePlan}
 use Rattle.session_table.specs.declared.opening.Limits.{Limits}
 use Rattle.bosh_commands.specs.declared.options.ServeOptions.{ServeOptions}
 use Rattle.bosh_commands.specs.declared.options.Wanted.{Wanted}
-use Rattle.bosh_commands.specs.Options.{ShowsWhatIsAsked, flag_in, limits_from, limits_of, number_in, open_in, options_by, options_from, options_of, options_wanted, plan_from, plan_of, serve_app, site_in}
+use Rattle.bosh_commands.specs.Options.{ShowsWhatIsAsked, flag_in, limits_from, limits_of, named_in, number_in, open_in, options_by, options_from, options_of, options_wanted, plan_from, plan_of, serve_app, site_in}
 use Rattle.bosh_commands.specs.Site.{site_of}
+use Rattle.bosh_commands.specs.declared.site.Site.{Site}
 
 pub serve_is_simple : is_simple serve_app ≡ true
 unfolding clap_on_literals
@@ -27,9 +28,13 @@ limits_reads f g reads =
     let live = codes "sessions" in
     let openings = codes "openings" in
     let journal = codes "journal-limit" in
-    ap (λ n. limits_from (number_in 1 65536 n) (number_in 1 4294967295 (f openings)) (number_in 65536 1099511627776 (f journal))) (reads live)
-    ∙ ap (λ n. limits_from (number_in 1 65536 (g live)) (number_in 1 4294967295 n) (number_in 65536 1099511627776 (f journal))) (reads openings)
-    ∙ ap (λ n. limits_from (number_in 1 65536 (g live)) (number_in 1 4294967295 (g openings)) (number_in 65536 1099511627776 n)) (reads journal)
+    let gap = codes "gap-waits" in
+    let Limited : Option Text → Option Text → Option Text → Option Text → Option Limits =
+    λ l o j w. limits_from (number_in 1 65536 l) (number_in 1 4294967295 o) (number_in 65536 1099511627776 j) (number_in 1 10 w) in
+    ap (λ l. Limited l (f openings) (f journal) (f gap)) (reads live)
+    ∙ ap (λ o. Limited (g live) o (f journal) (f gap)) (reads openings)
+    ∙ ap (λ j. Limited (g live) (g openings) j (f gap)) (reads journal)
+    ∙ ap (λ w. Limited (g live) (g openings) (g journal) w) (reads gap)
 
 plan_reads : (f : Text → Option Text) (g : Text → Option Text) → ((id : Text) → f id ≡ g id) → plan_of f ≡ plan_of g
 plan_reads f g reads =
@@ -52,6 +57,19 @@ site_reads f g reads names =
     ap (λ t. site_of (flag_in t) (number_in 1 65535 (f port)) names) (reads test)
     ∙ ap (λ p. site_of (flag_in (g test)) (number_in 1 65535 p) names) (reads port)
 
+-- the options are made of what these texts say
+pub options_so : (f : Text → Option Text) (names : Option (List Text)) (until_eof log : Bool) (port : Option ℕ) (plan : Option ServePlan) (site : Option Site) (trace : Option Text) (name : Option (Option Text))
+    → until_eof ≡ flag_in (f (codes "until-eof")) → port ≡ number_in 1 65535 (f (codes "port")) → plan ≡ plan_of f → site ≡ site_in f names → trace ≡ f (codes "trace")
+    → log ≡ flag_in (f (codes "log")) → name ≡ named_in (f (codes "name")) → options_from until_eof port plan site trace log name ≡ options_of f names
+options_so f names until_eof log port plan site trace name e p l s t g n =
+    ap (λ x. options_from x port plan site trace log name) e
+    ∙ ap (λ x. options_from (flag_in (f (codes "until-eof"))) x plan site trace log name) p
+    ∙ ap (λ x. options_from (flag_in (f (codes "until-eof"))) (number_in 1 65535 (f (codes "port"))) x site trace log name) l
+    ∙ ap (λ x. options_from (flag_in (f (codes "until-eof"))) (number_in 1 65535 (f (codes "port"))) (plan_of f) x trace log name) s
+    ∙ ap (λ x. options_from (flag_in (f (codes "until-eof"))) (number_in 1 65535 (f (codes "port"))) (plan_of f) (site_in f names) x log name) t
+    ∙ ap (λ x. options_from (flag_in (f (codes "until-eof"))) (number_in 1 65535 (f (codes "port"))) (plan_of f) (site_in f names) (f (codes "trace")) x name) g
+    ∙ ap (options_from (flag_in (f (codes "until-eof"))) (number_in 1 65535 (f (codes "port"))) (plan_of f) (site_in f names) (f (codes "trace")) (flag_in (f (codes "log")))) n
+
 -- without a fault, the options are those of the rows
 pub by_rows : (f : Found) (kinds : Kinds) (rows : List Row) → kinds ≡ [] → rows_of f ≡ rows
     → options_of (λ id. first_value f id) (option_map raw_values (matched_of f (codes "xmpp"))) ≡ options_by kinds rows
@@ -64,12 +82,16 @@ by_rows f kinds rows none are =
     let eof = codes "until-eof" in
     let port = codes "port" in
     let trace = codes "trace" in
+    let log = codes "log" in
+    let name = codes "name" in
     ap (options_of value) named
-    ∙ ap (λ e. options_from (flag_in e) (number_in 1 65535 (value port)) (plan_of value) (site_in value names) (value trace)) (reads eof)
-    ∙ ap (λ p. options_from (flag_in (first eof)) (number_in 1 65535 p) (plan_of value) (site_in value names) (value trace)) (reads port)
-    ∙ ap (λ plan. options_from (flag_in (first eof)) (number_in 1 65535 (first port)) plan (site_in value names) (value trace)) (plan_reads value first reads)
-    ∙ ap (λ site. options_from (flag_in (first eof)) (number_in 1 65535 (first port)) (plan_of first) site (value trace)) (site_reads value first reads names)
-    ∙ ap (λ t. options_from (flag_in (first eof)) (number_in 1 65535 (first port)) (plan_of first) (site_in first names) t) (reads trace)
+    ∙ ap (λ e. options_from (flag_in e) (number_in 1 65535 (value port)) (plan_of value) (site_in value names) (value trace) (flag_in (value log)) (named_in (value name))) (reads eof)
+    ∙ ap (λ p. options_from (flag_in (first eof)) (number_in 1 65535 p) (plan_of value) (site_in value names) (value trace) (flag_in (value log)) (named_in (value name))) (reads port)
+    ∙ ap (λ plan. options_from (flag_in (first eof)) (number_in 1 65535 (first port)) plan (site_in value names) (value trace) (flag_in (value log)) (named_in (value name))) (plan_reads value first reads)
+    ∙ ap (λ site. options_from (flag_in (first eof)) (number_in 1 65535 (first port)) (plan_of first) site (value trace) (flag_in (value log)) (named_in (value name))) (site_reads value first reads names)
+    ∙ ap (λ t. options_from (flag_in (first eof)) (number_in 1 65535 (first port)) (plan_of first) (site_in first names) t (flag_in (value log)) (named_in (value name))) (reads trace)
+    ∙ ap (λ l. options_from (flag_in (first eof)) (number_in 1 65535 (first port)) (plan_of first) (site_in first names) (first trace) (flag_in l) (named_in (value name))) (reads log)
+    ∙ ap (λ n. options_from (flag_in (first eof)) (number_in 1 65535 (first port)) (plan_of first) (site_in first names) (first trace) (flag_in (first log)) (named_in n)) (reads name)
     ∙ sym (ap (λ k. options_by k rows) none)
 
 pub wanted_so : {E : Type 0} (result : Result Wanted E) (found options : Option ServeOptions) → found ≡ options → IfOk result (λ wanted. options_wanted wanted ≡ found)

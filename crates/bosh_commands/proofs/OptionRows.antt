@@ -26,26 +26,35 @@ no_option : fault_of serve_app (codes "serve" ∷ codes "--host" ∷ codes "h" �
 unfolding clap_on_literals
 no_option = refl
 
-usual : options_in (codes "serve" ∷ codes "--port" ∷ codes "5280" ∷ []) ≡ Some (record { port = 5280; until_eof = false; plan = record { workers = 8; connections = 0; limits = record { live = 256; openings = 1048576; journal = 16777216 }; «open» = None; incoming = 67108864 }; site = usual_site 5222; trace = None })
+usual : options_in (codes "serve" ∷ codes "--port" ∷ codes "5280" ∷ []) ≡ Some (record { port = 5280; until_eof = false; plan = record { workers = 8; connections = 0; limits = record { live = 256; openings = 1048576; journal = 16777216; gap_waits = 1 }; «open» = None; incoming = 67108864 }; site = usual_site 5222; trace = None; log = false; name = None })
 unfolding clap_on_literals options_in
 usual = refl
 
-all_named : options_in (codes "serve" ∷ codes "--connections=2" ∷ codes "--port=1" ∷ codes "--workers" ∷ codes "64" ∷ []) ≡ Some (record { port = 1; until_eof = false; plan = record { workers = 64; connections = 2; limits = record { live = 256; openings = 1048576; journal = 16777216 }; «open» = None; incoming = 67108864 }; site = usual_site 5222; trace = None })
+all_named : options_in (codes "serve" ∷ codes "--connections=2" ∷ codes "--port=1" ∷ codes "--workers" ∷ codes "64" ∷ []) ≡ Some (record { port = 1; until_eof = false; plan = record { workers = 64; connections = 2; limits = record { live = 256; openings = 1048576; journal = 16777216; gap_waits = 1 }; «open» = None; incoming = 67108864 }; site = usual_site 5222; trace = None; log = false; name = None })
 unfolding clap_on_literals options_in
 all_named = refl
 
-limit_named : options_in (codes "serve" ∷ codes "--port=1" ∷ codes "--journal-limit" ∷ codes "65536" ∷ []) ≡ Some (record { port = 1; until_eof = false; plan = record { workers = 8; connections = 0; limits = record { live = 256; openings = 1048576; journal = 65536 }; «open» = None; incoming = 67108864 }; site = usual_site 5222; trace = None })
+limit_named : options_in (codes "serve" ∷ codes "--port=1" ∷ codes "--journal-limit" ∷ codes "65536" ∷ []) ≡ Some (record { port = 1; until_eof = false; plan = record { workers = 8; connections = 0; limits = record { live = 256; openings = 1048576; journal = 65536; gap_waits = 1 }; «open» = None; incoming = 67108864 }; site = usual_site 5222; trace = None; log = false; name = None })
 unfolding clap_on_literals options_in
 limit_named = refl
 
-with_input : options_in (codes "serve" ∷ codes "--until-eof" ∷ codes "--port=1" ∷ []) ≡ Some (record { port = 1; until_eof = true; plan = record { workers = 8; connections = 0; limits = record { live = 256; openings = 1048576; journal = 16777216 }; «open» = None; incoming = 67108864 }; site = usual_site 5222; trace = None })
+with_input : options_in (codes "serve" ∷ codes "--until-eof" ∷ codes "--port=1" ∷ []) ≡ Some (record { port = 1; until_eof = true; plan = record { workers = 8; connections = 0; limits = record { live = 256; openings = 1048576; journal = 16777216; gap_waits = 1 }; «open» = None; incoming = 67108864 }; site = usual_site 5222; trace = None; log = false; name = None })
 unfolding clap_on_literals options_in
 with_input = refl
 
 limits_named : options_in (codes "serve" ∷ codes "--port=1" ∷ codes "--sessions=65536" ∷ codes "--openings=4294967295" ∷ codes "--open=1" ∷ codes "--incoming=1048576" ∷ codes "--trace=t" ∷ [])
-    ≡ Some (record { port = 1; until_eof = false; plan = record { workers = 8; connections = 0; limits = record { live = 65536; openings = 4294967295; journal = 16777216 }; «open» = Some 1; incoming = 1048576 }; site = usual_site 5222; trace = Some (codes "t") })
+    ≡ Some (record { port = 1; until_eof = false; plan = record { workers = 8; connections = 0; limits = record { live = 65536; openings = 4294967295; journal = 16777216; gap_waits = 1 }; «open» = Some 1; incoming = 1048576 }; site = usual_site 5222; trace = Some (codes "t"); log = false; name = None })
 unfolding clap_on_literals options_in
 limits_named = refl
+
+gap_waits_named : options_in (codes "serve" ∷ codes "--port=1" ∷ codes "--gap-waits=10" ∷ [])
+    ≡ Some (record { port = 1; until_eof = false; plan = record { workers = 8; connections = 0; limits = record { live = 256; openings = 1048576; journal = 16777216; gap_waits = 10 }; «open» = None; incoming = 67108864 }; site = usual_site 5222; trace = None; log = false; name = None })
+unfolding clap_on_literals options_in
+gap_waits_named = refl
+
+gap_waits_11 : options_in (codes "serve" ∷ codes "--port=1" ∷ codes "--gap-waits=11" ∷ []) ≡ None
+unfolding clap_on_literals options_in
+gap_waits_11 = refl
 
 no_session : options_in (codes "serve" ∷ codes "--port=1" ∷ codes "--sessions=0" ∷ []) ≡ None
 unfolding clap_on_literals options_in
@@ -90,3 +99,31 @@ limit_too_low = refl
 port_0 : options_in (codes "serve" ∷ codes "--port" ∷ codes "0" ∷ []) ≡ None
 unfolding clap_on_literals options_in
 port_0 = refl
+
+telling_named : options_in (codes "serve" ∷ codes "--port=1" ∷ codes "--log" ∷ codes "--name=node-12" ∷ []) ≡ Some (record { port = 1; until_eof = false; plan = record { workers = 8; connections = 0; limits = record { live = 256; openings = 1048576; journal = 16777216; gap_waits = 1 }; «open» = None; incoming = 67108864 }; site = usual_site 5222; trace = None; log = true; name = Some (codes "node-12") })
+unfolding clap_on_literals options_in
+telling_named = refl
+
+name_of_fourteen : options_in (codes "serve" ∷ codes "--port=1" ∷ codes "--name" ∷ codes "a-------------" ∷ []) ≡ Some (record { port = 1; until_eof = false; plan = record { workers = 8; connections = 0; limits = record { live = 256; openings = 1048576; journal = 16777216; gap_waits = 1 }; «open» = None; incoming = 67108864 }; site = usual_site 5222; trace = None; log = false; name = Some (codes "a-------------") })
+unfolding clap_on_literals options_in
+name_of_fourteen = refl
+
+name_of_fifteen : options_in (codes "serve" ∷ codes "--port=1" ∷ codes "--name=abcdefghijklmno" ∷ []) ≡ None
+unfolding clap_on_literals options_in
+name_of_fifteen = refl
+
+name_of_none : options_in (codes "serve" ∷ codes "--port=1" ∷ codes "--name=" ∷ []) ≡ None
+unfolding clap_on_literals options_in
+name_of_none = refl
+
+name_with_a_digit_first : options_in (codes "serve" ∷ codes "--port=1" ∷ codes "--name=1a" ∷ []) ≡ None
+unfolding clap_on_literals options_in
+name_with_a_digit_first = refl
+
+name_with_a_dot : options_in (codes "serve" ∷ codes "--port=1" ∷ codes "--name=a.b" ∷ []) ≡ None
+unfolding clap_on_literals options_in
+name_with_a_dot = refl
+
+log_twice : fault_of serve_app (codes "serve" ∷ codes "--log" ∷ codes "--port=1" ∷ codes "--log" ∷ []) ≡ ArgumentConflict ∷ []
+unfolding clap_on_literals
+log_twice = refl

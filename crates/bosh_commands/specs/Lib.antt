@@ -1,5 +1,6 @@
 pub mod Number
 pub mod Ends
+pub mod Keep
 pub mod Run
 pub mod Why
 pub mod WrongWords

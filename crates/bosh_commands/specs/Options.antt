@@ -8,6 +8,7 @@ use Rattle.clap.specs.declared.error.kind.ErrorKind.TheVariants.{DisplayHelp, Di
 use Rattle.bosh_types.specs.Rid.{rid_of}
 use Rattle.bosh_server.specs.declared.plan.ServePlan.{ServePlan}
 use Rattle.session_table.specs.declared.opening.Limits.{Limits}
+use Rattle.server_name.specs.Names.{name_read}
 use Rattle.bosh_commands.specs.Site.{site_of}
 use Rattle.bosh_commands.specs.declared.site.Site.{Site}
 use Rattle.bosh_commands.specs.declared.options.ServeOptions.{ServeOptions}
@@ -47,25 +48,29 @@ with_counts app = with_rule (with_rule (with_rule app port_rule) (usual_rule (co
 -- of how much it takes
 abbrev pub with_limits : App → App
 with_limits app =
-    with_rule (with_rule (with_rule (with_rule (with_rule app
+    with_rule (with_rule (with_rule (with_rule (with_rule (with_rule app
     (usual_rule (codes "sessions") (codes "256")))
     (usual_rule (codes "openings") (codes "1048576")))
     (optional_rule (codes "open")))
     (usual_rule (codes "incoming") (codes "67108864")))
-    (usual_rule (codes "journal-limit") (codes "16777216"))
+    (usual_rule (codes "journal-limit") (codes "16777216")))
+    (usual_rule (codes "gap-waits") (codes "1"))
 
--- and of when it ends, which hosts it has, and where it writes traces
+-- of when it ends, and which hosts it has
 abbrev pub with_site : App → App
 with_site app =
-    with_rule (with_rule (with_rule (with_rule (with_rule app
+    with_rule (with_rule (with_rule (with_rule app
     (switch_rule (codes "until-eof")))
     xmpp_rule)
     (usual_rule (codes "xmpp-port") (codes "5222")))
-    (switch_rule (codes "test-hosts")))
-    (optional_rule (codes "trace"))
+    (switch_rule (codes "test-hosts"))
+
+-- and of what it tells of itself
+abbrev pub with_telling : App → App
+with_telling app = with_rule (with_rule (with_rule app (optional_rule (codes "trace"))) (switch_rule (codes "log"))) (optional_rule (codes "name"))
 
 abbrev pub serve_app : App
-serve_app = with_site (with_limits (with_counts (with_version (new_app (codes "serve")))))
+serve_app = with_telling (with_site (with_limits (with_counts (with_version (new_app (codes "serve"))))))
 
 -- the number that a text writes in plain decimal, without a sign or a leading zero
 abbrev pub plain_number : Text → Option ℕ
@@ -85,17 +90,19 @@ abbrev pub flag_in : Option Text → Bool
 flag_in None = false
 flag_in (Some text) = bytes_eq text (codes "true")
 
-abbrev pub limits_from : Option ℕ → Option ℕ → Option ℕ → Option Limits
-limits_from (Some live) (Some openings) (Some journal) = Some (record { live = live; openings = openings; journal = journal })
-limits_from (Some live) (Some openings) None = None
-limits_from (Some live) None journal = None
-limits_from None openings journal = None
+abbrev pub limits_from : Option ℕ → Option ℕ → Option ℕ → Option ℕ → Option Limits
+limits_from (Some live) (Some openings) (Some journal) (Some gap_waits) = Some (record { live = live; openings = openings; journal = journal; gap_waits = gap_waits })
+limits_from (Some live) (Some openings) (Some journal) None = None
+limits_from (Some live) (Some openings) None gap_waits = None
+limits_from (Some live) None journal gap_waits = None
+limits_from None openings journal gap_waits = None
 
--- what the texts of these options say: 1 to 65,536 live sessions, 1 to 4,294,967,295 openings, and a journal of 65,536 to 1,099,511,627,776
--- counted bytes
+-- what the texts of these options say: 1 to 65,536 live sessions, 1 to 4,294,967,295 openings, a journal of 65,536 to 1,099,511,627,776
+-- counted bytes, and an error for a copy beyond a gap after 1 to 10 times `wait`
 abbrev pub limits_of : (Text → Option Text) → Option Limits
 limits_of text_of =
     limits_from (number_in 1 65536 (text_of (codes "sessions"))) (number_in 1 4294967295 (text_of (codes "openings"))) (number_in 65536 1099511627776 (text_of (codes "journal-limit")))
+    (number_in 1 10 (text_of (codes "gap-waits")))
 
 -- 1 to 1,048,576 open connections, where the words say how many
 abbrev pub open_in : Option Text → Option (Option ℕ)
@@ -122,17 +129,29 @@ plan_of text_of =
 abbrev pub site_in : (Text → Option Text) → Option (List Text) → Option Site
 site_in text_of names = site_of (flag_in (text_of (codes "test-hosts"))) (number_in 1 65535 (text_of (codes "xmpp-port"))) names
 
-abbrev pub options_from : Bool → Option ℕ → Option ServePlan → Option Site → Option Text → Option ServeOptions
-options_from until_eof (Some port) (Some plan) (Some site) trace = Some (record { port = port; until_eof = until_eof; plan = plan; site = site; trace = trace })
-options_from until_eof (Some port) (Some plan) None trace = None
-options_from until_eof (Some port) None site trace = None
-options_from until_eof None plan site trace = None
+-- the name of the server, where the words say one; it has 1 to 14 letters, digits and `-`, a letter first
+abbrev pub named_by : Option Text → Option (Option Text)
+named_by None = None
+named_by (Some name) = Some (Some name)
+
+abbrev pub named_in : Option Text → Option (Option Text)
+named_in None = Some None
+named_in (Some text) = named_by (name_read text)
+
+abbrev pub options_from : Bool → Option ℕ → Option ServePlan → Option Site → Option Text → Bool → Option (Option Text) → Option ServeOptions
+options_from until_eof (Some port) (Some plan) (Some site) trace log (Some name) =
+    Some (record { port = port; until_eof = until_eof; plan = plan; site = site; trace = trace; log = log; name = name })
+options_from until_eof (Some port) (Some plan) (Some site) trace log None = None
+options_from until_eof (Some port) (Some plan) None trace log name = None
+options_from until_eof (Some port) None site trace log name = None
+options_from until_eof None plan site trace log name = None
 
 -- what the texts of the options say, and these names of domains: the port from 1 to 65535, how it runs, its hosts, whether it ends with its
--- input, and where it writes traces
+-- input, where it writes traces, whether it writes a log, and its name
 abbrev pub options_of : (Text → Option Text) → Option (List Text) → Option ServeOptions
 options_of text_of names =
     options_from (flag_in (text_of (codes "until-eof"))) (number_in 1 65535 (text_of (codes "port"))) (plan_of text_of) (site_in text_of names) (text_of (codes "trace"))
+    (flag_in (text_of (codes "log"))) (named_in (text_of (codes "name")))
 
 -- options where the parser of words has no fault to find
 abbrev pub options_by : Kinds → List Row → Option ServeOptions

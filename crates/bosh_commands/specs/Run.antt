@@ -31,7 +31,7 @@ script_command word =
 
 -- what is shown of the program: its commands, its version
 unfoldable pub help_text : List ℕ
-help_text = codes "Robelava, an XMPP BOSH connection manager.\n\nrobelava serve --port PORT       serves XMPP over BOSH at http://127.0.0.1:PORT/http-bind\nrobelava client --port PORT --to HOST\n                                 sends each line of its input as a stanza, and writes what comes\nrobelava drive < SCRIPT          reports what becomes of bodies that reach a manager\nrobelava pair < SCRIPT           the same of a client and a manager over a network that loses\nrobelava load NUMBER             makes such a run from a number\nrobelava audit < TRACE           judges what two peers exchanged in one session\n\nserve --help and client --help show their options.\n"
+help_text = codes "Robelava, an XMPP BOSH connection manager.\n\nrobelava serve --port PORT       serves XMPP over BOSH at http://127.0.0.1:PORT/http-bind\nrobelava client --port PORT --to HOST\n                                 sends each line of its input as a stanza, and writes what comes\nrobelava drive < SCRIPT          reports what becomes of bodies that reach a manager\nrobelava keep FILE < SCRIPT      the same, with sessions that a file keeps\nrobelava pair < SCRIPT           the same of a client and a manager over a network that loses\nrobelava load NUMBER             makes such a run from a number\nrobelava audit < TRACE           judges what two peers exchanged in one session\n\nserve --help and client --help show their options.\n"
 
 unfoldable pub version_text : List ℕ
 version_text = codes "robelava 0.1.0\n"

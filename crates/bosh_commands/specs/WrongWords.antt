@@ -11,6 +11,7 @@ one_word_mistake first =
     else if bytes_eq first (codes "pair") then mistakes.ScriptStandsAlone
     else if bytes_eq first (codes "audit") then mistakes.ScriptStandsAlone
     else if bytes_eq first (codes "load") then mistakes.LoadTakesANumber
+    else if bytes_eq first (codes "keep") then mistakes.KeepTakesAFile
     else if bytes_eq first (codes "serve") then mistakes.ServeOptions
     else if bytes_eq first (codes "client") then mistakes.ClientOptions
     else if bytes_eq first (codes "--help") then mistakes.QuestionStandsAlone

@@ -7,6 +7,7 @@ mod client_options;
 mod command;
 mod ends;
 mod input_end;
+mod keep_command;
 mod number;
 mod options;
 mod run;
@@ -16,6 +17,7 @@ mod why;
 mod wrong_words;
 
 pub use client_command::{ENDED, REFUSED, STUCK, run_client_command};
+pub use keep_command::{DAMAGED, Kept, STORE_FAULT, run_kept};
 pub use options::ServeOptions;
 pub use run::{
     BAD_SCRIPT, BROKEN_RULE, DONE, NO_MEMORY, READ_FAULT, WRITE_FAULT, WRONG_WORDS, run_local,

@@ -1,13 +1,14 @@
 // The words of the command `serve`.
 ghost use Rattle.std.specs.Prelude.{◌≡◌, ◌≢◌, ◌≤◌, ◌⊎◌, ℕ, true, false, IfOk, IfSome, None, codes, map, option_map, string_bytes};
 ghost use Rattle.clap.specs.Words.{app_of, first_value, found_of, kind_of, matched_of, raw_values, rule_of};
-ghost use Rattle.bosh_commands.specs.Options.{ShowsWhatIsAsked, flag_in, is_shown, limits_from, limits_of, number_in, open_in, optional_rule, options_from, options_in, options_of, options_wanted, plain_number, plan_from, plan_of, serve_app, serve_faults, site_in, switch_rule, usual_rule, with_counts, with_limits, with_site};
+ghost use Rattle.bosh_commands.specs.Options.{ShowsWhatIsAsked, flag_in, is_shown, limits_from, limits_of, named_in, number_in, open_in, optional_rule, options_from, options_in, options_of, options_wanted, plain_number, plan_from, plan_of, serve_app, serve_faults, site_in, switch_rule, usual_rule, with_counts, with_limits, with_site, with_telling};
 
 use crate::site::{Site, site_of};
 use bosh_server::ServePlan;
 use bosh_types::{Rid, Text};
 use clap::error::ErrorKind;
 use clap::{Arg, ArgAction, ArgMatches, Command, Error};
+use server_name::ServerName;
 use session_table::Limits;
 use std::alloc::{AllocError, Global};
 
@@ -21,6 +22,10 @@ pub struct ServeOptions {
     pub site: Site,
     /// The directory that traces are written to, where they are.
     pub trace: Option<Text>,
+    /// Whether a log is written to standard error.
+    pub log: bool,
+    /// With which the names of its sessions begin, where it has one.
+    pub name: Option<ServerName>,
 }
 
 /// What the words ask for.
@@ -45,6 +50,8 @@ const CONNECTIONS: u32 = 1_048_576;
 const SESSIONS: u32 = 65_536;
 
 const OPENINGS: u32 = u32::MAX;
+
+const GAP_WAITS: u32 = 10;
 
 const LEAST_INCOMING: u64 = 1_048_576;
 
@@ -154,15 +161,23 @@ fn with_limits<'a>(alloc: Global, command: Command<'a>) -> Result<Command<'a>, A
         "16777216",
         "How many counted bytes the journal of a session may have, from 65536 to 1099511627776: the request that would pass it ends the session",
     );
+    let gap_waits = usual(
+        alloc,
+        "gap-waits",
+        "TIMES",
+        "1",
+        "After how many times its wait a session answers a request by an error for which an earlier one is missing, from 1 to 10",
+    );
     command
         .arg(sessions)?
         .arg(openings)?
         .arg(most)?
         .arg(incoming)?
-        .arg(journal_limit)
+        .arg(journal_limit)?
+        .arg(gap_waits)
 }
 
-// When it ends, which hosts it has, and where it writes traces.
+// When it ends, and which hosts it has.
 fn with_site<'a>(alloc: Global, command: Command<'a>) -> Result<Command<'a>, AllocError>
     ensures { IfOk result (λ made. app_of made ≡ with_site (app_of command.entry)) }
 {
@@ -190,18 +205,35 @@ fn with_site<'a>(alloc: Global, command: Command<'a>) -> Result<Command<'a>, All
         "test-hosts",
         "Serve an echo at echo.localhost and a room at room.localhost beside the domains",
     );
+    command
+        .arg(until_eof)?
+        .arg(xmpp)?
+        .arg(xmpp_port)?
+        .arg(test_hosts)
+}
+
+// What it tells of itself.
+fn with_telling<'a>(alloc: Global, command: Command<'a>) -> Result<Command<'a>, AllocError>
+    ensures { IfOk result (λ made. app_of made ≡ with_telling (app_of command.entry)) }
+{
     let trace = optional(
         alloc,
         "trace",
         "DIR",
         "Write what is seen of each session to a file in this directory, which audit judges",
     );
-    command
-        .arg(until_eof)?
-        .arg(xmpp)?
-        .arg(xmpp_port)?
-        .arg(test_hosts)?
-        .arg(trace)
+    let log = switch(
+        alloc,
+        "log",
+        "Write a line to standard error for each session that opens and ends, each back end that fails and what is refused, and the counts each minute",
+    );
+    let name = optional(
+        alloc,
+        "name",
+        "NAME",
+        "The name of this server, with which the names of its sessions begin: 1 to 14 letters, digits and -, a letter first",
+    );
+    command.arg(trace)?.arg(log)?.arg(name)
 }
 
 fn serve_command<'a>(alloc: Global) -> Result<Command<'a>, AllocError>
@@ -214,7 +246,8 @@ fn serve_command<'a>(alloc: Global) -> Result<Command<'a>, AllocError>
         .version(VERSION);
     let counted = with_counts(alloc, bare)?;
     let limited = with_limits(alloc, counted)?;
-    with_site(alloc, limited)
+    let placed = with_site(alloc, limited)?;
+    with_telling(alloc, placed)
 }
 
 /// Reads the words, of which the first is the command's. The only error is want of memory.
@@ -263,7 +296,9 @@ fn options(alloc: Global, matches: &ArgMatches<'_>) -> Result<Option<ServeOption
     let plan = plan(matches);
     let site = site(alloc, matches)?;
     let trace = text_in(alloc, matches.get_str("trace"))?;
-    Ok(options_from(until_eof, port, plan, site, trace))
+    let log = flag(matches.get_str("log"));
+    let name = named_in(matches.get_str("name"));
+    Ok(options_from(until_eof, port, plan, site, trace, log, name))
 }
 
 fn plan(matches: &ArgMatches<'_>) -> Option<ServePlan>
@@ -291,19 +326,23 @@ fn limits(matches: &ArgMatches<'_>) -> Option<Limits>
         LEAST_JOURNAL,
         GREATEST_JOURNAL,
     );
-    limits_from(live, openings, journal)
+    let gap_waits = number(matches.get_str("gap-waits"), 1, GAP_WAITS);
+    limits_from(live, openings, journal, gap_waits)
 }
 
-fn limits_from(live: Option<u32>, openings: Option<u32>, journal: Option<u64>) -> Option<Limits>
-    ensures { result ≡ limits_from live openings journal }
+fn limits_from(
+    live: Option<u32>,
+    openings: Option<u32>,
+    journal: Option<u64>,
+    gap_waits: Option<u32>,
+) -> Option<Limits>
+    ensures { result ≡ limits_from live openings journal gap_waits }
 {
-    let live = live?;
-    let openings = openings?;
-    let journal = journal?;
     Some(Limits {
-        live,
-        openings,
-        journal,
+        live: live?,
+        openings: openings?,
+        journal: journal?,
+        gap_waits: gap_waits?,
     })
 }
 
@@ -341,6 +380,16 @@ fn open_in(text: Option<&str>) -> Option<Option<u32>>
     Some(Some(most))
 }
 
+// The name of the server; None within where the words don't say one.
+fn named_in(text: Option<&str>) -> Option<Option<ServerName>>
+    ensures { result ≡ named_in (option_map (λ text. text.now) text.entry) }
+{
+    match text {
+        Some(text) => Some(Some(ServerName::read(text.as_bytes())?)),
+        None => Some(None),
+    }
+}
+
 // A text of its own. The only error is want of memory.
 fn text_in(alloc: Global, text: Option<&str>) -> Result<Option<Text>, AllocError>
     ensures { IfOk result (λ copy. copy ≡ option_map (λ text. text.now) text.entry) }
@@ -367,19 +416,24 @@ fn options_from(
     plan: Option<ServePlan>,
     site: Option<Site>,
     trace: Option<Text>,
+    log: bool,
+    name: Option<Option<ServerName>>,
 ) -> Option<ServeOptions>
     requires { IfSome port (λ port. port ≤ 65535) }
-    ensures { result ≡ options_from until_eof port plan site trace }
+    ensures { result ≡ options_from until_eof port plan site trace log name }
 {
     let port = port?;
     let plan = plan?;
     let site = site?;
+    let name = name?;
     Some(ServeOptions {
         port: port as u16,
         until_eof,
         plan,
         site,
         trace,
+        log,
+        name,
     })
 }
 

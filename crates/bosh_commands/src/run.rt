@@ -32,7 +32,7 @@ pub const BROKEN_RULE: u8 = 10;
 
 /// What the program does for which words.
 const HELP: &str =
-    "Robelava, an XMPP BOSH connection manager.\n\nrobelava serve --port PORT       serves XMPP over BOSH at http://127.0.0.1:PORT/http-bind\nrobelava client --port PORT --to HOST\n                                 sends each line of its input as a stanza, and writes what comes\nrobelava drive < SCRIPT          reports what becomes of bodies that reach a manager\nrobelava pair < SCRIPT           the same of a client and a manager over a network that loses\nrobelava load NUMBER             makes such a run from a number\nrobelava audit < TRACE           judges what two peers exchanged in one session\n\nserve --help and client --help show their options.\n";
+    "Robelava, an XMPP BOSH connection manager.\n\nrobelava serve --port PORT       serves XMPP over BOSH at http://127.0.0.1:PORT/http-bind\nrobelava client --port PORT --to HOST\n                                 sends each line of its input as a stanza, and writes what comes\nrobelava drive < SCRIPT          reports what becomes of bodies that reach a manager\nrobelava keep FILE < SCRIPT      the same, with sessions that a file keeps\nrobelava pair < SCRIPT           the same of a client and a manager over a network that loses\nrobelava load NUMBER             makes such a run from a number\nrobelava audit < TRACE           judges what two peers exchanged in one session\n\nserve --help and client --help show their options.\n";
 
 const VERSION_LINE: &str = "robelava 0.1.0\n";
 
@@ -63,7 +63,7 @@ pub fn run_local<S: Source, K: Sink>(
 
     // A whole report that was given keeps its word. That of `drive` tells of each session, by its journal, what went inward,
     // once and in order, and how it ended; each was sent what the script posted for it; and each answer is what an id was
-    // given for good. That of `pair` tells of one world: what went inward at the manager is a beginning of what the client
+    // given for good, or the error of a copy of it that was struck. That of `pair` tells of one world: what went inward at the manager is a beginning of what the client
     // made, and what the client handed out of what the server gave; and so it is in the world of `load`. Where that of `audit` is a
     // yes, the trace holds, and so what went inward in it is a beginning of what was sent, and what was got of what was given.
     ensures headline_done { result ≡ 0 → GivesItsWord (command_of words.now) (S.left source.old) (K.given sink.old) (K.given sink.new) }

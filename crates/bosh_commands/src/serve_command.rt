@@ -1,15 +1,18 @@
 // What the command `serve` does over what it is handed.
-ghost use Rattle.std.specs.Prelude.{◌≡◌, ◌≢◌, ◌≤◌, [], ◌∷◌, Contains, IfOk, IfSome, IsSome, None, codes, false};
+ghost use Rattle.std.specs.Prelude.{◌≡◌, ◌≢◌, ◌≤◌, [], ◌∷◌, Contains, IfOk, IfSome, IsSome, None, codes, false, option_map};
 ghost use Rattle.std.specs.Io.KnownBytes.{Appends};
 ghost use Rattle.bosh_ports.specs.Faults.{HasRisen};
 ghost use Rattle.bosh_commands.specs.Options.{Asks, MayAsk, ShowsWhatIsAsked, ends_with_input, is_shown, options_wanted, serve_findings, serve_options};
 ghost use Rattle.bosh_commands.specs.ServeCommand.{Served, served_line};
+ghost use Rattle.bosh_server.specs.Behind.{IsService, stands_of};
+ghost use Rattle.bosh_server.specs.Fates.{site_of};
+ghost use Rattle.session_pump.specs.Pumping.{pumping_of};
 
 use crate::input_end::tell_end;
 use crate::options::{ServeOptions, Wanted, read_options};
 use crate::run::{DONE, NO_MEMORY, WRITE_FAULT, WRONG_WORDS};
 use bosh_ports::{Bell, Polled, Sink, give_all};
-use bosh_server::{Outside, Ran, run_workers};
+use bosh_server::{Outside, Ran, Roll, put_pump, run_workers};
 use client_run::Ready;
 use connection_loops::Pollers;
 use server_ports::{Clock, Names, Network, Opened, Spawner};
@@ -28,14 +31,14 @@ pub const SPAWN_FAULT: u8 = 8;
 /// `serving` to the sink once that takes connections, and how many it served at the end. Where the port can't be had a line of
 /// `errors` says so. Where the words say that it ends with its input, the network is to stop at the end of that, or where it
 /// fails; a fault of it is then answered once all else is done.
-pub fn run_serve_command<R, I, K, E, N, C, B, S, M, Q, H>(
+pub fn run_serve_command<R, I, K, E, N, L, C, B, S, M, Q, H>(
     rt: &R,
     alloc: Global,
     words: &[String],
     input: &mut I,
     sink: &mut K,
     errors: &mut E,
-    outside: &mut Outside<N, C, B, S, M, Q>,
+    outside: &mut Outside<N, C, B, S, M, Q, L, H>,
     hosts: Vec<Host<H>>,
 ) -> u8
 where
@@ -43,13 +46,13 @@ where
     I: Ready,
     K: Sink,
     E: Sink,
-    N: Network,
-    N::Link: Polled + Send + Drop + 'static,
+    N: Network<Link = L>,
+    L: Polled + Send + Drop + 'static,
     C: Clock + Send + Drop + 'static,
     B: Bell + Send + Drop + 'static,
     S: Spawner,
     M: Names + Send + Drop + 'static,
-    Q: Pollers<N::Link>,
+    Q: Pollers<L>,
     Q::Poller: Send + Drop + 'static,
     Q::Rouse: Send + Sync + Drop + 'static,
     H: Backend + Send + 'static,
@@ -74,6 +77,14 @@ where
     ensures done { result ≡ 0 → IfSome (serve_options words.now) (λ options. Served options.plan.connections (N.counts outside.old.net) (N.counts outside.new.net) (K.given sink.old) (K.given sink.new)) }
     ensures failed { result ≡ 4 → IfSome (serve_options words.now) (λ options. Served options.plan.connections (N.counts outside.old.net) (N.counts outside.new.net) (K.given sink.old) (K.given sink.new)) }
 
+    // What became of each link that was accepted: each stands in the roll, and what is said of it there is true. What its hosts had to do
+    // with sessions: the pump began with them, and stands so at the end; it is there where links were served.
+    ensures service { IfSome (serve_options words.now) (λ options. ∥ IsService L.Polled.left L.Polled.given L.Polled.closed L.Polled.faults
+        (site_of hosts.items options.plan.limits (C.moment outside.old.clock)) (stands_of H.told H.counts hosts.items)
+        (N.counts outside.old.net) (N.counts outside.new.net) outside.new.roll (option_map (pumping_of H.told H.counts) outside.new.pump) ∥₁) }
+    ensures pump { result ≡ 0 → IfSome (serve_options words.now) (λ options. IsSome outside.new.pump) }
+    ensures pump_too { result ≡ 4 → IfSome (serve_options words.now) (λ options. IsSome outside.new.pump) }
+
     // Other words have the status 2, but for want of memory, where they don't ask for help or the version; where they ask for
     // just that, they have another.
     ensures refused { serve_options words.now ≡ None → (MayAsk (serve_findings words.now) → ⊥) → Contains (2 ∷ 6 ∷ []) result }
@@ -83,6 +94,8 @@ where
     ensures unserved { serve_options words.now ≡ None → (outside.new.net ≡ outside.old.net) × (outside.new.spawner ≡ outside.old.spawner) }
     ensures unwritten { result ≡ 2 → sink.new ≡ sink.old }
 {
+    outside.roll = Roll::new();
+    put_pump(&mut outside.pump, None);
     match wanted(alloc, words) {
         Err(AllocError) => NO_MEMORY,
         Ok(Wanted::Nothing) => WRONG_WORDS,
@@ -131,14 +144,14 @@ pub(crate) fn status_given<K: Sink>(sink: &mut K, text: &[u8]) -> u8
 }
 
 // Serves these hosts as the options have it.
-fn serve<R, I, K, E, N, C, B, S, M, Q, H>(
+fn serve<R, I, K, E, N, L, C, B, S, M, Q, H>(
     rt: &R,
     alloc: Global,
     options: &ServeOptions,
     input: &mut I,
     sink: &mut K,
     errors: &mut E,
-    outside: &mut Outside<N, C, B, S, M, Q>,
+    outside: &mut Outside<N, C, B, S, M, Q, L, H>,
     hosts: Vec<Host<H>>,
 ) -> u8
 where
@@ -146,16 +159,18 @@ where
     I: Ready,
     K: Sink,
     E: Sink,
-    N: Network,
-    N::Link: Polled + Send + Drop + 'static,
+    N: Network<Link = L>,
+    L: Polled + Send + Drop + 'static,
     C: Clock + Send + Drop + 'static,
     B: Bell + Send + Drop + 'static,
     S: Spawner,
     M: Names + Send + Drop + 'static,
-    Q: Pollers<N::Link>,
+    Q: Pollers<L>,
     Q::Poller: Send + Drop + 'static,
     Q::Rouse: Send + Sync + Drop + 'static,
     H: Backend + Send + 'static,
+    requires roll { outside.old.roll ≡ [] }
+    requires no_pump { outside.old.pump ≡ None }
     ensures statuses { Contains (0 ∷ 4 ∷ 5 ∷ 6 ∷ 7 ∷ 8 ∷ []) result }
     ensures net_fault { result ≡ 7 → HasRisen (N.counts outside.old.net).faults (N.counts outside.new.net).faults }
     ensures net_counts { result ≢ 7 → (N.counts outside.new.net).faults ≡ (N.counts outside.old.net).faults }
@@ -168,6 +183,11 @@ where
     ensures unread { options.now.until_eof ≡ false → input.new ≡ input.old }
     ensures done { result ≡ 0 → Served options.now.plan.connections (N.counts outside.old.net) (N.counts outside.new.net) (K.given sink.old) (K.given sink.new) }
     ensures failed { result ≡ 4 → Served options.now.plan.connections (N.counts outside.old.net) (N.counts outside.new.net) (K.given sink.old) (K.given sink.new) }
+    ensures service { ∥ IsService L.Polled.left L.Polled.given L.Polled.closed L.Polled.faults
+        (site_of hosts.items options.now.plan.limits (C.moment outside.old.clock)) (stands_of H.told H.counts hosts.items)
+        (N.counts outside.old.net) (N.counts outside.new.net) outside.new.roll (option_map (pumping_of H.told H.counts) outside.new.pump) ∥₁ }
+    ensures pump { result ≡ 0 → IsSome outside.new.pump }
+    ensures pump_too { result ≡ 4 → IsSome outside.new.pump }
 {
     match outside.net.listen(options.port) {
         Opened::Ready => {}

@@ -16,6 +16,8 @@ pub enum Mistake {
     ScriptStandsAlone,
     /// `load` takes one number.
     LoadTakesANumber,
+    /// `keep` takes the name of a file.
+    KeepTakesAFile,
     /// `--help` and `--version` stand alone.
     QuestionStandsAlone,
     /// The options of `serve`.
@@ -50,6 +52,9 @@ fn mistake_at(first: &[u8]) -> Mistake
     if first == b"load".as_slice() {
         return Mistake::LoadTakesANumber;
     }
+    if first == b"keep".as_slice() {
+        return Mistake::KeepTakesAFile;
+    }
     if first == b"serve".as_slice() {
         return Mistake::ServeOptions;
     }
@@ -65,10 +70,10 @@ fn mistake_at(first: &[u8]) -> Mistake
     Mistake::NoSuchCommand
 }
 
-const USAGE: &str = "usage: robelava serve|client|drive|pair|load|audit, or --help\n";
+const USAGE: &str = "usage: robelava serve|client|drive|keep|pair|load|audit, or --help\n";
 
 const SERVE_BOUNDS: &str =
-    "robelava serve: --port is from 1 to 65535, --workers from 1 to 64, --connections from 0 to 1048576,\n--sessions from 1 to 65536, --openings from 1 to 4294967295, --open from 1 to 1048576, --incoming from 1048576 to 1099511627776,\n--journal-limit from 65536 to 1099511627776, --xmpp-port from 1 to 65535, --xmpp a domain of 1 to 1023 bytes that is no test host, up to eight, each once\nrobelava serve --help says more\n";
+    "robelava serve: --port is from 1 to 65535, --workers from 1 to 64, --connections from 0 to 1048576,\n--sessions from 1 to 65536, --openings from 1 to 4294967295, --open from 1 to 1048576, --incoming from 1048576 to 1099511627776,\n--journal-limit from 65536 to 1099511627776, --gap-waits from 1 to 10, --xmpp-port from 1 to 65535, --xmpp a domain of 1 to 1023 bytes that is no test host, up to eight, each once\nrobelava serve --help says more\n";
 
 const CLIENT_BOUNDS: &str =
     "robelava client: --port is from 1 to 65535, --to a host's name of 1 to 1023 bytes, --rid from 1 to 9007199254740991, --wait from 0 to 120, --hold from 0 to 4\nrobelava client --help says more\n";
@@ -90,6 +95,11 @@ pub fn wrong_words_text(alloc: Global, words: &[String]) -> Result<String, Alloc
         Mistake::LoadTakesANumber => {
             format!(in alloc;
                 "robelava: load takes one number, from 0 to 18446744073709551615\n{USAGE}"
+            )
+        }
+        Mistake::KeepTakesAFile => {
+            format!(in alloc;
+                "robelava: keep takes the name of a file, and reads a script from standard input\n{USAGE}"
             )
         }
         Mistake::QuestionStandsAlone => {

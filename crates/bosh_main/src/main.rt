@@ -1,20 +1,25 @@
 // The program: it hands its words and the real streams to the top calls.
 #![tactic(auto)]
 
+mod logging;
+mod named;
 mod serving;
 mod streams;
 mod tracing;
 mod typed;
 
+use crate::named::NamedDisk;
 use crate::serving::serve_for_real;
 use crate::typed::{ClosingBell, Shelf, Typed, read_to_shelf};
 use bosh_commands::{
-    NO_MEMORY, WRONG_WORDS, run_client_command, run_local, status_without_words, wrong_words_text,
+    NO_MEMORY, WRONG_WORDS, run_client_command, run_kept, run_local, status_without_words,
+    wrong_words_text,
 };
-use bosh_ports::{Bell, ReadSource, RealBell, Sink, WriteSink, give_all};
+use bosh_ports::{Bell, ReadSource, RealBell, Sink, Source, WriteSink, give_all};
 use client_run::Outside;
 use server_ports::{RealClock, RealNames, TcpNetwork, ThreadSpawner, system_seed};
 use std::alloc::{AllocError, Global};
+use std::fs::File;
 use std::io::Read;
 use std::net::{Net, TcpListener, TcpStream};
 use std::process::ExitCode;
@@ -32,13 +37,23 @@ fn main(rt: HostRuntime) -> ExitCode {
     let mut sink = WriteSink::new(io::writer(&rt));
     let mut errors = WriteSink::new(rt.stderr());
     let status = if is_command(&words, "serve") {
-        serve_for_real(&rt, rt.alloc(), &words, rt.stdin(), &mut sink, &mut errors).unwrap_or(
-            NO_MEMORY,
+        let log = WriteSink::new(rt.stderr());
+        serve_for_real(
+            &rt,
+            rt.alloc(),
+            &words,
+            rt.stdin(),
+            &mut sink,
+            &mut errors,
+            log,
         )
+        .unwrap_or(NO_MEMORY)
     } else if is_command(&words, "client") {
         ask_for_real(&rt, rt.alloc(), &words, rt.stdin(), &mut sink, &mut errors).unwrap_or(
             NO_MEMORY,
         )
+    } else if is_command(&words, "keep") {
+        keep_for_real(&rt, rt.alloc(), &words, &mut source, &mut sink).unwrap_or(NO_MEMORY)
     } else {
         run_local(rt.alloc(), &words, &mut source, &mut sink)
     };
@@ -70,6 +85,27 @@ fn is_command(words: &[String], name: &str) -> bool {
         [first, ..] => first.as_str() == name,
         _ => false,
     }
+}
+
+/// Runs a script over the sessions of a file.
+fn keep_for_real<R, S, K>(
+    rt: &R,
+    alloc: Global,
+    words: &[String],
+    source: &mut S,
+    sink: &mut K,
+) -> Result<u8, AllocError>
+where
+    R: Files<File = File> + Copy + Drop,
+    S: Source,
+    K: Sink,
+{
+    let name = match words {
+        [_, name] => name.clone()?,
+        _ => String::new(alloc),
+    };
+    let disk = NamedDisk::new(*rt, name);
+    Ok(run_kept(alloc, words, source, sink, disk).status())
 }
 
 /// Runs a client over the real network, with the real clock, bell, threads and names. A thread of its own reads the input, and is left

@@ -1,15 +1,18 @@
 // The command `serve` over the real network, with the real clock, bell, threads and names.
 
+use crate::logging::{start_log_to, watch_of};
 use crate::streams::{start_teller, stream_end};
 use crate::tracing::{queue_of, start_tracing_to, traced_hosts};
 use bosh_commands::{NET_FAULT, NO_MEMORY, ServeOptions, options_to_serve, run_serve_command};
 use bosh_ports::{Bell, Polled, QuietSource, RealBell, Sink, give_all};
-use bosh_server::Outside;
+use bosh_server::{Outside, Roll};
 use bosh_types::{Stanzas, Text};
 use client_run::Ready;
 use connection_loops::{Pollers, ReadyPollers};
 use front_net::{FrontNetwork, room_for_links};
+use serve_log::Logging;
 use serve_trace::{TracedBackend, TracedNetwork};
+use server_name::NamedNames;
 use server_ports::{Names, Network, RealClock, RealNames, Spawner, ThreadSpawner, system_seed};
 use session_pump::Host;
 use std::alloc::{Alloc, AllocError, Global};
@@ -30,14 +33,15 @@ use xmpp_stream::PollLink;
 const FEATURES: &[u8] = b"<stream:features/>";
 
 /// Serves the hosts of the program over the real network. Where the words say that the server ends with its input, a thread of its own
-/// reads that, and is left behind where the server ends before it does.
-pub fn serve_for_real<R, I, K, E>(
+/// reads that, and is left behind where the server ends before it does. Where they ask for a log another thread writes it to `log`.
+pub fn serve_for_real<R, I, K, E, L>(
     rt: &R,
     alloc: Global,
     words: &[String],
     input: I,
     sink: &mut K,
     errors: &mut E,
+    log: L,
 ) -> Result<u8, AllocError>
 where
     R: Wait
@@ -56,6 +60,7 @@ where
     I: Read + Send + Drop + 'static,
     K: Sink,
     E: Sink,
+    L: Sink + Send + Drop + 'static,
 {
     let options = options_to_serve(alloc, words)?;
     if let Some(options) = &options {
@@ -64,13 +69,41 @@ where
     if !options.as_ref().is_some_and(|options| options.until_eof) {
         let mut nothing = QuietSource::new(Vec::new(alloc));
         let net = FrontNetwork::new(*rt, alloc);
-        return serve_over(rt, alloc, words, options, &mut nothing, sink, errors, net);
+        let setup = Setup::new(rt, alloc, options, log)?;
+        return serve_over(rt, alloc, words, setup, &mut nothing, sink, errors, net);
     }
     let stopper = Stopper::new(alloc)?;
     stop_apart(rt, input, Arc::try_clone(&stopper)?)?;
     let mut end = EndOfInput::new(*rt, Arc::try_clone(&stopper)?);
     let net = StoppableNetwork::new(*rt, alloc, stopper);
-    serve_over(rt, alloc, words, options, &mut end, sink, errors, net)
+    let setup = Setup::new(rt, alloc, options, log)?;
+    serve_over(rt, alloc, words, setup, &mut end, sink, errors, net)
+}
+
+/// How a server is to run, and the thread that writes its log, where the words ask for one.
+#[derive(Drop)]
+struct Setup {
+    options: Option<ServeOptions>,
+    logging: Option<Logging>,
+}
+
+impl Setup {
+    fn new<R, L>(
+        rt: &R,
+        alloc: Global,
+        options: Option<ServeOptions>,
+        log: L,
+    ) -> Result<Setup, AllocError>
+    where
+        R: Wait + Threads + Clock + Files + Copy + Send + Drop + 'static,
+        R::File: Send,
+        R::Dir: Send,
+        L: Sink + Send + Drop + 'static,
+    {
+        let is_wanted = options.as_ref().is_some_and(|options| options.log);
+        let logging = start_log_to(rt, alloc, is_wanted, log)?;
+        Ok(Setup { options, logging })
+    }
 }
 
 /// Says where more threads are to serve than there are processors. What can't be said is not.
@@ -93,7 +126,7 @@ fn serve_over<R, I, K, E, N>(
     rt: &R,
     alloc: Global,
     words: &[String],
-    options: Option<ServeOptions>,
+    setup: Setup,
     input: &mut I,
     sink: &mut K,
     errors: &mut E,
@@ -126,8 +159,11 @@ where
     let mut hosts = Vec::new(alloc);
     let mut teller = None;
     let mut directory = None;
+    let mut name = None;
+    let Setup { options, logging } = setup;
     if let Some(options) = options {
         directory = options.trace;
+        name = options.name;
         let site = &options.site;
         if site.has_test_hosts {
             let end = InMemory::Echo(Echo::new(alloc));
@@ -148,15 +184,19 @@ where
         teller = Some(start_teller(rt, desks, bell.share()?)?);
     }
     let tracing = start_tracing_to(rt, alloc, &directory, hosts.as_slice())?;
-    let hosts = traced_hosts(*rt, alloc, &tracing, hosts)?;
+    let watch = watch_of(&logging)?;
+    let hosts = traced_hosts(*rt, alloc, &tracing, &watch, hosts)?;
     let mut outside = Outside {
         net: TracedNetwork::new(*rt, alloc, net, queue_of(&tracing)?),
         room: room_for_links(rt),
         clock: RealClock::new(*rt),
         bell,
         spawner: ThreadSpawner::new(alloc),
-        names: RealNames::new(alloc, seed),
+        names: NamedNames::new(alloc, RealNames::new(alloc, seed), name),
         pollers: ReadyPollers { rt: *rt, alloc },
+        watch,
+        roll: Roll::new(),
+        pump: None,
     };
     let status = serve_hosts(rt, alloc, words, input, sink, errors, &mut outside, hosts);
     let Outside {
@@ -167,13 +207,20 @@ where
         spawner,
         names: _names,
         pollers: _pollers,
+        watch: _watch,
+        roll: _roll,
+        pump,
     } = outside;
+    drop(pump);
     spawner.join_all(rt);
     if let Some(teller) = teller {
         teller.end(rt);
     }
     if let Some(tracing) = tracing {
         tracing.end(rt);
+    }
+    if let Some(logging) = logging {
+        logging.end(rt);
     }
     Ok(status)
 }
@@ -187,7 +234,16 @@ fn serve_hosts<R, I, K, E, N, C, B, S, M, Q, A, D, W, T>(
     input: &mut I,
     sink: &mut K,
     errors: &mut E,
-    outside: &mut Outside<N, C, B, S, M, Q>,
+    outside: &mut Outside<
+        N,
+        C,
+        B,
+        S,
+        M,
+        Q,
+        N::Link,
+        TracedBackend<R, Either<A, StreamBackend<D, W, T>>>,
+    >,
     hosts: Vec<Host<TracedBackend<R, Either<A, StreamBackend<D, W, T>>>>>,
 ) -> u8
 where

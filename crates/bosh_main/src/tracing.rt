@@ -1,6 +1,7 @@
-// The traces that `serve` writes, where a directory for them is named.
-use bosh_types::{CopyIn, Stanzas, Text, copy_items};
+// The traces that `serve` writes, where a directory for them is named, and what its back ends carry.
+use bosh_types::{CopyIn, SharedText, Stanzas, Text, copy_items};
 use serve_trace::{Greeting, TraceQueue, TracedBackend, Tracing, start_tracing};
+use server_watch::{Tally, Watch};
 use session_pump::Host;
 use std::alloc::{AllocError, Global};
 use std::io::Eprint;
@@ -40,16 +41,17 @@ pub fn queue_of(tracing: &Option<Tracing>) -> Result<Option<Arc<TraceQueue>>, Al
     }
 }
 
-/// These hosts, of whose back ends is noted what they give and are passed, where that is wanted.
+/// These hosts, of whose back ends is noted what they give and are passed, where that is wanted, and how much, where somebody watches.
 pub fn traced_hosts<R: Wait + Copy + Drop, E: Backend>(
     rt: R,
     alloc: Global,
     tracing: &Option<Tracing>,
+    watch: &Watch,
     hosts: Vec<Host<E>>,
 ) -> Result<Vec<Host<TracedBackend<R, E>>>, AllocError> {
     let mut traced = Vec::new(alloc);
     for host in hosts {
-        traced.push(traced_host(rt, alloc, tracing, host)?)?;
+        traced.push(traced_host(rt, alloc, tracing, watch, host)?)?;
     }
     Ok(traced)
 }
@@ -58,6 +60,7 @@ fn traced_host<R: Wait + Copy + Drop, E: Backend>(
     rt: R,
     alloc: Global,
     tracing: &Option<Tracing>,
+    watch: &Watch,
     host: Host<E>,
 ) -> Result<Host<TracedBackend<R, E>>, AllocError> {
     let Host {
@@ -66,14 +69,20 @@ fn traced_host<R: Wait + Copy + Drop, E: Backend>(
         end,
         spares,
     } = host;
+    let known_as = SharedText::new(alloc, name.copy_in(alloc)?)?;
+    let tally = Tally::new(alloc, watch.again()?, known_as.again()?, !spares.is_empty());
+    let end = TracedBackend::new(rt, end, queue_of(tracing)?, tally);
+    let mut left = spares.len();
     let mut traced = Vec::new(alloc);
     for spare in spares {
-        traced.push(TracedBackend::new(rt, spare, queue_of(tracing)?))?;
+        left = left.saturating_sub(1);
+        let tally = Tally::new(alloc, watch.again()?, known_as.again()?, left > 0);
+        traced.push(TracedBackend::new(rt, spare, queue_of(tracing)?, tally))?;
     }
     Ok(Host {
         name,
         greeting,
-        end: TracedBackend::new(rt, end, queue_of(tracing)?),
+        end,
         spares: traced,
     })
 }

@@ -6,7 +6,7 @@ use bosh_commands::{
     BAD_SCRIPT, DONE, NET_FAULT, WRONG_WORDS, run_client_command, run_serve_command,
 };
 use bosh_ports::{Gave, MemorySink, MemorySource, QuietSource, RealBell, Sink, SteadyBell};
-use bosh_server::Outside as ServerOutside;
+use bosh_server::{Outside as ServerOutside, Roll};
 use bosh_types::{Moment, Rid, Stanzas, Text};
 use client_run::Outside;
 use connection_loops::ReadyPollers;
@@ -14,6 +14,7 @@ use front_net::FrontNetwork;
 use server_ports::{
     GivenNames, MemoryNetwork, SteadySpawner, StillClock, TcpNetwork, ThreadSpawner,
 };
+use server_watch::Watch;
 use session_pump::Host;
 use std::alloc::{AllocError, Global};
 use std::collections::VecDeque;
@@ -216,6 +217,9 @@ where
         spawner: ThreadSpawner::new(alloc),
         names: GivenNames::new(alloc, b"s", first),
         pollers: ReadyPollers { rt: *rt, alloc },
+        watch: Watch::off(),
+        roll: Roll::new(),
+        pump: None,
     };
     let status = run_serve_command(
         rt,
@@ -235,6 +239,9 @@ where
         spawner,
         names: _names,
         pollers: _pollers,
+        watch: _watch,
+        roll: _roll,
+        pump: _pump,
     } = outside;
     spawner.join_all(rt);
     let Announcing {

@@ -5,10 +5,11 @@ use crate::loopback::echo_host;
 use crate::room::enter;
 use bosh_commands::{DONE, run_serve_command};
 use bosh_ports::{MemorySink, RealBell};
-use bosh_server::Outside;
+use bosh_server::{Outside, Roll};
 use bosh_types::Rid;
 use connection_loops::ReadyPollers;
 use server_ports::{GivenNames, RealClock, TcpNetwork, ThreadSpawner};
+use server_watch::Watch;
 use std::alloc::{AllocError, Global};
 use std::io::Eprint;
 use std::net::{Ipv4Addr, Net, Shutdown, SocketAddr, TcpListener, TcpStream};
@@ -84,6 +85,9 @@ where
         spawner: ThreadSpawner::new(alloc),
         names: GivenNames::new(alloc, b"s", first),
         pollers: ReadyPollers { rt: *rt, alloc },
+        watch: Watch::off(),
+        roll: Roll::new(),
+        pump: None,
     };
     let status = run_serve_command(
         rt,
@@ -103,6 +107,9 @@ where
         spawner,
         names: _names,
         pollers: _pollers,
+        watch: _watch,
+        roll: _roll,
+        pump: _pump,
     } = outside;
     spawner.join_all(rt);
     Ok((status, written))

@@ -6,6 +6,8 @@ mod asking;
 #[cfg(test)]
 mod ending;
 #[cfg(test)]
+mod keeping;
+#[cfg(test)]
 mod limits;
 #[cfg(test)]
 mod loopback;

@@ -3,11 +3,12 @@ ghost use Rattle.std.specs.Thread.{IsSync};
 
 use bosh_commands::{DONE, run_serve_command};
 use bosh_ports::{Got, Link, MemorySink, QuietSource, RealBell, send_all};
-use bosh_server::Outside;
+use bosh_server::{Outside, Roll};
 use bosh_types::{Moment, Rid, Stanzas, Text};
 use connection_loops::ReadyPollers;
 use front_net::FrontNetwork;
 use server_ports::{Dialled, GivenNames, Network, StillClock, TcpNetwork, ThreadSpawner};
+use server_watch::Watch;
 use session_pump::Host;
 use std::alloc::{AllocError, Global};
 use std::io::Eprint;
@@ -95,6 +96,9 @@ where
         spawner: ThreadSpawner::new(alloc),
         names: GivenNames::new(alloc, b"s", first),
         pollers: ReadyPollers { rt: *rt, alloc },
+        watch: Watch::off(),
+        roll: Roll::new(),
+        pump: None,
     };
     let status = run_serve_command(
         rt,
@@ -114,6 +118,9 @@ where
         spawner,
         names: _names,
         pollers: _pollers,
+        watch: _watch,
+        roll: _roll,
+        pump: _pump,
     } = outside;
     spawner.join_all(rt);
     Ok(status)

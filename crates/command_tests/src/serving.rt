@@ -3,10 +3,11 @@ use bosh_commands::{
     DONE, NET_FAULT, READ_FAULT, WRONG_WORDS, options_to_serve, run_serve_command,
 };
 use bosh_ports::{MemorySink, MemorySource, SteadyBell};
-use bosh_server::Outside;
+use bosh_server::{Outside, Roll};
 use bosh_types::{Moment, Rid};
 use connection_loops::StillPollers;
 use server_ports::{GivenNames, LinkPlan, MemoryNetwork, StillClock, ThreadSpawner};
+use server_watch::Watch;
 use session_pump::Host;
 use std::alloc::{AllocError, Global};
 use std::rt::Clock;
@@ -69,6 +70,9 @@ fn shown_over<R: Wait + Threads + Copy + Send + Sync + Drop + 'static>(
         spawner: ThreadSpawner::new(alloc),
         names,
         pollers: StillPollers { rt: *rt, alloc },
+        watch: Watch::off(),
+        roll: Roll::new(),
+        pump: None,
     };
     let nobody: Vec<Host<InMemory>> = Vec::new(alloc);
     let status = run_serve_command(
@@ -89,6 +93,9 @@ fn shown_over<R: Wait + Threads + Copy + Send + Sync + Drop + 'static>(
         spawner,
         names: _names,
         pollers: _pollers,
+        watch: _watch,
+        roll: _roll,
+        pump: _pump,
     } = outside;
     spawner.join_all(rt);
     Ok(Outcome {

@@ -3,7 +3,7 @@ use Rattle.std.proofs.lemmas.Result.{IfOk-weaker}
 use Rattle.clap.specs.declared.builder.action.ArgAction.TheVariants.{Append}
 use Rattle.clap.specs.declared.builder.arg.Arg.{Arg}
 use Rattle.clap.specs.Words.{App, Rule, app_of, rule_of, with_rule}
-use Rattle.bosh_commands.specs.Options.{optional_rule, switch_rule, usual_rule, xmpp_rule}
+use Rattle.bosh_commands.specs.Options.{switch_rule, usual_rule, xmpp_rule}
 use Rattle.bosh_commands.proofs.options.with_site.Goals as goal
 
 pub returns : goal.returns
@@ -19,6 +19,4 @@ returns c =
     c.in_ok-arg-2.ensures.shape xmpp_local ∙ ap₂ with_rule step1 (xmpp_is) in
     let step3 : app_of c.in_ok-arg-3.field-0 ≡ with_rule (with_rule (with_rule app (switch_rule (codes "until-eof"))) xmpp_rule) (usual_rule (codes "xmpp-port") (codes "5222")) =
     c.in_ok-arg-3.ensures.shape c.usual-xmpp_port.ensures.local ∙ ap₂ with_rule step2 (c.usual-xmpp_port.ensures.rule) in
-    let step4 : app_of c.in_ok-arg-4.field-0 ≡ with_rule (with_rule (with_rule (with_rule app (switch_rule (codes "until-eof"))) xmpp_rule) (usual_rule (codes "xmpp-port") (codes "5222"))) (switch_rule (codes "test-hosts")) =
-    c.in_ok-arg-4.ensures.shape c.switch-test_hosts.ensures.local ∙ ap₂ with_rule step3 (c.switch-test_hosts.ensures.rule) in
-    IfOk-weaker c.arg-5.result _ _ (λ command adds. adds.shape c.optional-trace.ensures.local ∙ ap₂ with_rule step4 (c.optional-trace.ensures.rule)) c.arg-5.ensures
+    IfOk-weaker c.arg-4.result _ _ (λ command adds. adds.shape c.switch-test_hosts.ensures.local ∙ ap₂ with_rule step3 (c.switch-test_hosts.ensures.rule)) c.arg-4.ensures

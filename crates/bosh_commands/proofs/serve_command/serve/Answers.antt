@@ -1,7 +1,8 @@
-use Rattle.std.proofs.Common.{subst, refl, lit<}
+use Rattle.std.proofs.Common.{subst, refl, lit<, rules}
 use Rattle.std.proofs.KnownBytes.{Appends-trans}
 use Rattle.server_ports.specs.Counts.{Counts}
 use Rattle.bosh_server.specs.Runs.{Accepts, IsEnough, RunsBy}
+use Rattle.bosh_commands.proofs.RollLemmas.{none_serviced}
 use Rattle.bosh_commands.proofs.StatusLemmas.{of_end}
 use Rattle.bosh_commands.proofs.serve_command.serve.Goals as goal
 
@@ -50,3 +51,12 @@ returns-in-Ok-Done-clause-failed g c =
       enough = subst (λ (old : Counts). IsEnough planned old new n) same runs.1;
       written = Appends-trans _ _ _ _ _ c.in-Ok.ensures.given (c.tell_end.ensures.given_too four);
     }
+
+pub returns-in-Failed-clause-service : goal.returns-in-Failed-clause-service
+returns-in-Failed-clause-service g c = none_serviced _ _ _ _ _ _ _ _ _ _ _ _ _ c.requires.roll c.requires.no_pump (search rules)
+
+pub returns-in-Err-clause-service : goal.returns-in-Err-clause-service
+returns-in-Err-clause-service g c = none_serviced _ _ _ _ _ _ _ _ _ _ _ _ _ c.requires.roll c.requires.no_pump (search rules)
+
+pub returns-in-Err-run_workers-clause-service : goal.returns-in-Err-run_workers-clause-service
+returns-in-Err-run_workers-clause-service g c = none_serviced _ _ _ _ _ _ _ _ _ _ _ _ _ (search rules) (search rules) (search rules)
