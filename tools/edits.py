@@ -2,9 +2,10 @@
 """Tries the edits of a crate that the gate doesn't try, those of its folder aside/: each turns what a function means, and the check has
 to refuse it. Edits of different functions are tried together, in one copy of the crate.
 
-usage: tools/edits.py [--list] [--passes] [CRATE..]      at the top; no CRATE: each crate that has such edits
+usage: tools/edits.py [--list] [--passes] [--hidden] [CRATE..]      at the top; no CRATE: each crate that has such edits
        --list: only whether they still apply
        --passes: the edits of the folder passes/, each of which the check still lets through, for the reason in its first line
+       --hidden: those of the folder hidden/, each of which names what it can't see, so that it isn't even compiled
 
 It begins with what `rt check` kept in the crate's out/, so run that first. Its last line counts; the status is 1 where an edit is still
 proved (with --passes: is refused by now), can't be applied, or came to nothing.
@@ -17,6 +18,7 @@ import sys
 import tempfile
 
 PROVED = re.compile(r"^(?:fn|impl|struct|enum|trait) (\S+): proved")
+HIDDEN = re.compile(r"error.*private")
 ITEM = re.compile(r"^\s*(?:pub(?:\([a-z]+\))? )?(?:const )?fn (\w+)")
 
 
@@ -127,6 +129,12 @@ def verdicts(folder, edits, words):
     return told
 
 
+def hidden_verdict(folder, edit, words):
+    """Whether an edit is refused since what it names is private."""
+    _, said = check(folder, [edit], words)
+    return "refused" if HIDDEN.search(said) else "NOT TRIED" if "error" in said else "COMPILED"
+
+
 def tell(crate, told, counts):
     """Prints what edits came to, and counts it."""
     for edit, kind in told.items():
@@ -135,8 +143,8 @@ def tell(crate, told, counts):
 
 
 def main(names):
-    only_list, passes = "--list" in names, "--passes" in names
-    names = [it for it in names if it not in ("--list", "--passes")]
+    only_list, passes, hidden = "--list" in names, "--passes" in names, "--hidden" in names
+    names = [it for it in names if it not in ("--list", "--passes", "--hidden")]
     top = os.getcwd()
     sys.path.insert(0, f"{top}/tools")
     from kept_libraries import kit
@@ -145,7 +153,7 @@ def main(names):
     rt.Crate.allowed = rt.handles_of(top)
     counts = {}
     for crate in rt.crates_of(top):
-        aside = f"{crate.folder}/{'passes' if passes else 'aside'}"
+        aside = f"{crate.folder}/{'passes' if passes else 'hidden' if hidden else 'aside'}"
         if not os.path.isdir(aside) or (names and crate.name not in names):
             continue
         edits = [Edit(crate.folder, f"{aside}/{it}") for it in sorted(os.listdir(aside)) if it.endswith(".edit")]
@@ -153,6 +161,10 @@ def main(names):
         applied = [edit for edit in edits if edit.applies()]
         if only_list:
             counts["applies"] = counts.get("applies", 0) + len(applied)
+            continue
+        if hidden:
+            words = [rt.rtlib.RATTLE, "check", *crate.words(["--jobs", "1"], keeps=False), "--only", "nothing_at_all"]
+            tell(crate.name, {edit: hidden_verdict(crate.folder, edit, words) for edit in applied}, counts)
             continue
         words = [rt.rtlib.RATTLE, "check", *crate.words(["--jobs", "1"], keeps=False)]
         for group in [[it] for it in applied] if passes else groups(applied):

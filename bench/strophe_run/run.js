@@ -6,6 +6,8 @@ const asked = new URLSearchParams(location.search);
 const count = Number(asked.get('count') || 200);
 const silence = Number(asked.get('silence') || 40) * 1000;
 const outstanding = 5;
+// With it the page says a message each so many milliseconds, whatever came back, and neither reloads nor is silent.
+const every = Number(asked.get('every') || 0) * 1000;
 
 const kept = JSON.parse(sessionStorage.getItem('run') || '{"sent": 0, "got": [], "statuses": [], "reloads": 0}');
 const connection = new Strophe.Connection('/http-bind', { keepalive: true });
@@ -41,7 +43,20 @@ function sayUpTo(most) {
   }
 }
 
+function sayEach() {
+  if (kept.sent < count) {
+    say();
+    setTimeout(sayEach, every);
+  }
+}
+
 function goOn() {
+  if (every > 0) {
+    if (kept.got.length === count) {
+      connection.disconnect('done');
+    }
+    return;
+  }
   const all = kept.sent === kept.got.length;
   if (kept.reloads === 0) {
     sayUpTo(count / 2);
@@ -78,7 +93,11 @@ function onStatus(status, condition) {
     if (kept.reloads === 0) {
       connection.send($pres());
     }
-    goOn();
+    if (every > 0) {
+      sayEach();
+    } else {
+      goOn();
+    }
   } else if (status === Strophe.Status.DISCONNECTED) {
     report('disconnected');
   } else if (status === Strophe.Status.AUTHFAIL || status === Strophe.Status.CONNFAIL) {
@@ -91,6 +110,6 @@ window.addEventListener('load', () => {
   if (kept.reloads > 0) {
     connection.restore(null, onStatus);
   } else {
-    connection.connect(asked.get('address'), asked.get('password') || '', onStatus);
+    connection.connect(asked.get('address'), asked.get('password') || '', onStatus, Number(asked.get('wait') || 60));
   }
 });

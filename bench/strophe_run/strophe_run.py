@@ -1,10 +1,13 @@
 #!/usr/bin/env python3
 """Strophe.js in headless Chromium, through nginx and a manager, to a server of XMPP: a login, messages to oneself, a reload in the midst, a
-silence, one message more, and a logout. With --faults a proxy between drops one request or answer in ten and doubles one in ten.
+silence, one message more, and a logout. With --faults a proxy between drops one request or answer in ten and doubles one in ten. With
+--swallow SECONDS the proxy keeps the first copy of one request, which carries a message, for so long, and then closes its connection: the
+server never sees that copy, and the page isn't told that it is lost; the page then says a message each --every seconds, and neither
+reloads nor is silent. --wait is what the page asks the manager for.
 
 Wanted: chromium, nginx and libjs-strophe of Debian, a manager at --manager that takes POST /http-bind, and a server behind it.
 
-Usage: strophe_run.py --manager PORT --address ADDRESS [--password WORD] [--count 200] [--silence 40] [--faults] [--path /http-bind]
+Usage: strophe_run.py --manager PORT --address ADDRESS [--password WORD] [--count 200] [--silence 40] [--faults | --swallow SECONDS [--every 0.2]] [--wait 60] [--path /http-bind]
 """
 import argparse
 import http.client
@@ -17,6 +20,7 @@ import shutil
 import subprocess
 import tempfile
 import threading
+import time
 
 HERE = pathlib.Path(__file__).resolve().parent
 PAGE, PROXY, REPORT = 18091, 18092, 18093
@@ -56,17 +60,21 @@ class Quiet(http.server.BaseHTTPRequestHandler):
         self.wfile.write(content)
 
 
+def asked_of(manager, path, body):
+    link = http.client.HTTPConnection("127.0.0.1", manager, timeout=120)
+    link.request("POST", path, body, {"Content-Type": "text/xml"})
+    response = link.getresponse()
+    content = response.read()
+    link.close()
+    return response.status, content
+
+
 def faulty(manager, path, counts, seed):
     """A proxy that loses and doubles, by a generator of its own."""
     drawn, lock = random.Random(seed), threading.Lock()
 
     def ask(body):
-        link = http.client.HTTPConnection("127.0.0.1", manager, timeout=120)
-        link.request("POST", path, body, {"Content-Type": "text/xml"})
-        response = link.getresponse()
-        content = response.read()
-        link.close()
-        return response.status, content
+        return asked_of(manager, path, body)
 
     class Proxy(Quiet):
         def do_POST(self):
@@ -102,6 +110,32 @@ def faulty(manager, path, counts, seed):
     return Proxy
 
 
+def swallowing(manager, path, counts, seconds):
+    """A proxy that keeps the first copy of the third request with a message."""
+    lock, seen = threading.Lock(), {"messages": 0}
+
+    class Proxy(Quiet):
+        def do_POST(self):
+            body = self.content()
+            with lock:
+                counts["requests"] += 1
+                seen["messages"] += b"hello" in body
+                is_swallowed = seen["messages"] == 3 and counts["swallowed"] == 0
+                counts["swallowed"] += is_swallowed
+            if is_swallowed:
+                time.sleep(seconds)
+                self.close_connection = True
+                return
+            try:
+                status, content = asked_of(manager, path, body)
+                counts["errors"] += b"type='error'" in content
+                self.answer(status, content)
+            except OSError:
+                self.close_connection = True
+
+    return Proxy
+
+
 def reporter(reports, came):
     class Report(Quiet):
         def do_POST(self):
@@ -128,19 +162,25 @@ def main():
     words.add_argument("--silence", type=int, default=40)
     words.add_argument("--limit", type=int, default=300)
     words.add_argument("--faults", action="store_true")
+    words.add_argument("--swallow", type=int, default=0)
+    words.add_argument("--every", type=float, default=0.2)
+    words.add_argument("--wait", type=int, default=60)
     words.add_argument("--seed", type=int, default=1)
     asked = words.parse_args()
 
-    counts = {"requests": 0, "requests lost": 0, "answers lost": 0, "doubled": 0}
+    counts = {"requests": 0, "swallowed": 0, "errors": 0} if asked.swallow else {"requests": 0, "requests lost": 0, "answers lost": 0, "doubled": 0}
     reports, came = [], threading.Event()
     serve(REPORT, reporter(reports, came))
     if asked.faults:
         serve(PROXY, faulty(asked.manager, asked.path, counts, asked.seed))
+    elif asked.swallow:
+        serve(PROXY, swallowing(asked.manager, asked.path, counts, asked.swallow))
+    is_between = asked.faults or asked.swallow > 0
     work = tempfile.mkdtemp(prefix="strophe_run_")
-    bind, path = (PROXY, "/http-bind") if asked.faults else (asked.manager, asked.path)
+    bind, path = (PROXY, "/http-bind") if is_between else (asked.manager, asked.path)
     (pathlib.Path(work) / "nginx.conf").write_text(NGINX.format(work=work, page=PAGE, here=HERE, report=REPORT, bind=bind, path=path))
     nginx = subprocess.Popen(["nginx", "-p", work, "-c", f"{work}/nginx.conf"])
-    url = f"http://127.0.0.1:{PAGE}/run.html?address={asked.address}&password={asked.password}&count={asked.count}&silence={asked.silence}&limit={asked.limit}"
+    url = f"http://127.0.0.1:{PAGE}/run.html?address={asked.address}&password={asked.password}&count={asked.count}&silence={asked.silence}&limit={asked.limit}&wait={asked.wait}&every={asked.every if asked.swallow else 0}"
     browser = subprocess.Popen(
         ["chromium", "--headless", "--no-sandbox", "--disable-gpu", f"--user-data-dir={work}/profile", "--remote-debugging-port=0", url],
         stdout=subprocess.DEVNULL, stderr=subprocess.DEVNULL)
@@ -152,9 +192,9 @@ def main():
         nginx.wait()
         shutil.rmtree(work, ignore_errors=True)
     print(json.dumps(reports[0]) if reports else "no report")
-    if asked.faults:
+    if is_between:
         print(json.dumps(counts))
-    good = bool(reports) and reports[0]["end"] == "disconnected" and reports[0]["inOrder"] and reports[0]["got"] == asked.count + 1
+    good = bool(reports) and reports[0]["end"] == "disconnected" and reports[0]["inOrder"] and reports[0]["got"] == asked.count + (not asked.swallow)
     print("each message came back once and in order" if good else "NOT each message came back once and in order")
     raise SystemExit(0 if good else 1)
 
