@@ -9,9 +9,10 @@ use Rattle.clap.proofs.OnLiterals.{clap_on_literals}
 use Rattle.clap.proofs.WalkLemmas.{first_value-rows, raw_values-rows}
 use Rattle.bosh_server.specs.declared.plan.ServePlan.{ServePlan}
 use Rattle.session_table.specs.declared.opening.Limits.{Limits}
+use Rattle.bosh_commands.specs.declared.options.Beside.{Beside}
 use Rattle.bosh_commands.specs.declared.options.ServeOptions.{ServeOptions}
 use Rattle.bosh_commands.specs.declared.options.Wanted.{Wanted}
-use Rattle.bosh_commands.specs.Options.{ShowsWhatIsAsked, flag_in, limits_from, limits_of, named_in, number_in, open_in, options_by, options_from, options_of, options_wanted, plan_from, plan_of, serve_app, site_in}
+use Rattle.bosh_commands.specs.Options.{ShowsWhatIsAsked, beside_of, flag_in, limits_from, limits_of, named_in, number_in, open_in, options_by, options_from, options_of, options_wanted, plan_from, plan_of, serve_app, site_in}
 use Rattle.bosh_commands.specs.Site.{site_of}
 use Rattle.bosh_commands.specs.declared.site.Site.{Site}
 
@@ -57,18 +58,35 @@ site_reads f g reads names =
     ap (λ t. site_of (flag_in t) (number_in 1 65535 (f port)) names) (reads test)
     ∙ ap (λ p. site_of (flag_in (g test)) (number_in 1 65535 p) names) (reads port)
 
+-- what the words say that can't be wrong, of these parts
+abbrev pub beside_with : Bool → Bool → Option Text → Option Text → Beside
+beside_with until_eof log trace journal = record { until_eof = until_eof; log = log; trace = trace; journal = journal }
+
+-- what can't be wrong is what these texts say
+pub beside_so : (f : Text → Option Text) (until_eof log : Bool) (trace journal : Option Text)
+    → until_eof ≡ flag_in (f (codes "until-eof")) → log ≡ flag_in (f (codes "log")) → trace ≡ f (codes "trace") → journal ≡ f (codes "journal")
+    → beside_with until_eof log trace journal ≡ beside_of f
+beside_so f until_eof log trace journal e g t j =
+    ap (λ x. beside_with x log trace journal) e
+    ∙ ap (λ x. beside_with (flag_in (f (codes "until-eof"))) x trace journal) g
+    ∙ ap (λ x. beside_with (flag_in (f (codes "until-eof"))) (flag_in (f (codes "log"))) x journal) t
+    ∙ ap (λ x. beside_with (flag_in (f (codes "until-eof"))) (flag_in (f (codes "log"))) (f (codes "trace")) x) j
+
+beside_reads : (f g : Text → Option Text) → ((id : Text) → f id ≡ g id) → beside_of f ≡ beside_of g
+beside_reads f g reads =
+    beside_so g (flag_in (f (codes "until-eof"))) (flag_in (f (codes "log"))) (f (codes "trace")) (f (codes "journal"))
+    (ap flag_in (reads (codes "until-eof"))) (ap flag_in (reads (codes "log"))) (reads (codes "trace")) (reads (codes "journal"))
+
 -- the options are made of what these texts say
-pub options_so : (f : Text → Option Text) (names : Option (List Text)) (until_eof log : Bool) (port : Option ℕ) (plan : Option ServePlan) (site : Option Site) (trace : Option Text) (name : Option (Option Text))
-    → until_eof ≡ flag_in (f (codes "until-eof")) → port ≡ number_in 1 65535 (f (codes "port")) → plan ≡ plan_of f → site ≡ site_in f names → trace ≡ f (codes "trace")
-    → log ≡ flag_in (f (codes "log")) → name ≡ named_in (f (codes "name")) → options_from until_eof port plan site trace log name ≡ options_of f names
-options_so f names until_eof log port plan site trace name e p l s t g n =
-    ap (λ x. options_from x port plan site trace log name) e
-    ∙ ap (λ x. options_from (flag_in (f (codes "until-eof"))) x plan site trace log name) p
-    ∙ ap (λ x. options_from (flag_in (f (codes "until-eof"))) (number_in 1 65535 (f (codes "port"))) x site trace log name) l
-    ∙ ap (λ x. options_from (flag_in (f (codes "until-eof"))) (number_in 1 65535 (f (codes "port"))) (plan_of f) x trace log name) s
-    ∙ ap (λ x. options_from (flag_in (f (codes "until-eof"))) (number_in 1 65535 (f (codes "port"))) (plan_of f) (site_in f names) x log name) t
-    ∙ ap (λ x. options_from (flag_in (f (codes "until-eof"))) (number_in 1 65535 (f (codes "port"))) (plan_of f) (site_in f names) (f (codes "trace")) x name) g
-    ∙ ap (options_from (flag_in (f (codes "until-eof"))) (number_in 1 65535 (f (codes "port"))) (plan_of f) (site_in f names) (f (codes "trace")) (flag_in (f (codes "log")))) n
+pub options_so : (f : Text → Option Text) (names : Option (List Text)) (beside : Beside) (port : Option ℕ) (plan : Option ServePlan) (site : Option Site) (name : Option (Option Text))
+    → beside ≡ beside_of f → port ≡ number_in 1 65535 (f (codes "port")) → plan ≡ plan_of f → site ≡ site_in f names → name ≡ named_in (f (codes "name"))
+    → options_from beside port plan site name ≡ options_of f names
+options_so f names beside port plan site name b p l s n =
+    ap (λ x. options_from x port plan site name) b
+    ∙ ap (λ x. options_from (beside_of f) x plan site name) p
+    ∙ ap (λ x. options_from (beside_of f) (number_in 1 65535 (f (codes "port"))) x site name) l
+    ∙ ap (λ x. options_from (beside_of f) (number_in 1 65535 (f (codes "port"))) (plan_of f) x name) s
+    ∙ ap (options_from (beside_of f) (number_in 1 65535 (f (codes "port"))) (plan_of f) (site_in f names)) n
 
 -- without a fault, the options are those of the rows
 pub by_rows : (f : Found) (kinds : Kinds) (rows : List Row) → kinds ≡ [] → rows_of f ≡ rows
@@ -79,19 +97,14 @@ by_rows f kinds rows none are =
     let reads : (id : Text) → value id ≡ first id = λ id. first_value-rows f id ∙ ap (first_of id) are in
     let named : option_map raw_values (matched_of f (codes "xmpp")) ≡ all_of (codes "xmpp") rows = raw_values-rows f (codes "xmpp") ∙ ap (all_of (codes "xmpp")) are in
     let names : Option (List Text) = all_of (codes "xmpp") rows in
-    let eof = codes "until-eof" in
     let port = codes "port" in
-    let trace = codes "trace" in
-    let log = codes "log" in
     let name = codes "name" in
     ap (options_of value) named
-    ∙ ap (λ e. options_from (flag_in e) (number_in 1 65535 (value port)) (plan_of value) (site_in value names) (value trace) (flag_in (value log)) (named_in (value name))) (reads eof)
-    ∙ ap (λ p. options_from (flag_in (first eof)) (number_in 1 65535 p) (plan_of value) (site_in value names) (value trace) (flag_in (value log)) (named_in (value name))) (reads port)
-    ∙ ap (λ plan. options_from (flag_in (first eof)) (number_in 1 65535 (first port)) plan (site_in value names) (value trace) (flag_in (value log)) (named_in (value name))) (plan_reads value first reads)
-    ∙ ap (λ site. options_from (flag_in (first eof)) (number_in 1 65535 (first port)) (plan_of first) site (value trace) (flag_in (value log)) (named_in (value name))) (site_reads value first reads names)
-    ∙ ap (λ t. options_from (flag_in (first eof)) (number_in 1 65535 (first port)) (plan_of first) (site_in first names) t (flag_in (value log)) (named_in (value name))) (reads trace)
-    ∙ ap (λ l. options_from (flag_in (first eof)) (number_in 1 65535 (first port)) (plan_of first) (site_in first names) (first trace) (flag_in l) (named_in (value name))) (reads log)
-    ∙ ap (λ n. options_from (flag_in (first eof)) (number_in 1 65535 (first port)) (plan_of first) (site_in first names) (first trace) (flag_in (first log)) (named_in n)) (reads name)
+    ∙ ap (λ b. options_from b (number_in 1 65535 (value port)) (plan_of value) (site_in value names) (named_in (value name))) (beside_reads value first reads)
+    ∙ ap (λ p. options_from (beside_of first) (number_in 1 65535 p) (plan_of value) (site_in value names) (named_in (value name))) (reads port)
+    ∙ ap (λ plan. options_from (beside_of first) (number_in 1 65535 (first port)) plan (site_in value names) (named_in (value name))) (plan_reads value first reads)
+    ∙ ap (λ site. options_from (beside_of first) (number_in 1 65535 (first port)) (plan_of first) site (named_in (value name))) (site_reads value first reads names)
+    ∙ ap (λ n. options_from (beside_of first) (number_in 1 65535 (first port)) (plan_of first) (site_in first names) (named_in n)) (reads name)
     ∙ sym (ap (λ k. options_by k rows) none)
 
 pub wanted_so : {E : Type 0} (result : Result Wanted E) (found options : Option ServeOptions) → found ≡ options → IfOk result (λ wanted. options_wanted wanted ≡ found)

@@ -26,29 +26,29 @@ no_option : fault_of serve_app (codes "serve" ∷ codes "--host" ∷ codes "h" �
 unfolding clap_on_literals
 no_option = refl
 
-usual : options_in (codes "serve" ∷ codes "--port" ∷ codes "5280" ∷ []) ≡ Some (record { port = 5280; until_eof = false; plan = record { workers = 8; connections = 0; limits = record { live = 256; openings = 1048576; journal = 16777216; gap_waits = 1 }; «open» = None; incoming = 67108864 }; site = usual_site 5222; trace = None; log = false; name = None })
+usual : options_in (codes "serve" ∷ codes "--port" ∷ codes "5280" ∷ []) ≡ Some (record { port = 5280; until_eof = false; plan = record { workers = 8; connections = 0; limits = record { live = 256; openings = 1048576; journal = 16777216; gap_waits = 1 }; «open» = None; incoming = 67108864 }; site = usual_site 5222; trace = None; log = false; name = None; journal = None })
 unfolding clap_on_literals options_in
 usual = refl
 
-all_named : options_in (codes "serve" ∷ codes "--connections=2" ∷ codes "--port=1" ∷ codes "--workers" ∷ codes "64" ∷ []) ≡ Some (record { port = 1; until_eof = false; plan = record { workers = 64; connections = 2; limits = record { live = 256; openings = 1048576; journal = 16777216; gap_waits = 1 }; «open» = None; incoming = 67108864 }; site = usual_site 5222; trace = None; log = false; name = None })
+all_named : options_in (codes "serve" ∷ codes "--connections=2" ∷ codes "--port=1" ∷ codes "--workers" ∷ codes "64" ∷ []) ≡ Some (record { port = 1; until_eof = false; plan = record { workers = 64; connections = 2; limits = record { live = 256; openings = 1048576; journal = 16777216; gap_waits = 1 }; «open» = None; incoming = 67108864 }; site = usual_site 5222; trace = None; log = false; name = None; journal = None })
 unfolding clap_on_literals options_in
 all_named = refl
 
-limit_named : options_in (codes "serve" ∷ codes "--port=1" ∷ codes "--journal-limit" ∷ codes "65536" ∷ []) ≡ Some (record { port = 1; until_eof = false; plan = record { workers = 8; connections = 0; limits = record { live = 256; openings = 1048576; journal = 65536; gap_waits = 1 }; «open» = None; incoming = 67108864 }; site = usual_site 5222; trace = None; log = false; name = None })
+limit_named : options_in (codes "serve" ∷ codes "--port=1" ∷ codes "--journal-limit" ∷ codes "65536" ∷ []) ≡ Some (record { port = 1; until_eof = false; plan = record { workers = 8; connections = 0; limits = record { live = 256; openings = 1048576; journal = 65536; gap_waits = 1 }; «open» = None; incoming = 67108864 }; site = usual_site 5222; trace = None; log = false; name = None; journal = None })
 unfolding clap_on_literals options_in
 limit_named = refl
 
-with_input : options_in (codes "serve" ∷ codes "--until-eof" ∷ codes "--port=1" ∷ []) ≡ Some (record { port = 1; until_eof = true; plan = record { workers = 8; connections = 0; limits = record { live = 256; openings = 1048576; journal = 16777216; gap_waits = 1 }; «open» = None; incoming = 67108864 }; site = usual_site 5222; trace = None; log = false; name = None })
+with_input : options_in (codes "serve" ∷ codes "--until-eof" ∷ codes "--port=1" ∷ []) ≡ Some (record { port = 1; until_eof = true; plan = record { workers = 8; connections = 0; limits = record { live = 256; openings = 1048576; journal = 16777216; gap_waits = 1 }; «open» = None; incoming = 67108864 }; site = usual_site 5222; trace = None; log = false; name = None; journal = None })
 unfolding clap_on_literals options_in
 with_input = refl
 
 limits_named : options_in (codes "serve" ∷ codes "--port=1" ∷ codes "--sessions=65536" ∷ codes "--openings=4294967295" ∷ codes "--open=1" ∷ codes "--incoming=1048576" ∷ codes "--trace=t" ∷ [])
-    ≡ Some (record { port = 1; until_eof = false; plan = record { workers = 8; connections = 0; limits = record { live = 65536; openings = 4294967295; journal = 16777216; gap_waits = 1 }; «open» = Some 1; incoming = 1048576 }; site = usual_site 5222; trace = Some (codes "t"); log = false; name = None })
+    ≡ Some (record { port = 1; until_eof = false; plan = record { workers = 8; connections = 0; limits = record { live = 65536; openings = 4294967295; journal = 16777216; gap_waits = 1 }; «open» = Some 1; incoming = 1048576 }; site = usual_site 5222; trace = Some (codes "t"); log = false; name = None; journal = None })
 unfolding clap_on_literals options_in
 limits_named = refl
 
 gap_waits_named : options_in (codes "serve" ∷ codes "--port=1" ∷ codes "--gap-waits=10" ∷ [])
-    ≡ Some (record { port = 1; until_eof = false; plan = record { workers = 8; connections = 0; limits = record { live = 256; openings = 1048576; journal = 16777216; gap_waits = 10 }; «open» = None; incoming = 67108864 }; site = usual_site 5222; trace = None; log = false; name = None })
+    ≡ Some (record { port = 1; until_eof = false; plan = record { workers = 8; connections = 0; limits = record { live = 256; openings = 1048576; journal = 16777216; gap_waits = 10 }; «open» = None; incoming = 67108864 }; site = usual_site 5222; trace = None; log = false; name = None; journal = None })
 unfolding clap_on_literals options_in
 gap_waits_named = refl
 
@@ -100,11 +100,15 @@ port_0 : options_in (codes "serve" ∷ codes "--port" ∷ codes "0" ∷ []) ≡ 
 unfolding clap_on_literals options_in
 port_0 = refl
 
-telling_named : options_in (codes "serve" ∷ codes "--port=1" ∷ codes "--log" ∷ codes "--name=node-12" ∷ []) ≡ Some (record { port = 1; until_eof = false; plan = record { workers = 8; connections = 0; limits = record { live = 256; openings = 1048576; journal = 16777216; gap_waits = 1 }; «open» = None; incoming = 67108864 }; site = usual_site 5222; trace = None; log = true; name = Some (codes "node-12") })
+telling_named : options_in (codes "serve" ∷ codes "--port=1" ∷ codes "--log" ∷ codes "--name=node-12" ∷ []) ≡ Some (record { port = 1; until_eof = false; plan = record { workers = 8; connections = 0; limits = record { live = 256; openings = 1048576; journal = 16777216; gap_waits = 1 }; «open» = None; incoming = 67108864 }; site = usual_site 5222; trace = None; log = true; name = Some (codes "node-12"); journal = None })
 unfolding clap_on_literals options_in
 telling_named = refl
 
-name_of_fourteen : options_in (codes "serve" ∷ codes "--port=1" ∷ codes "--name" ∷ codes "a-------------" ∷ []) ≡ Some (record { port = 1; until_eof = false; plan = record { workers = 8; connections = 0; limits = record { live = 256; openings = 1048576; journal = 16777216; gap_waits = 1 }; «open» = None; incoming = 67108864 }; site = usual_site 5222; trace = None; log = false; name = Some (codes "a-------------") })
+journal_named : options_in (codes "serve" ∷ codes "--port=1" ∷ codes "--journal" ∷ codes "sessions.journal" ∷ []) ≡ Some (record { port = 1; until_eof = false; plan = record { workers = 8; connections = 0; limits = record { live = 256; openings = 1048576; journal = 16777216; gap_waits = 1 }; «open» = None; incoming = 67108864 }; site = usual_site 5222; trace = None; log = false; name = None; journal = Some (codes "sessions.journal") })
+unfolding clap_on_literals options_in
+journal_named = refl
+
+name_of_fourteen : options_in (codes "serve" ∷ codes "--port=1" ∷ codes "--name" ∷ codes "a-------------" ∷ []) ≡ Some (record { port = 1; until_eof = false; plan = record { workers = 8; connections = 0; limits = record { live = 256; openings = 1048576; journal = 16777216; gap_waits = 1 }; «open» = None; incoming = 67108864 }; site = usual_site 5222; trace = None; log = false; name = Some (codes "a-------------"); journal = None })
 unfolding clap_on_literals options_in
 name_of_fourteen = refl
 

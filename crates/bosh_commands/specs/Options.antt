@@ -11,6 +11,7 @@ use Rattle.session_table.specs.declared.opening.Limits.{Limits}
 use Rattle.server_name.specs.Names.{name_read}
 use Rattle.bosh_commands.specs.Site.{site_of}
 use Rattle.bosh_commands.specs.declared.site.Site.{Site}
+use Rattle.bosh_commands.specs.declared.options.Beside.{Beside}
 use Rattle.bosh_commands.specs.declared.options.ServeOptions.{ServeOptions}
 use Rattle.bosh_commands.specs.declared.options.Wanted.{Wanted}
 use Rattle.bosh_commands.specs.declared.options.Wanted.TheVariants as wanted
@@ -65,9 +66,14 @@ with_site app =
     (usual_rule (codes "xmpp-port") (codes "5222")))
     (switch_rule (codes "test-hosts"))
 
--- and of what it tells of itself
+-- and of what it tells of itself, and where it keeps its sessions
 abbrev pub with_telling : App → App
-with_telling app = with_rule (with_rule (with_rule app (optional_rule (codes "trace"))) (switch_rule (codes "log"))) (optional_rule (codes "name"))
+with_telling app =
+    with_rule (with_rule (with_rule (with_rule app
+    (optional_rule (codes "trace")))
+    (switch_rule (codes "log")))
+    (optional_rule (codes "name")))
+    (optional_rule (codes "journal"))
 
 abbrev pub serve_app : App
 serve_app = with_telling (with_site (with_limits (with_counts (with_version (new_app (codes "serve"))))))
@@ -138,20 +144,29 @@ abbrev pub named_in : Option Text → Option (Option Text)
 named_in None = Some None
 named_in (Some text) = named_by (name_read text)
 
-abbrev pub options_from : Bool → Option ℕ → Option ServePlan → Option Site → Option Text → Bool → Option (Option Text) → Option ServeOptions
-options_from until_eof (Some port) (Some plan) (Some site) trace log (Some name) =
-    Some (record { port = port; until_eof = until_eof; plan = plan; site = site; trace = trace; log = log; name = name })
-options_from until_eof (Some port) (Some plan) (Some site) trace log None = None
-options_from until_eof (Some port) (Some plan) None trace log name = None
-options_from until_eof (Some port) None site trace log name = None
-options_from until_eof None plan site trace log name = None
+-- what the texts of these options say, none of which can be wrong: whether the server ends with its input, whether it writes a log, where it
+-- writes traces, and where it keeps its sessions
+abbrev pub beside_of : (Text → Option Text) → Beside
+beside_of text_of = record {
+  until_eof = flag_in (text_of (codes "until-eof"));
+  log = flag_in (text_of (codes "log"));
+  trace = text_of (codes "trace");
+  journal = text_of (codes "journal");
+}
 
--- what the texts of the options say, and these names of domains: the port from 1 to 65535, how it runs, its hosts, whether it ends with its
--- input, where it writes traces, whether it writes a log, and its name
+abbrev pub options_from : Beside → Option ℕ → Option ServePlan → Option Site → Option (Option Text) → Option ServeOptions
+options_from b (Some port) (Some plan) (Some site) (Some name) =
+    Some (record { port = port; until_eof = b.until_eof; plan = plan; site = site; trace = b.trace; log = b.log; name = name; journal = b.journal })
+options_from b (Some port) (Some plan) (Some site) None = None
+options_from b (Some port) (Some plan) None name = None
+options_from b (Some port) None site name = None
+options_from b None plan site name = None
+
+-- what the texts of the options say, and these names of domains: the port from 1 to 65535, how it runs, its hosts, its name, and what can't be
+-- wrong
 abbrev pub options_of : (Text → Option Text) → Option (List Text) → Option ServeOptions
 options_of text_of names =
-    options_from (flag_in (text_of (codes "until-eof"))) (number_in 1 65535 (text_of (codes "port"))) (plan_of text_of) (site_in text_of names) (text_of (codes "trace"))
-    (flag_in (text_of (codes "log"))) (named_in (text_of (codes "name")))
+    options_from (beside_of text_of) (number_in 1 65535 (text_of (codes "port"))) (plan_of text_of) (site_in text_of names) (named_in (text_of (codes "name")))
 
 -- options where the parser of words has no fault to find
 abbrev pub options_by : Kinds → List Row → Option ServeOptions

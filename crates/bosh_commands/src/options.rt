@@ -1,7 +1,7 @@
 // The words of the command `serve`.
 ghost use Rattle.std.specs.Prelude.{◌≡◌, ◌≢◌, ◌≤◌, ◌⊎◌, ℕ, true, false, IfOk, IfSome, None, codes, map, option_map, string_bytes};
 ghost use Rattle.clap.specs.Words.{app_of, first_value, found_of, kind_of, matched_of, raw_values, rule_of};
-ghost use Rattle.bosh_commands.specs.Options.{ShowsWhatIsAsked, flag_in, is_shown, limits_from, limits_of, named_in, number_in, open_in, optional_rule, options_from, options_in, options_of, options_wanted, plain_number, plan_from, plan_of, serve_app, serve_faults, site_in, switch_rule, usual_rule, with_counts, with_limits, with_site, with_telling};
+ghost use Rattle.bosh_commands.specs.Options.{ShowsWhatIsAsked, beside_of, flag_in, is_shown, limits_from, limits_of, named_in, number_in, open_in, optional_rule, options_from, options_in, options_of, options_wanted, plain_number, plan_from, plan_of, serve_app, serve_faults, site_in, switch_rule, usual_rule, with_counts, with_limits, with_site, with_telling};
 
 use crate::site::{Site, site_of};
 use bosh_server::ServePlan;
@@ -26,6 +26,17 @@ pub struct ServeOptions {
     pub log: bool,
     /// With which the names of its sessions begin, where it has one.
     pub name: Option<ServerName>,
+    /// The file that its sessions are kept in, where they are.
+    pub journal: Option<Text>,
+}
+
+/// What the words say that can't be wrong, beside what can.
+#[derive(Drop)]
+pub struct Beside {
+    pub until_eof: bool,
+    pub log: bool,
+    pub trace: Option<Text>,
+    pub journal: Option<Text>,
 }
 
 /// What the words ask for.
@@ -233,7 +244,13 @@ fn with_telling<'a>(alloc: Global, command: Command<'a>) -> Result<Command<'a>, 
         "NAME",
         "The name of this server, with which the names of its sessions begin: 1 to 14 letters, digits and -, a letter first",
     );
-    command.arg(trace)?.arg(log)?.arg(name)
+    let journal = optional(
+        alloc,
+        "journal",
+        "FILE",
+        "Keep the sessions in this file: those that it has go on, and nothing is answered or handed on before it is stored there",
+    );
+    command.arg(trace)?.arg(log)?.arg(name)?.arg(journal)
 }
 
 fn serve_command<'a>(alloc: Global) -> Result<Command<'a>, AllocError>
@@ -291,14 +308,27 @@ fn wanted_by(alloc: Global, matches: &ArgMatches<'_>) -> Result<Wanted, AllocErr
 fn options(alloc: Global, matches: &ArgMatches<'_>) -> Result<Option<ServeOptions>, AllocError>
     ensures { IfOk result (λ options. options ≡ options_of (λ id. first_value (found_of matches.now) id) (option_map raw_values (matched_of (found_of matches.now) (codes "xmpp")))) }
 {
-    let until_eof = flag(matches.get_str("until-eof"));
+    let beside = beside_in(alloc, matches)?;
     let port = number(matches.get_str("port"), 1, PORTS);
     let plan = plan(matches);
     let site = site(alloc, matches)?;
-    let trace = text_in(alloc, matches.get_str("trace"))?;
-    let log = flag(matches.get_str("log"));
     let name = named_in(matches.get_str("name"));
-    Ok(options_from(until_eof, port, plan, site, trace, log, name))
+    Ok(options_from(beside, port, plan, site, name))
+}
+
+fn beside_in(alloc: Global, matches: &ArgMatches<'_>) -> Result<Beside, AllocError>
+    ensures { IfOk result (λ beside. beside ≡ beside_of (λ id. first_value (found_of matches.now) id)) }
+{
+    let until_eof = flag(matches.get_str("until-eof"));
+    let log = flag(matches.get_str("log"));
+    let trace = text_in(alloc, matches.get_str("trace"))?;
+    let journal = text_in(alloc, matches.get_str("journal"))?;
+    Ok(Beside {
+        until_eof,
+        log,
+        trace,
+        journal,
+    })
 }
 
 fn plan(matches: &ArgMatches<'_>) -> Option<ServePlan>
@@ -411,17 +441,21 @@ fn site(alloc: Global, matches: &ArgMatches<'_>) -> Result<Option<Site>, AllocEr
 }
 
 fn options_from(
-    until_eof: bool,
+    beside: Beside,
     port: Option<u32>,
     plan: Option<ServePlan>,
     site: Option<Site>,
-    trace: Option<Text>,
-    log: bool,
     name: Option<Option<ServerName>>,
 ) -> Option<ServeOptions>
     requires { IfSome port (λ port. port ≤ 65535) }
-    ensures { result ≡ options_from until_eof port plan site trace log name }
+    ensures { result ≡ options_from beside port plan site name }
 {
+    let Beside {
+        until_eof,
+        log,
+        trace,
+        journal,
+    } = beside;
     let port = port?;
     let plan = plan?;
     let site = site?;
@@ -434,6 +468,7 @@ fn options_from(
         trace,
         log,
         name,
+        journal,
     })
 }
 

@@ -1,6 +1,7 @@
 // The program: it hands its words and the real streams to the top calls.
 #![tactic(auto)]
 
+mod keeping;
 mod logging;
 mod named;
 mod serving;

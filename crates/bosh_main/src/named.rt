@@ -2,11 +2,11 @@
 ghost use Rattle.journal_store.specs.Disk.{CountsDone, CountsLength};
 
 use journal_store::{Disk, DiskDone, FileDisk, Length};
-use std::fs::{File, OpenOptions};
+use std::fs::{File, OpenOptions, TryLockError};
 use std::rt::Files;
 
-/// A disk over the file of a name. The first call opens it, and makes it where it isn't there; where that fails the call fails, and
-/// the next one tries again. It tells nothing of its content.
+/// A disk over the file of a name. The first call opens it, and makes it where it isn't there; where that fails, or another process has it, the
+/// call fails, and the next one tries again. It tells nothing of its content.
 #[derive(Drop)]
 pub struct NamedDisk<R: Files<File = File> + Copy + Drop> {
     rt: R,
@@ -26,6 +26,13 @@ impl<R: Files<File = File> + Copy + Drop> NamedDisk<R> {
     }
 }
 
+/// A disk over the file of a name, which is made where it isn't there. None where that fails, or another process has it.
+pub fn open_named<R: Files<File = File>>(rt: &R, name: &str) -> Option<FileDisk> {
+    let mut file = None;
+    open(rt, name, &mut file);
+    file
+}
+
 // Opens the file, if it isn't open.
 fn open<R: Files<File = File>>(rt: &R, name: &str, file: &mut Option<FileDisk>) {
     if file.is_some() {
@@ -38,9 +45,17 @@ fn open<R: Files<File = File>>(rt: &R, name: &str, file: &mut Option<FileDisk>) 
         .truncate(false)
         .open(rt, name);
     if let Ok(opened) = opened {
-        if is_in_folder(rt, name) {
+        if is_free(&opened) && is_in_folder(rt, name) {
             *file = Some(FileDisk::new(opened));
         }
+    }
+}
+
+// Whether no other process has the file. From now on this one has it, where files can be locked.
+fn is_free(file: &File) -> bool {
+    match file.try_lock() {
+        Err(TryLockError::WouldBlock) => false,
+        Err(TryLockError::Error(_)) | Ok(()) => true,
     }
 }
 

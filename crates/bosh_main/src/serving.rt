@@ -1,21 +1,26 @@
 // The command `serve` over the real network, with the real clock, bell, threads and names.
 
+use crate::keeping::{Keeps, Kept, UntilLost, bring_back, held_hosts, queue_in};
 use crate::logging::{start_log_to, watch_of};
 use crate::streams::{start_teller, stream_end};
 use crate::tracing::{queue_of, start_tracing_to, traced_hosts};
-use bosh_commands::{NET_FAULT, NO_MEMORY, ServeOptions, options_to_serve, run_serve_command};
+use bosh_commands::{
+    NET_FAULT, NO_MEMORY, STORE_FAULT, ServeOptions, options_to_serve, run_serve_command,
+};
 use bosh_ports::{Bell, Polled, QuietSource, RealBell, Sink, give_all};
 use bosh_server::{Outside, Roll};
-use bosh_types::{Stanzas, Text};
+use bosh_types::{Moment, Stanzas, Text};
 use client_run::Ready;
 use connection_loops::{Pollers, ReadyPollers};
 use front_net::{FrontNetwork, room_for_links};
+use serve_journal::{HeldBackend, HeldNetwork, LaterClock};
 use serve_log::Logging;
 use serve_trace::{TracedBackend, TracedNetwork};
 use server_name::NamedNames;
 use server_ports::{Names, Network, RealClock, RealNames, Spawner, ThreadSpawner, system_seed};
 use session_pump::Host;
 use std::alloc::{Alloc, AllocError, Global};
+use std::fs::File;
 use std::io::{Eprint, Read};
 use std::net::{Net, TcpListener, TcpStream};
 use std::os::fd::AsRawFd;
@@ -33,7 +38,8 @@ use xmpp_stream::PollLink;
 const FEATURES: &[u8] = b"<stream:features/>";
 
 /// Serves the hosts of the program over the real network. Where the words say that the server ends with its input, a thread of its own
-/// reads that, and is left behind where the server ends before it does. Where they ask for a log another thread writes it to `log`.
+/// reads that, and is left behind where the server ends before it does. Where they ask for a log another thread writes it to `log`, and where they name
+/// a file its sessions go on, another stores what they enter, and the server ends where that fails.
 pub fn serve_for_real<R, I, K, E, L>(
     rt: &R,
     alloc: Global,
@@ -46,7 +52,7 @@ pub fn serve_for_real<R, I, K, E, L>(
 where
     R: Wait
         + Threads
-        + Files
+        + Files<File = File>
         + Clock
         + Eprint
         + Alloc
@@ -66,24 +72,35 @@ where
     if let Some(options) = &options {
         tell_workers(rt, alloc, options.plan.workers, errors);
     }
-    if !options.as_ref().is_some_and(|options| options.until_eof) {
+    let until_eof = options.as_ref().is_some_and(|options| options.until_eof);
+    let keeps = match bring_back(rt, alloc, &options, sink)? {
+        Kept::Ready(keeps) => keeps,
+        Kept::Status(status) => return Ok(status),
+    };
+    let queue = queue_in(&keeps.keeping)?;
+    let setup = Setup::new(rt, alloc, options, keeps, log)?;
+    if !until_eof && queue.is_none() {
         let mut nothing = QuietSource::new(Vec::new(alloc));
         let net = FrontNetwork::new(*rt, alloc);
-        let setup = Setup::new(rt, alloc, options, log)?;
         return serve_over(rt, alloc, words, setup, &mut nothing, sink, errors, net);
     }
     let stopper = Stopper::new(alloc)?;
-    stop_apart(rt, input, Arc::try_clone(&stopper)?)?;
+    if until_eof {
+        stop_apart(rt, input, Arc::try_clone(&stopper)?)?;
+    }
+    if let Some(queue) = queue {
+        stop_apart(rt, UntilLost::new(*rt, queue), Arc::try_clone(&stopper)?)?;
+    }
     let mut end = EndOfInput::new(*rt, Arc::try_clone(&stopper)?);
     let net = StoppableNetwork::new(*rt, alloc, stopper);
-    let setup = Setup::new(rt, alloc, options, log)?;
     serve_over(rt, alloc, words, setup, &mut end, sink, errors, net)
 }
 
-/// How a server is to run, and the thread that writes its log, where the words ask for one.
+/// How a server is to run, what it begins with, and the thread that writes its log, where the words ask for one.
 #[derive(Drop)]
 struct Setup {
     options: Option<ServeOptions>,
+    keeps: Keeps,
     logging: Option<Logging>,
 }
 
@@ -92,17 +109,22 @@ impl Setup {
         rt: &R,
         alloc: Global,
         options: Option<ServeOptions>,
+        keeps: Keeps,
         log: L,
     ) -> Result<Setup, AllocError>
     where
-        R: Wait + Threads + Clock + Files + Copy + Send + Drop + 'static,
+        R: Wait + Threads + Clock + Files<File = File> + Copy + Send + Drop + 'static,
         R::File: Send,
         R::Dir: Send,
         L: Sink + Send + Drop + 'static,
     {
         let is_wanted = options.as_ref().is_some_and(|options| options.log);
         let logging = start_log_to(rt, alloc, is_wanted, log)?;
-        Ok(Setup { options, logging })
+        Ok(Setup {
+            options,
+            keeps,
+            logging,
+        })
     }
 }
 
@@ -135,7 +157,7 @@ fn serve_over<R, I, K, E, N>(
 where
     R: Wait
         + Threads
-        + Files
+        + Files<File = File>
         + Clock
         + Eprint
         + Alloc
@@ -160,7 +182,11 @@ where
     let mut teller = None;
     let mut directory = None;
     let mut name = None;
-    let Setup { options, logging } = setup;
+    let Setup {
+        options,
+        keeps,
+        logging,
+    } = setup;
     if let Some(options) = options {
         directory = options.trace;
         name = options.name;
@@ -183,13 +209,22 @@ where
         }
         teller = Some(start_teller(rt, desks, bell.share()?)?);
     }
+    let Keeps {
+        restored,
+        keeping,
+        stood,
+    } = keeps;
     let tracing = start_tracing_to(rt, alloc, &directory, hosts.as_slice())?;
     let watch = watch_of(&logging)?;
     let hosts = traced_hosts(*rt, alloc, &tracing, &watch, hosts)?;
+    let hosts = held_hosts(alloc, &keeping, hosts)?;
+    let net = TracedNetwork::new(*rt, alloc, net, queue_of(&tracing)?);
     let mut outside = Outside {
-        net: TracedNetwork::new(*rt, alloc, net, queue_of(&tracing)?),
+        net: HeldNetwork::new(net, queue_in(&keeping)?),
         room: room_for_links(rt),
-        clock: RealClock::new(*rt),
+        clock: clock_from(RealClock::new(*rt), stood),
+        restored,
+        keeper: queue_in(&keeping)?,
         bell,
         spawner: ThreadSpawner::new(alloc),
         names: NamedNames::new(alloc, RealNames::new(alloc, seed), name),
@@ -208,10 +243,18 @@ where
         names: _names,
         pollers: _pollers,
         watch: _watch,
+        restored: _restored,
+        keeper: _keeper,
         roll: _roll,
         pump,
     } = outside;
     drop(pump);
+    let mut status = status;
+    if let Some(keeping) = keeping {
+        if !keeping.end(rt) {
+            status = STORE_FAULT;
+        }
+    }
     spawner.join_all(rt);
     if let Some(teller) = teller {
         teller.end(rt);
@@ -223,6 +266,14 @@ where
         logging.end(rt);
     }
     Ok(status)
+}
+
+/// The clock, or one that goes on where the sessions of a file stood.
+fn clock_from<C: server_ports::Clock + Drop>(clock: C, stood: Option<Moment>) -> LaterClock<C> {
+    match stood {
+        Some(stood) => LaterClock::from(clock, stood),
+        None => LaterClock::same(clock),
+    }
 }
 
 /// Serves these hosts, of which each has a back end of one kind or one over TCP. Over any outside of these, so that whether they may cross
@@ -242,9 +293,9 @@ fn serve_hosts<R, I, K, E, N, C, B, S, M, Q, A, D, W, T>(
         M,
         Q,
         N::Link,
-        TracedBackend<R, Either<A, StreamBackend<D, W, T>>>,
+        HeldBackend<TracedBackend<R, Either<A, StreamBackend<D, W, T>>>>,
     >,
-    hosts: Vec<Host<TracedBackend<R, Either<A, StreamBackend<D, W, T>>>>>,
+    hosts: Vec<Host<HeldBackend<TracedBackend<R, Either<A, StreamBackend<D, W, T>>>>>>,
 ) -> u8
 where
     R: Wait + Threads + Copy + Send + Drop + 'static,
@@ -265,6 +316,36 @@ where
     D::Link: PollLink + Send + Drop + 'static,
     W: Watch<D::Link> + Send + Drop + 'static,
     T: server_ports::Clock + Send + Drop + 'static,
+{
+    serve_held(rt, alloc, words, input, sink, errors, outside, hosts)
+}
+
+// Serves these hosts, of which each is passed what is stored. Over any back end within, as above.
+fn serve_held<R, I, K, E, N, C, B, S, M, Q, H>(
+    rt: &R,
+    alloc: Global,
+    words: &[String],
+    input: &mut I,
+    sink: &mut K,
+    errors: &mut E,
+    outside: &mut Outside<N, C, B, S, M, Q, N::Link, HeldBackend<H>>,
+    hosts: Vec<Host<HeldBackend<H>>>,
+) -> u8
+where
+    R: Wait + Threads + Copy + Send + Drop + 'static,
+    I: Ready,
+    K: Sink,
+    E: Sink,
+    N: Network,
+    N::Link: Polled + Send + Drop + 'static,
+    C: server_ports::Clock + Send + Drop + 'static,
+    B: Bell + Send + Drop + 'static,
+    S: Spawner,
+    M: Names + Send + Drop + 'static,
+    Q: Pollers<N::Link>,
+    Q::Poller: Send + Drop + 'static,
+    Q::Rouse: Send + Sync + Drop + 'static,
+    H: Backend + Send + 'static,
 {
     run_serve_command(rt, alloc, words, input, sink, errors, outside, hosts)
 }

@@ -20,6 +20,9 @@ pub struct BellKey(pub u64);
 
 impl BellKey {
     pub const PUMP: BellKey = BellKey(0);
+
+    /// Of those who wait until entries of sessions are on a disk.
+    pub const STORED: BellKey = BellKey(u64::MAX);
 }
 
 /// A bell, and how many waits at it ended silent. Nothing is said of how long a wait takes, nor of which rings end it.

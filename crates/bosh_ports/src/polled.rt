@@ -67,6 +67,12 @@ pub trait Polled {
         ensures faults { faults self.new ≡ faults self.old }
         ensures waits { waits self.new ≡ waits self.old };
 
+    /// Whether it had room when it was last given bytes, and took none, since something else has to happen first. Who waits for that waits for
+    /// a ring with `BellKey::STORED`.
+    fn is_held(&self) -> bool {
+        false
+    }
+
     /// Tells the peer that nothing more will be taken or given. What was given stays given, and no fault is counted.
     fn close(&mut self)
         ensures closed { Closes (closed self.old) (closed self.new) }

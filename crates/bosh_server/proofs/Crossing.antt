@@ -1,12 +1,17 @@
 -- What of a server may cross to another thread, type by type.
 use denote.RattleType.{RattleType}
 use denote.Param.Send.{IsSend, IsSync}
-use Rattle.connection_loops.proofs.Crossing.{door_send, door_sync}
+use Rattle.connection_loops.proofs.Crossing.{door_send, door_sync, inbox_send, inbox_sync, looped}
 use Rattle.session_table.proofs.Crossing.{crosses, directory, purse}
 use Rattle.server_watch.proofs.Crossing.{watch_send, watch_sync}
+use Rattle.bosh_types.specs.contracts.shared.SharedText as SharedText
+use Rattle.entry_queue.specs.contracts.queue.EntryQueue as EntryQueue
+use Rattle.entry_queue.specs.contracts.queue.Noted as Noted
+use Rattle.session_journal.specs.contracts.entry.Entry as Entry
 use Rattle.bosh_ports.specs.declared.bell.Bell as bells
 use Rattle.bosh_ports.specs.declared.polled.Polled as polls
 use Rattle.server_ports.specs.declared.clock.Clock as clocks
+use Rattle.server_ports.specs.declared.names.Names as makers
 use Rattle.xmpp_backend.specs.declared.backend.Backend as backends
 use Rattle.pause_rules.specs.contracts.due_index.DueIndex as Dues
 use Rattle.session_pump.specs.contracts.hosts.Hosts as Hosts
@@ -21,6 +26,7 @@ use Rattle.bosh_server.specs.contracts.ends.End as End
 use Rattle.bosh_server.specs.contracts.ends.Ends as Ends
 use Rattle.bosh_server.specs.contracts.fates.Fate as Fate
 use Rattle.bosh_server.specs.contracts.fates.Fates as Fates
+use Rattle.bosh_server.specs.contracts.looping.LoopJob as LoopJob
 use Rattle.bosh_server.specs.contracts.pump_end.PumpEnd as PumpEnd
 use Rattle.bosh_server.specs.contracts.pump_end.PumpHome as PumpHome
 use Rattle.bosh_server.specs.contracts.pumping.PumpPost as PumpPost
@@ -28,6 +34,7 @@ use Rattle.bosh_server.specs.contracts.seat.ConnectionSeat as Seat
 use Rattle.bosh_server.specs.contracts.seat.LoopTools as Tools
 use Rattle.bosh_server.specs.contracts.seat.Stall as Stall
 use Rattle.bosh_server.specs.contracts.served.Served as Served
+use Rattle.bosh_server.specs.contracts.stored.StoredJob as StoredJob
 use Rattle.bosh_server.specs.contracts.yard.Post as Post
 use Rattle.bosh_server.specs.contracts.yard.Yard as Yard
 use Rattle.serve_loop.specs.contracts.polled_connection.PolledConnection as Connection
@@ -96,8 +103,8 @@ stall J n name = search (post, crosses) depth 200 fits 100000
 
 -- what a loop has for its connections
 pub tools : (J R L C B M W : RattleType) (n : naming.Ghosts J.Denot) (p : polls.Ghosts L.Denot) (k : clocks.Ghosts C.Denot) (g : bells.Ghosts B.Denot)
-    → IsSend J → IsSend R → IsSend C → IsSend B → IsSend M → IsSend W → IsSync W → IsSend (Tools.the_row J R L C B M W n p k g)
-tools J R L C B M W n p k g name runtime clock bell names rouse shared =
+    (m : makers.Ghosts M.Denot) → IsSend J → IsSend R → IsSend C → IsSend B → IsSend M → IsSend W → IsSync W → IsSend (Tools.the_row J R L C B M W n p k g m)
+tools J R L C B M W n p k g m name runtime clock bell names rouse shared =
     search (stall, serving, fates, loop_bell, directory, yard_send, yard_sync, crosses) depth 200 fits 100000
 
 -- a pump, before it begins and when it has ended
@@ -128,3 +135,28 @@ module _ (J E : RattleType) (n : naming.Ghosts J.Denot) (b : backends.Ghosts E.D
 
   pub pump_post : IsSend J → IsSend E → IsSend (PumpPost.the_row J E n b)
   pump_post name end = search (hosts, directory, yard_send, yard_sync, pump_home_send, pump_home_sync, crosses) depth 200 fits 100000
+
+-- entries on their way to a disk, and who tells that they are stored
+shared_text : IsSend (SharedText.the_field).row
+shared_text = search (crosses) depth 200 fits 100000
+
+entry : IsSend Entry.the_row
+entry = search (shared_text, crosses) depth 200 fits 100000
+
+noted : IsSend Noted.the_row
+noted = search (entry, crosses) depth 200 fits 100000
+
+queue_send : IsSend EntryQueue.the_row
+queue_send = search (noted, crosses) depth 200 fits 100000
+
+queue_sync : IsSync EntryQueue.the_row
+queue_sync = search (noted, crosses) depth 200 fits 100000
+
+pub stored_job : (R B W : RattleType) → IsSend R → IsSend B → IsSend W → IsSync W → IsSend (StoredJob.the_row R B W)
+stored_job R B W runtime bell rouse shared = search (queue_send, queue_sync, doors_send, doors_sync, crosses) depth 200 fits 100000
+
+-- a loop with all that it has
+pub loop_job : (J R L C B M P W : RattleType) (n : naming.Ghosts J.Denot) (p : polls.Ghosts L.Denot) (k : clocks.Ghosts C.Denot) (g : bells.Ghosts B.Denot) (m : makers.Ghosts M.Denot)
+    → IsSend J → IsSend R → IsSend L → IsSend C → IsSend B → IsSend M → IsSend P → IsSend W → IsSync W → IsSend (LoopJob.the_row J R L C B M P W n p k g m)
+loop_job J R L C B M P W n p k g m name runtime link clock bell names poller rouse shared =
+    search (looped, seat, tools, ends_send, ends_sync, inbox_send, inbox_sync, crosses) depth 200 fits 100000

@@ -6,6 +6,7 @@ ghost use Rattle.parked_gate.specs.Passes.{IsPassOf, gate_of, known};
 ghost use Rattle.serve_loop.specs.Trail.{setting};
 ghost use Rattle.session_attrs.specs.Serving.{can_serve};
 ghost use Rattle.session_pump.specs.Pumping.{facts_of};
+ghost use Rattle.session_table.specs.Entering.{AreOf};
 
 use crate::bells::{Doors, LoopBell, PumpBell};
 use crate::ends::{Ends, Naming};
@@ -15,10 +16,12 @@ use crate::plan::ServePlan;
 use crate::pump_end::PumpHome;
 use crate::pumping::{PumpJob, PumpPost};
 use crate::seat::LoopTools;
+use crate::stored::StoredJob;
 use crate::yard::Yard;
 use bosh_ports::{Bell, Polled};
 use bosh_types::{HostName, HostNames};
 use connection_loops::{Door, Inbox, Loop, Poller, Pollers, Rouse};
+use entry_queue::EntryQueue;
 use parked_gate::{Gate, Pass};
 use polled_http::Rooms;
 use serve_loop::{Refused, Tools as Serving};
@@ -26,7 +29,7 @@ use server_ports::{Clock, Names};
 use server_watch::Watch;
 use session_attrs::can_serve;
 use session_pump::Hosts;
-use session_table::Directory;
+use session_table::{Directory, Restored};
 use std::alloc::{AllocError, Global};
 use std::marker::PhantomData;
 use std::sync::{Arc, Wait};
@@ -57,20 +60,31 @@ fn push_served(alloc: Global, served: &mut Vec<HostName>, host: HostName) -> Res
     Ok(())
 }
 
-/// A directory of no sessions for these hosts, and a pass of it. The only error is want of memory.
+// The sessions that a server begins with.
+fn first_directory(alloc: Global, restored: Option<Restored>) -> Directory
+    ensures { AreOf 0 result }
+{
+    match restored {
+        Some(Restored { directory }) => directory,
+        None => Directory::new(alloc),
+    }
+}
+
+/// A directory for these hosts, of the sessions that were restored, or of none, and a pass of it. The only error is want of memory.
 pub(crate) fn new_yard<E: Backend>(
     alloc: Global,
     hosts: &Hosts<E>,
     plan: &ServePlan,
     room: u32,
     watch: &Watch,
+    restored: Option<Restored>,
 ) -> Result<(Arc<Yard>, Pass<Directory>), AllocError>
     ensures pass { IfOk result (λ made. IsPassOf (arc_value made.0).directory made.1) }
     ensures hosts { IfOk result (λ made. (arc_value made.0).hosts ≡ filter can_serve (map (λ stand. record { name = stand.host.name; greeting = stand.host.greeting }) hosts.now.stands.items)) }
     ensures limits { IfOk result (λ made. (arc_value made.0).limits ≡ plan.now.limits) }
 {
     let hosts = served_hosts(alloc, hosts.names(alloc)?)?;
-    let Ok((directory, pass)) = Gate::new(alloc, Directory::new(alloc)) else {
+    let Ok((directory, pass)) = Gate::new(alloc, first_directory(alloc, restored)) else {
         return Err(AllocError);
     };
     let yard = Yard::new(alloc, directory, hosts, plan, room, watch)?;
@@ -286,6 +300,22 @@ where
             own,
             bell: self.bell.share()?,
         })
+    }
+
+    /// What rings where entries are stored, if they are. The only error is want of memory.
+    pub(crate) fn stored_job(
+        &self,
+        keeper: &Option<Arc<EntryQueue>>,
+    ) -> Result<Option<StoredJob<R, B, W>>, AllocError> {
+        let Some(keeper) = keeper else {
+            return Ok(None);
+        };
+        Ok(Some(StoredJob {
+            rt: *self.rt,
+            keeper: Arc::try_clone(keeper)?,
+            doors: Arc::try_clone(self.doors)?,
+            bell: self.bell.share()?,
+        }))
     }
 
     /// The pump of these hosts, with this pass, whose end is to be left there. The only error is want of memory.

@@ -20,6 +20,7 @@ mod run;
 mod seat;
 mod served;
 mod starting;
+mod stored;
 mod telling;
 mod yard;
 

@@ -12,7 +12,6 @@ ghost use Rattle.bosh_server.specs.Fates.{IsFate, site_of};
 ghost use Rattle.bosh_server.specs.Runs.{RunsBy, while_last_are_served};
 
 use crate::accepting::{Taken, accept_all};
-use crate::bells::PumpBell;
 use crate::crew::{Inboxes, Tools, doors_of, inboxes_of, new_lanes, new_yard};
 use crate::ends::{Ends, Naming};
 use crate::fates::Roll;
@@ -20,8 +19,9 @@ use crate::looping::{LoopJob, start_loops};
 use crate::outside::{Outside, put_pump};
 use crate::plan::{Ran, ServePlan};
 use crate::pump_end::{PumpEnd, PumpHome};
-use crate::pumping::{PumpJob, PumpPost, last_turn, start_pump_of};
+use crate::pumping::last_turn;
 use crate::starting::Startup;
+use crate::stored::{Behind, start_behind};
 use crate::yard::{Phase, Yard};
 use bosh_ports::{Bell, BellKey, Polled};
 use connection_loops::{Poller, Pollers, Rouse};
@@ -37,8 +37,8 @@ use xmpp_backend::Backend;
 
 /// Serves the links of a network that listens, until it stops or as many came as are planned, by loops, each of which is a thread that steps all
 /// the connections that it was handed where these can go on. Before the answer every link that was accepted was served to its end, every session was
-/// ended, and every job has ended. No link is retired. Want of memory comes before anything is accepted or started. The jobs wait for each other, so
-/// the spawner has to give threads.
+/// ended, and every job has ended, but the one that tells that entries are stored, where they are: that ends with their queue. No link is retired. Want of
+/// memory comes before anything is accepted or started. The jobs wait for each other, so the spawner has to give threads.
 pub fn run_workers<R, N, L, C, B, S, M, Q, E>(
     rt: &R,
     alloc: Global,
@@ -74,7 +74,8 @@ where
     ensures err { OnErr result ((outside.new.net ≡ outside.old.net) × (outside.new.spawner ≡ outside.old.spawner) × (outside.new.roll ≡ outside.old.roll) × (outside.new.pump ≡ outside.old.pump)) }
 {
     let hosts = Hosts::new(alloc, hosts)?;
-    let (yard, pass) = new_yard(alloc, &hosts, plan, outside.room, &outside.watch)?;
+    let restored = outside.restored.take();
+    let (yard, pass) = new_yard(alloc, &hosts, plan, outside.room, &outside.watch, restored)?;
     run_named::<Brand, R, N, L, C, B, S, M, Q, E>(rt, alloc, outside, plan, hosts, yard, pass)
 }
 
@@ -131,6 +132,8 @@ where
     let own = yard.directory.split(rt, &mut pass);
     let last = new_home::<J, E>(alloc)?;
     let pump = tools.pump(own, hosts, &last)?;
+    let teller = tools.stored_job(&outside.keeper)?;
+    let behind = Behind { teller, pump };
     let site = Works {
         alloc,
         yard: &yard,
@@ -139,7 +142,7 @@ where
         last: &last,
         connections: plan.connections,
     };
-    Ok(site.run(rt, outside, &mut pass, pump, loops))
+    Ok(site.run(rt, outside, &mut pass, behind, loops))
 }
 
 // Room for the ends of so many loops. The only error is want of memory.
@@ -185,7 +188,7 @@ impl<J: Naming, L: Polled + Drop, W: Rouse + Drop, E: Backend> Works<'_, J, L, W
         rt: &R,
         outside: &mut Outside<N, C, B, S, M, Q, L, E>,
         pass: &mut Pass<Directory>,
-        pump: PumpJob<R, C, PumpBell<B, W>, PumpPost<J, E>>,
+        behind: Behind<J, R, C, B, W, E>,
         loops: Vec<LoopJob<J, R, L, C, B, M, P, W>>,
     ) -> Ran
     where
@@ -212,7 +215,7 @@ impl<J: Naming, L: Polled + Drop, W: Rouse + Drop, E: Backend> Works<'_, J, L, W
     {
         outside.roll = Roll::new();
         put_pump(&mut outside.pump, None);
-        match start_pump_of(rt, &mut outside.spawner, pump) {
+        match start_behind(rt, &mut outside.spawner, behind) {
             Started::Running => {}
             Started::Refused => return Ran::SpawnFault,
         }

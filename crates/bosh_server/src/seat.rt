@@ -4,6 +4,7 @@ ghost use Rattle.std.specs.Arc.{arc_value};
 ghost use Rattle.parked_gate.specs.Histories.{StartsWith};
 ghost use Rattle.parked_gate.specs.Passes.{IsPassOf, gate_of, known};
 ghost use Rattle.serve_loop.specs.Connections.{IsServedBy, outside};
+ghost use Rattle.serve_loop.specs.Drawing.{OpensAsDrawn};
 ghost use Rattle.serve_loop.specs.Stepping.{Steps};
 ghost use Rattle.serve_loop.specs.Trail.{setting};
 ghost use Rattle.bosh_server.specs.Fates.{IsFate, IsOfHistory, IsSiteOf, StandsSince};
@@ -268,7 +269,10 @@ where
         let is_parked = is_answer(wants);
         self.yard.watch.park(self.is_parked, is_parked);
         self.is_parked = is_parked;
-        wanted(wants)
+        match wants {
+            Wants::Room => wanted_by_link(&self.served.link, &mut tools.serving.bell),
+            _ => wanted(wants),
+        }
     }
 
     // What became of the link is noted.
@@ -318,6 +322,18 @@ where
     }
 }
 
+// What a connection wants whose link takes nothing: room, or what is to be stored first. It looks once more after it is known to wait for that.
+fn wanted_by_link<L: Polled, B: Bell>(link: &L, bell: &mut B) -> Wanted {
+    if !link.is_held() {
+        return Wanted::Link;
+    }
+    bell.tune(BellKey::STORED);
+    match link.is_held() {
+        true => Wanted::Ring(BellKey::STORED),
+        false => Wanted::Turn,
+    }
+}
+
 // Goes on with a connection that is served from this yard.
 fn go_on<R: Wait, L: Polled + Drop, C: Clock, B: Bell, M: Names>(
     rt: &R,
@@ -336,6 +352,7 @@ fn go_on<R: Wait, L: Polled + Drop, C: Clock, B: Bell, M: Names>(
         (outside served.old.connection.reader (L.left served.old.link) (L.given served.old.link) served.old.worker.trail served.old.worker.purse (L.faults served.old.link))
         (outside served.new.connection.reader (L.left served.new.link) (L.given served.new.link) served.new.worker.trail served.new.worker.purse (L.faults served.new.link))
         served.old.connection.standing served.new.connection.standing }
+    ensures drawn { OpensAsDrawn (M.drawn tools.old.names) (M.drawn tools.new.names) (known served.old.worker.purse.directory) (known served.new.worker.purse.directory) }
 {
     let site = Site {
         alloc,

@@ -1,8 +1,9 @@
 // A connection with its link, and what it is served with.
 ghost use Rattle.std.specs.Prelude.{◌≡◌, ◌≤◌, ◌⊎◌, IfNone, IfSome, true};
 ghost use Rattle.bosh_ports.specs.Faults.{HasRisen};
-ghost use Rattle.parked_gate.specs.Passes.{IsPassOf};
+ghost use Rattle.parked_gate.specs.Passes.{IsPassOf, known};
 ghost use Rattle.serve_loop.specs.Connections.{IsServedBy, Outside, outside, wanted_by};
+ghost use Rattle.serve_loop.specs.Drawing.{OpensAsDrawn};
 ghost use Rattle.serve_loop.specs.Stepping.{Steps};
 ghost use Rattle.serve_loop.specs.Trail.{Setting, setting};
 ghost use Rattle.bosh_server.specs.Fates.{IsFresh};
@@ -101,6 +102,7 @@ impl<L: Polled + Drop> Served<L> {
             (outside self.old.connection.reader (L.left self.old.link) (L.given self.old.link) self.old.worker.trail self.old.worker.purse (L.faults self.old.link))
             (outside self.new.connection.reader (L.left self.new.link) (L.given self.new.link) self.new.worker.trail self.new.worker.purse (L.faults self.new.link))
             self.old.connection.standing self.new.connection.standing }
+        ensures drawn { OpensAsDrawn (M.drawn tools.old.names) (M.drawn tools.new.names) (known self.old.worker.purse.directory) (known self.new.worker.purse.directory) }
         ensures faults { L.faults self.old.link ≤ L.faults self.new.link }
     {
         let moved = self
@@ -160,6 +162,9 @@ impl<L: Polled + Drop> Served<L> {
             (outside self.old.connection.reader (L.left self.old.link) (L.given self.old.link) self.old.worker.trail self.old.worker.purse (L.faults self.old.link))
             (outside self.new.connection.reader (L.left self.new.link) (L.given self.new.link) self.new.worker.trail self.new.worker.purse (L.faults self.new.link))
             self.old.connection.standing self.new.connection.standing }
+
+        // Each session that was opened has a name that was drawn for it.
+        ensures drawn { OpensAsDrawn (M.drawn tools.old.names) (M.drawn tools.new.names) (known self.old.worker.purse.directory) (known self.new.worker.purse.directory) }
         ensures wants { (result ≡ Wants.Nothing) ⊎ (result ≡ wanted_by self.new.connection.standing.stage) ⊎ ((result ≡ Wants.End ConnectionEnd.Gone) × (self.old.is_left ≡ true)) }
         ensures faults { L.faults self.old.link ≤ L.faults self.new.link }
     {

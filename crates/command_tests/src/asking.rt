@@ -218,6 +218,8 @@ where
         names: GivenNames::new(alloc, b"s", first),
         pollers: ReadyPollers { rt: *rt, alloc },
         watch: Watch::off(),
+        restored: None,
+        keeper: None,
         roll: Roll::new(),
         pump: None,
     };
@@ -240,6 +242,8 @@ where
         names: _names,
         pollers: _pollers,
         watch: _watch,
+        restored: _restored,
+        keeper: _keeper,
         roll: _roll,
         pump: _pump,
     } = outside;

@@ -71,6 +71,8 @@ fn shown_over<R: Wait + Threads + Copy + Send + Sync + Drop + 'static>(
         names,
         pollers: StillPollers { rt: *rt, alloc },
         watch: Watch::off(),
+        restored: None,
+        keeper: None,
         roll: Roll::new(),
         pump: None,
     };
@@ -94,6 +96,8 @@ fn shown_over<R: Wait + Threads + Copy + Send + Sync + Drop + 'static>(
         names: _names,
         pollers: _pollers,
         watch: _watch,
+        restored: _restored,
+        keeper: _keeper,
         roll: _roll,
         pump: _pump,
     } = outside;

@@ -1,3 +1,4 @@
+pub mod ClearLemmas
 pub mod EntryLemmas
 pub mod FormatLemmas
 pub mod FoundLemmas

@@ -1,5 +1,5 @@
 -- The journals of a file: the entries of its row, in order.
-use Rattle.std.specs.Prelude.{◌≡◌, ◌⊎◌, ℕ, ◌==◌, List, ◌++◌, map, filter}
+use Rattle.std.specs.Prelude.{◌≡◌, ◌⊎◌, ℕ, ◌==◌, List, [], ◌++◌, map, filter}
 use Rattle.std.specs.List.{AllByRecursion}
 use Rattle.session_journal.specs.declared.entry.Entry.{Entry}
 use Rattle.journal_store.specs.Contents.{content_of, HasContent}
@@ -27,6 +27,10 @@ journal_in session entries = map (λ e. e.entry) (filter (λ e. e.session == ses
 -- the entries are those from before, or those and all that were added
 abbrev pub AreBeforeOrAfter : List SessionEntry → List SessionEntry → List ℕ → Type 0
 AreBeforeOrAfter entries added image = AreEntriesOf image entries ⊎ AreEntriesOf image (entries ++ added)
+
+-- the entries are those from before, or none
+abbrev pub AreBeforeOrNone : List SessionEntry → List ℕ → Type 0
+AreBeforeOrNone entries image = AreEntriesOf image entries ⊎ AreEntriesOf image []
 
 -- These entries are stored, each of them on the disk, and those wait.
 pub record Keeps {D : Type 0} (seen : D → List ℕ) (time : D → ℕ) (left : D → ℕ → List ℕ → Type 0) (journals : JournalFile D) (stored waiting : List SessionEntry) : Type 0 where

@@ -41,3 +41,7 @@ file_of contents = records_of contents ++ 0 ∷ []
 -- the row is what it was, or has these contents too
 abbrev pub IsBeforeOrAfter : List (List ℕ) → List (List ℕ) → List ℕ → Type 0
 IsBeforeOrAfter contents added image = IsRowOf image contents ⊎ IsRowOf image (contents ++ added)
+
+-- the row is what it was, or there is none
+abbrev pub IsBeforeOrNone : List (List ℕ) → List ℕ → Type 0
+IsBeforeOrNone contents image = IsRowOf image contents ⊎ IsRowOf image []

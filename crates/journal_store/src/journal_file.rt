@@ -1,8 +1,8 @@
 // The journals of sessions in a file: entries wait, and are stored together.
-ghost use Rattle.std.specs.Prelude.{◌≡◌, ◌⊎◌, ◌↔◌, ℕ, ◌+◌, ◌≤◌, ◌^◌, List, [], ◌∷◌, ◌++◌, IsTrue, length, OnOk, OnErr, IsErrOf};
+ghost use Rattle.std.specs.Prelude.{◌≡◌, ◌≢◌, ◌⊎◌, ◌↔◌, ℕ, ◌+◌, ◌≤◌, ◌^◌, List, [], ◌∷◌, ◌++◌, IsTrue, length, OnOk, OnErr, IsErrOf};
 ghost use Rattle.journal_store.specs.Contents.{content_of, HasLengths};
 ghost use Rattle.journal_store.specs.Crash.{EachCrash};
-ghost use Rattle.journal_store.specs.Entries.{Keeps, contents_of, AreBeforeOrAfter};
+ghost use Rattle.journal_store.specs.Entries.{Keeps, contents_of, AreBeforeOrAfter, AreBeforeOrNone};
 ghost use Rattle.journal_store.specs.RecordFile.{IsAtRest, IsReady, CountsStored};
 
 use crate::content::write_content;
@@ -71,6 +71,23 @@ impl<D: Disk> JournalFile<D> {
             Stored::Failed => Stored::Failed,
             Stored::Spent => Stored::Spent,
         }
+    }
+
+    /// Lets all journals go, and what waits. It is never `Full`.
+    pub fn clear(&mut self) -> Stored
+        requires { D.told → IsReady D.seen D.time D.left self.old.file }
+        ensures ready { D.told → IsReady D.seen D.time D.left self.new.file }
+        ensures cleared { D.told → result ≡ Stored.Done → Keeps D.seen D.time D.left self.new [] [] }
+        // A crash at any moment of the call leaves the entries from before it, or none.
+        ensures any_moment { D.told → (stored waiting : List SessionEntry) → Keeps D.seen D.time D.left self.old stored waiting →
+            EachCrash D.time D.left self.old.file.disk self.new.file.disk (AreBeforeOrNone stored) }
+        ensures never_full { result ≢ Stored.Full }
+        ensures spent { (result ≡ Stored.Spent) ↔ IsTrue self.old.file.is_spent }
+        ensures spends { (IsTrue self.new.file.is_spent) ↔ (IsTrue self.old.file.is_spent ⊎ (result ≡ Stored.Failed)) }
+        ensures faults { CountsStored (D.faults self.old.file.disk) (D.faults self.new.file.disk) result }
+    {
+        self.waiting.clear();
+        self.file.clear()
     }
 
     pub fn file(&self) -> &RecordFile<D>

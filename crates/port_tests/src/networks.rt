@@ -129,7 +129,7 @@ fn a_planned_network_gives_its_links_and_fails_where_it_is_told(
 }
 
 // A network that listens at a free port, and the port. The system is asked for one, which is free again when it is told.
-fn listening<N>(rt: &N) -> Result<(TcpNetwork<N>, u16), Fail>
+pub(crate) fn listening<N>(rt: &N) -> Result<(TcpNetwork<N>, u16), Fail>
 where
     N: Net<Listener = TcpListener, Stream = TcpStream> + Copy + Drop,
 {
@@ -172,7 +172,7 @@ fn links_cross_the_loopback(rt: HostRuntime) -> Result<(), Fail> {
 }
 
 // The two ends of one connection, of which the second waits no longer than this.
-fn connected<N>(rt: &N, limits: Limits) -> io::Result<(NetLink, NetLink)>
+pub(crate) fn connected<N>(rt: &N, limits: Limits) -> io::Result<(NetLink, NetLink)>
 where
     N: Net<Listener = TcpListener, Stream = TcpStream>,
 {

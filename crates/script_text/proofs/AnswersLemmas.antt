@@ -1,9 +1,9 @@
 -- What the answers of one turn are, and what the requests that wait on are for.
-use Rattle.std.proofs.Common.{◌≡◌, ℕ, zero, suc, ◌==◌, Bool, true, false, List, [], ◌∷◌, ◌++◌, All, map, length, Option, Some, None, refl, sym, subst, ◌∙◌, ap, cond, inl, inr, if◌then◌else◌}
+use Rattle.std.proofs.Common.{◌≡◌, ℕ, zero, suc, ◌==◌, Bool, true, false, List, [], ◌∷◌, ◌++◌, All, map, length, Option, Some, None, refl, sym, subst, ◌∙◌, ap, append_assoc, cond, inl, inr, if◌then◌else◌}
 use Rattle.std.specs.Prelude.{⊤, ◌⊎◌}
 use Rattle.std.specs.Option.{option_map, option_or}
 use Rattle.std.proofs.lemmas.List.Elements.{All-nil, All-cons, All-head, All-tail, All-append, All-weaker}
-use Rattle.bosh_types.specs.declared.condition.Condition.TheVariants.{ItemNotFound, UndefinedCondition}
+use Rattle.bosh_types.specs.declared.condition.Condition.{Condition}
 use Rattle.bosh_types.specs.declared.ending.Ending.{Ending}
 use Rattle.bosh_types.specs.declared.inward.Inward.{Inward}
 use Rattle.bosh_types.specs.declared.kept.KeptAnswer.{KeptAnswer}
@@ -23,28 +23,29 @@ use Rattle.session_core.specs.Machine.{opened, created_parts, bytes_for, arrive,
 use Rattle.session_core.specs.declared.opening.Opening.{Opening}
 use Rattle.session_core.specs.State.{PlainSession, Issued}
 use Rattle.session_core.specs.TicketsOut.{issued_at}
-use Rattle.session_laws.specs.Replies.{IsToldTo}
 use Rattle.session_laws.specs.Tickets.{Tells}
 use Rattle.session_laws.specs.Growing.{with_later}
 use Rattle.session_laws.proofs.Grows.{every_grows}
-use Rattle.session_laws.proofs.LawsOf.{every_answer_told, every_same_bytes}
-use Rattle.session_laws.proofs.Tests.{some_is}
+use Rattle.session_laws.proofs.LawsOf.{every_over, every_same_bytes}
+use Rattle.session_laws.proofs.Tests.{some_is, true_false}
 use Rattle.session_laws.proofs.TicketLemmas.{collect_tells}
 use Rattle.script_text.specs.declared.event.Event.{Event}
 use Rattle.script_text.specs.declared.event.Event.TheVariants.{Arrives, Gives, Shuts, Passes}
 use Rattle.script_text.specs.declared.live.Parked.{Parked}
 use Rattle.script_text.specs.declared.report.ReportLine.{ReportLine}
 use Rattle.script_text.specs.declared.report.ReportLine.TheVariants.{In, Out, Lost, Gone, Refused, Over, Done, Bad}
-use Rattle.script_text.specs.Answered.{Posting, GivesId, IsRefusal, Asks, IsFor, WasStruck}
+use Rattle.script_text.specs.Answered.{Posting, Stage, GivesId, IsRefusal, Asks, IsFor, WasStruck}
+use Rattle.script_text.specs.Refusing.{FindsNoPlace, IsAmong, refusal_text}
 use Rattle.session_calls.specs.After.{after_call, all_taken, untaken, with_entered, with_taken}
 use Rattle.script_text.specs.Live.{PlainLive, state, Turn, fate, answer_line, fate_lines, is_not_yet, still, still_parked, collected_lines, all_collected, over_lines, settled_after, told, refused_first, with_journal, with_parked, not_found, arrived, refusal_of_back, refusal_of_shut, ticked, turn_at}
 use Rattle.script_text.specs.Manager.{opened_live}
 use Rattle.script_text.specs.Stands.{IsEvent}
-use Rattle.script_text.proofs.JournalSteps.{after_is, after_made}
-use Rattle.script_text.proofs.BodiesLemmas.{with_opening}
+use Rattle.script_text.proofs.JournalSteps.{after_is, after_made, called_state}
+use Rattle.script_text.proofs.BodiesLemmas.{ending_after, with_opening}
+use Rattle.script_text.proofs.PlaceLemmas.{FoundNone, every_how}
 use Rattle.script_text.proofs.StruckTickets.{TicketTold, after_told, parked_told, still_struck, told_struck}
 use Rattle.script_text.proofs.TicketIds.{KeepsIds, id_at, called_reply, after_keeps_ids, issued_id, parked_id}
-use Rattle.script_text.proofs.ToldLemmas.{same_number}
+use Rattle.script_text.proofs.ToldLemmas.{none_out, same_number}
 use Rattle.script_text.proofs.TurnLemmas.{IsUp}
 
 -- what an id was given in this state it is given in that one
@@ -118,16 +119,16 @@ for_later request number journal later same is = elim is [
 ]
 
 -- an answer is what this session gives the id of the latest request on its connection, or a refusal
-abbrev pub IsOf : List Posting → ℕ → Journal → ReportLine → Type 0
-IsOf posted number journal (In session item) = ⊤
-IsOf posted number journal (Out conn body) =
-    IsRefusal body ⊎ ((request : Request) × Asks posted conn request × IsFor request number journal × GivesId (state_of journal) request.rid body)
-IsOf posted number journal (Lost conn) = ⊤
-IsOf posted number journal (Gone conn) = ⊤
-IsOf posted number journal (Refused session refusal) = ⊤
-IsOf posted number journal (Over session ending) = ⊤
-IsOf posted number journal (Done line) = ⊤
-IsOf posted number journal (Bad line kind) = ⊤
+abbrev pub IsOf : Stage → ℕ → Journal → ReportLine → Type 0
+IsOf stage number journal (In session item) = ⊤
+IsOf stage number journal (Out conn body) =
+    IsRefusal stage conn body ⊎ ((request : Request) × Asks stage.posted conn request × IsFor request number journal × GivesId (state_of journal) request.rid body)
+IsOf stage number journal (Lost conn) = ⊤
+IsOf stage number journal (Gone conn) = ⊤
+IsOf stage number journal (Refused session refusal) = ⊤
+IsOf stage number journal (Over session ending) = ⊤
+IsOf stage number journal (Done line) = ⊤
+IsOf stage number journal (Bad line kind) = ⊤
 
 -- a request that waits on an open connection is the latest there, and its ticket is for its id; where that has the error of a struck copy, one was
 abbrev pub WaitsFor : List Posting → ℕ → Journal → Parked → Type 0
@@ -139,8 +140,8 @@ WaitsFor posted number journal parked =
 abbrev pub Waiting : List Posting → PlainLive → Type 0
 Waiting posted s = All (WaitsFor posted s.number s.journal) s.parked
 
-module _ (posted : List Posting) (number : ℕ) where
-  of_later : (journal later : Journal) → GoesTo journal later → (line : ReportLine) → IsOf posted number journal line → IsOf posted number later line
+module _ (stage : Stage) (number : ℕ) where
+  of_later : (journal later : Journal) → GoesTo journal later → (line : ReportLine) → IsOf stage number journal line → IsOf stage number later line
   of_later journal later goes (In session item) is = tt
   of_later journal later goes (Out conn body) is = elim is [
     | inl refusal ↦ inl refusal
@@ -153,23 +154,23 @@ module _ (posted : List Posting) (number : ℕ) where
   of_later journal later goes (Done line) is = tt
   of_later journal later goes (Bad line kind) is = tt
 
-  one_of : (journal : Journal) (line : ReportLine) → IsOf posted number journal line → All (IsOf posted number journal) (line ∷ [])
-  one_of journal line is = All-cons (IsOf posted number journal) line [] is (All-nil (IsOf posted number journal))
+  one_of : (journal : Journal) (line : ReportLine) → IsOf stage number journal line → All (IsOf stage number journal) (line ∷ [])
+  one_of journal line is = All-cons (IsOf stage number journal) line [] is (All-nil (IsOf stage number journal))
 
-  none_of : (journal : Journal) → All (IsOf posted number journal) []
-  none_of journal = All-nil (IsOf posted number journal)
+  none_of : (journal : Journal) → All (IsOf stage number journal) []
+  none_of journal = All-nil (IsOf stage number journal)
 
-  all_later : (journal later : Journal) → GoesTo journal later → (lines : List ReportLine) → All (IsOf posted number journal) lines → All (IsOf posted number later) lines
-  all_later journal later goes lines all = All-weaker (IsOf posted number journal) (IsOf posted number later) (of_later journal later goes) lines all
+  all_later : (journal later : Journal) → GoesTo journal later → (lines : List ReportLine) → All (IsOf stage number journal) lines → All (IsOf stage number later) lines
+  all_later journal later goes lines all = All-weaker (IsOf stage number journal) (IsOf stage number later) (of_later journal later goes) lines all
 
-  waits_later : (journal later : Journal) → GoesTo journal later → (parked : Parked) → WaitsFor posted number journal parked → WaitsFor posted number later parked
+  waits_later : (journal later : Journal) → GoesTo journal later → (parked : Parked) → WaitsFor stage.posted number journal parked → WaitsFor stage.posted number later parked
   waits_later journal later goes parked waits is_open =
       let w = waits is_open in
       (w.0, w.1, for_later w.0 number journal later goes.opening w.2, goes.ids parked.ticket w.0.rid w.3, goes.struck parked.ticket w.4)
 
-  all_waits_later : (journal later : Journal) → GoesTo journal later → (parked : List Parked) → All (WaitsFor posted number journal) parked
-      → All (WaitsFor posted number later) parked
-  all_waits_later journal later goes parked all = All-weaker (WaitsFor posted number journal) (WaitsFor posted number later) (waits_later journal later goes) parked all
+  all_waits_later : (journal later : Journal) → GoesTo journal later → (parked : List Parked) → All (WaitsFor stage.posted number journal) parked
+      → All (WaitsFor stage.posted number later) parked
+  all_waits_later journal later goes parked all = All-weaker (WaitsFor stage.posted number journal) (WaitsFor stage.posted number later) (waits_later journal later goes) parked all
 
   -- Collected tickets.
 
@@ -186,11 +187,11 @@ module _ (posted : List Posting) (number : ℕ) where
       let same : t.rid ≡ request.rid = some_is t.rid request.rid (sym (issued_id (state_of journal).tickets ticket t issued) ∙ asked) in
       subst (WasStruck (state_of journal)) same was
 
-  answer_of : (journal : Journal) (parked : Parked) (body : List ℕ) → WaitsFor posted number journal parked → Tells (state_of journal) parked.ticket (collections.Answer body)
-      → All (IsOf posted number journal) (answer_line parked body ∷ [])
+  answer_of : (journal : Journal) (parked : Parked) (body : List ℕ) → WaitsFor stage.posted number journal parked → Tells (state_of journal) parked.ticket (collections.Answer body)
+      → All (IsOf stage number journal) (answer_line parked body ∷ [])
   answer_of journal parked body waits tells = by parked.is_open refl
     where
-      by : (b : Bool) → parked.is_open ≡ b → All (IsOf posted number journal) ((if b then Out parked.conn body else Lost parked.conn) ∷ [])
+      by : (b : Bool) → parked.is_open ≡ b → All (IsOf stage number journal) ((if b then Out parked.conn body else Lost parked.conn) ∷ [])
       by true is =
           let w = waits is in
           one_of journal (Out parked.conn body) (inr (w.0, w.1, w.2, given w.0 w.3 w.4))
@@ -202,174 +203,210 @@ module _ (posted : List Posting) (number : ℕ) where
           ]
       by false is = one_of journal (Lost parked.conn) tt
 
-  gone_of : (journal : Journal) (is_open : Bool) (conn : ℕ) → All (IsOf posted number journal) (if is_open then Gone conn ∷ [] else [])
+  gone_of : (journal : Journal) (is_open : Bool) (conn : ℕ) → All (IsOf stage number journal) (if is_open then Gone conn ∷ [] else [])
   gone_of journal true conn = one_of journal (Gone conn) tt
   gone_of journal false conn = none_of journal
 
-  fate_of : (journal : Journal) (parked : Parked) (reply : Collected) → WaitsFor posted number journal parked → Tells (state_of journal) parked.ticket reply
-      → All (IsOf posted number journal) (fate_lines parked reply)
+  fate_of : (journal : Journal) (parked : Parked) (reply : Collected) → WaitsFor stage.posted number journal parked → Tells (state_of journal) parked.ticket reply
+      → All (IsOf stage number journal) (fate_lines parked reply)
   fate_of journal parked (collections.Answer body) waits tells = answer_of journal parked body waits tells
   fate_of journal parked collections.NotYet waits tells = none_of journal
   fate_of journal parked collections.Superseded waits tells = gone_of journal parked.is_open parked.conn
   fate_of journal parked collections.UnknownTicket waits tells = none_of journal
 
-  collected_of : (parked : List Parked) (journal : Journal) → IsJournal journal → All (WaitsFor posted number journal) parked
-      → All (IsOf posted number (all_collected journal parked)) (collected_lines journal parked)
+  collected_of : (parked : List Parked) (journal : Journal) → IsJournal journal → All (WaitsFor stage.posted number journal) parked
+      → All (IsOf stage number (all_collected journal parked)) (collected_lines journal parked)
   collected_of [] journal made waits = none_of journal
   collected_of (first ∷ parked) journal made waits =
       let next : Journal = after_call journal (Collect first.ticket) in
       let end : Journal = all_collected next parked in
       let one = call_goes journal (Collect first.ticket) made tt in
       let all = goes_on journal next end one (collected_goes parked next one.made) in
-      All-append (IsOf posted number end) (fate_lines first (fate journal first)) (collected_lines next parked)
+      All-append (IsOf stage number end) (fate_lines first (fate journal first)) (collected_lines next parked)
       (all_later journal end all (fate_lines first (fate journal first))
-      (fate_of journal first (fate journal first) (All-head (WaitsFor posted number journal) first parked waits) (collect_tells (state_of journal) first.ticket)))
-      (collected_of parked next one.made (all_waits_later journal next one parked (All-tail (WaitsFor posted number journal) first parked waits)))
+      (fate_of journal first (fate journal first) (All-head (WaitsFor stage.posted number journal) first parked waits) (collect_tells (state_of journal) first.ticket)))
+      (collected_of parked next one.made (all_waits_later journal next one parked (All-tail (WaitsFor stage.posted number journal) first parked waits)))
 
-  still_waits : (journal : Journal) (parked : Parked) (reply : Collected) → WaitsFor posted number journal parked → All (WaitsFor posted number journal) (still parked reply)
+  still_waits : (journal : Journal) (parked : Parked) (reply : Collected) → WaitsFor stage.posted number journal parked → All (WaitsFor stage.posted number journal) (still parked reply)
   still_waits journal parked reply waits = by (is_not_yet reply)
     where
-      by : (b : Bool) → All (WaitsFor posted number journal) (if b then parked ∷ [] else [])
-      by true = All-cons (WaitsFor posted number journal) parked [] waits (All-nil (WaitsFor posted number journal))
-      by false = All-nil (WaitsFor posted number journal)
+      by : (b : Bool) → All (WaitsFor stage.posted number journal) (if b then parked ∷ [] else [])
+      by true = All-cons (WaitsFor stage.posted number journal) parked [] waits (All-nil (WaitsFor stage.posted number journal))
+      by false = All-nil (WaitsFor stage.posted number journal)
 
-  collected_waits : (parked : List Parked) (journal : Journal) → IsJournal journal → All (WaitsFor posted number journal) parked
-      → All (WaitsFor posted number (all_collected journal parked)) (still_parked journal parked)
-  collected_waits [] journal made waits = All-nil (WaitsFor posted number journal)
+  collected_waits : (parked : List Parked) (journal : Journal) → IsJournal journal → All (WaitsFor stage.posted number journal) parked
+      → All (WaitsFor stage.posted number (all_collected journal parked)) (still_parked journal parked)
+  collected_waits [] journal made waits = All-nil (WaitsFor stage.posted number journal)
   collected_waits (first ∷ parked) journal made waits =
       let next : Journal = after_call journal (Collect first.ticket) in
       let end : Journal = all_collected next parked in
       let one = call_goes journal (Collect first.ticket) made tt in
       let all = goes_on journal next end one (collected_goes parked next one.made) in
-      All-append (WaitsFor posted number end) (still first (fate journal first)) (still_parked next parked)
-      (all_waits_later journal end all (still first (fate journal first)) (still_waits journal first (fate journal first) (All-head (WaitsFor posted number journal) first parked waits)))
-      (collected_waits parked next one.made (all_waits_later journal next one parked (All-tail (WaitsFor posted number journal) first parked waits)))
+      All-append (WaitsFor stage.posted number end) (still first (fate journal first)) (still_parked next parked)
+      (all_waits_later journal end all (still first (fate journal first)) (still_waits journal first (fate journal first) (All-head (WaitsFor stage.posted number journal) first parked waits)))
+      (collected_waits parked next one.made (all_waits_later journal next one parked (All-tail (WaitsFor stage.posted number journal) first parked waits)))
 
-  items_of : (journal : Journal) (items : List Inward) → All (IsOf posted number journal) (map (In number) items)
+  items_of : (journal : Journal) (items : List Inward) → All (IsOf stage number journal) (map (In number) items)
   items_of journal [] = none_of journal
-  items_of journal (item ∷ items) = All-cons (IsOf posted number journal) (In number item) (map (In number) items) tt (items_of journal items)
+  items_of journal (item ∷ items) = All-cons (IsOf stage number journal) (In number item) (map (In number) items) tt (items_of journal items)
 
-  over_of : (journal : Journal) (ending : Option Ending) → All (IsOf posted number journal) (over_lines number ending)
+  over_of : (journal : Journal) (ending : Option Ending) → All (IsOf stage number journal) (over_lines number ending)
   over_of journal None = none_of journal
   over_of journal (Some ending) = one_of journal (Over number ending) tt
 
 -- the answers of a turn are what its session gives, after it, the ids of the latest requests; and it gives what it gave
-pub record Answers (posted : List Posting) (s : PlainLive) (turn : Turn) : Type 0 where
+pub record Answers (stage : Stage) (s : PlainLive) (turn : Turn) : Type 0 where
   pub opening : turn.after.journal.opening ≡ s.journal.opening
   pub keeps : KeepsBytes (state s) (state turn.after)
-  pub are : All (IsOf posted s.number turn.after.journal) turn.lines
-  pub waiting : All (WaitsFor posted s.number turn.after.journal) turn.after.parked
+  pub are : All (IsOf stage s.number turn.after.journal) turn.lines
+  pub waiting : All (WaitsFor stage.posted s.number turn.after.journal) turn.after.parked
 
-module _ (posted : List Posting) where
-  told_answers : (s : PlainLive) (answer : List ReportLine) → IsJournal s.journal → Waiting posted s → All (IsOf posted s.number s.journal) answer → Answers posted s (told s answer)
+-- the ending of a session is told
+over_among : (s : PlainLive) (answer : List ReportLine) (ending : Ending) → (state (settled_after s)).ending ≡ Some ending → IsAmong (Over s.number ending) (told s answer).lines
+over_among s answer ending is =
+    let items : List ReportLine = map (In s.number) (untaken s.journal) in
+    let lines : List ReportLine = collected_lines (all_taken s.journal) s.parked in
+    let last : List ReportLine = Over s.number ending ∷ [] in (
+      items ++ (answer ++ lines),
+      [],
+      ap (λ e. items ++ (answer ++ (lines ++ over_lines s.number e))) is
+          ∙ ap (λ l. items ++ l) (sym (append_assoc answer lines last))
+          ∙ sym (append_assoc items (answer ++ lines) last),
+    )
+
+module _ (stage : Stage) where
+  told_answers : (s : PlainLive) (answer : List ReportLine) → IsJournal s.journal → Waiting stage.posted s → All (IsOf stage s.number s.journal) answer → Answers stage s (told s answer)
   told_answers s answer made waiting are =
       let goes = settled_goes s made in
       let taken = taken_goes (length (untaken s.journal)) s.journal made in
-      let waits = all_waits_later posted s.number s.journal (all_taken s.journal) taken s.parked waiting in
+      let waits = all_waits_later stage s.number s.journal (all_taken s.journal) taken s.parked waiting in
       let end : Journal = (settled_after s).journal in
       let lines : List ReportLine = collected_lines (all_taken s.journal) s.parked in
       let last : List ReportLine = over_lines s.number (state_of end).ending in
       record {
         opening = goes.opening;
         keeps = goes.keeps;
-        are = All-append (IsOf posted s.number end) (map (In s.number) (untaken s.journal)) (answer ++ (lines ++ last)) (items_of posted s.number end (untaken s.journal))
-            (All-append (IsOf posted s.number end) answer (lines ++ last) (all_later posted s.number s.journal end goes answer are)
-            (All-append (IsOf posted s.number end) lines last (collected_of posted s.number s.parked (all_taken s.journal) taken.made waits) (over_of posted s.number end (state_of end).ending)));
-        waiting = collected_waits posted s.number s.parked (all_taken s.journal) taken.made waits;
+        are = All-append (IsOf stage s.number end) (map (In s.number) (untaken s.journal)) (answer ++ (lines ++ last)) (items_of stage s.number end (untaken s.journal))
+            (All-append (IsOf stage s.number end) answer (lines ++ last) (all_later stage s.number s.journal end goes answer are)
+            (All-append (IsOf stage s.number end) lines last (collected_of stage s.number s.parked (all_taken s.journal) taken.made waits) (over_of stage s.number end (state_of end).ending)));
+        waiting = collected_waits stage s.number s.parked (all_taken s.journal) taken.made waits;
       }
 
   module _ (s : PlainLive) (up : IsUp s) (call : Call) (allowed : IsAllowed call) where
     abbrev called_journal : Journal
     called_journal = after_call s.journal call
 
-    called_answers : (parked : List Parked) (answer : List ReportLine) → All (WaitsFor posted s.number called_journal) parked → All (IsOf posted s.number called_journal) answer
-        → Answers posted s (told (record s { journal = called_journal; parked = parked }) answer)
+    called_answers : (parked : List Parked) (answer : List ReportLine) → All (WaitsFor stage.posted s.number called_journal) parked → All (IsOf stage s.number called_journal) answer
+        → Answers stage s (told (record s { journal = called_journal; parked = parked }) answer)
     called_answers parked answer waiting are =
         let one = call_goes s.journal call up.made allowed in
         let after = told_answers (record s { journal = called_journal; parked = parked }) answer one.made waiting are in
         record { opening = after.opening ∙ one.opening; keeps = λ rid bytes is. after.keeps rid bytes (one.keeps rid bytes is); are = after.are; waiting = after.waiting }
 
-    same_waiting : Waiting posted s → All (WaitsFor posted s.number called_journal) s.parked
-    same_waiting waiting = all_waits_later posted s.number s.journal called_journal (call_goes s.journal call up.made allowed) s.parked waiting
+    same_waiting : Waiting stage.posted s → All (WaitsFor stage.posted s.number called_journal) s.parked
+    same_waiting waiting = all_waits_later stage s.number s.journal called_journal (call_goes s.journal call up.made allowed) s.parked waiting
 
-  refused_answers : (s : PlainLive) (lines : List ReportLine) (turn : Turn) → ((journal : Journal) → All (IsOf posted s.number journal) lines) → Answers posted s turn
-      → Answers posted s (refused_first lines turn)
+  refused_answers : (s : PlainLive) (lines : List ReportLine) (turn : Turn) → ((journal : Journal) → All (IsOf stage s.number journal) lines) → Answers stage s turn
+      → Answers stage s (refused_first lines turn)
   refused_answers s lines turn these a = record {
     opening = a.opening;
     keeps = a.keeps;
-    are = All-append (IsOf posted s.number turn.after.journal) lines turn.lines (these turn.after.journal) a.are;
+    are = All-append (IsOf stage s.number turn.after.journal) lines turn.lines (these turn.after.journal) a.are;
     waiting = a.waiting;
   }
 
-  back_of : (n : ℕ) (reply : Taken) (journal : Journal) → All (IsOf posted n journal) (refusal_of_back n reply)
-  back_of n takings.Done journal = none_of posted n journal
-  back_of n takings.Full journal = one_of posted n journal (Refused n _) tt
-  back_of n takings.Over journal = one_of posted n journal (Refused n _) tt
+  back_of : (n : ℕ) (reply : Taken) (journal : Journal) → All (IsOf stage n journal) (refusal_of_back n reply)
+  back_of n takings.Done journal = none_of stage n journal
+  back_of n takings.Full journal = one_of stage n journal (Refused n _) tt
+  back_of n takings.Over journal = one_of stage n journal (Refused n _) tt
 
-  shut_of : (n : ℕ) (reply : Taken) (journal : Journal) → All (IsOf posted n journal) (refusal_of_shut n reply)
-  shut_of n takings.Done journal = none_of posted n journal
-  shut_of n takings.Full journal = none_of posted n journal
-  shut_of n takings.Over journal = one_of posted n journal (Refused n _) tt
+  shut_of : (n : ℕ) (reply : Taken) (journal : Journal) → All (IsOf stage n journal) (refusal_of_shut n reply)
+  shut_of n takings.Done journal = none_of stage n journal
+  shut_of n takings.Full journal = none_of stage n journal
+  shut_of n takings.Over journal = one_of stage n journal (Refused n _) tt
 
-  module _ (s : PlainLive) (up : IsUp s) (request : Request) (body : List ℕ) (now : ℕ) (allowed : IsAllowed (Arrive request body now)) (waiting : Waiting posted s)
-      (conn : ℕ) (asks : Asks posted conn request) (is_for : IsFor request s.number s.journal) where
+  -- where these lines say that the session ended so that a copy with the request's id found no place there, its answer is a refusal
+  abbrev pub Refuses : ℕ → ℕ → Request → List ReportLine → Type 0
+  Refuses number conn request lines =
+      (ending : Ending) (condition : Condition) → IsAmong (Over number ending) lines → FindsNoPlace request.rid ending condition
+      → IsRefusal stage conn (refusal_text condition)
+
+  module _ (s : PlainLive) (up : IsUp s) (request : Request) (body : List ℕ) (now : ℕ) (allowed : IsAllowed (Arrive request body now)) (waiting : Waiting stage.posted s)
+      (conn : ℕ) (asks : Asks stage.posted conn request) (is_for : IsFor request s.number s.journal)
+      (refuses : Refuses s.number conn request (turn_at now (Arrives conn request body) s).lines) where
     abbrev arriving : Call
     arriving = Arrive request body now
 
     abbrev then_journal : Journal
     then_journal = after_call s.journal arriving
 
+    abbrev replied_with : PlainSession × Arrived
+    replied_with = arrive (state s) request body now
+
     for_then : IsFor request s.number then_journal
     for_then = for_later request s.number s.journal then_journal (call_goes s.journal arriving up.made allowed).opening is_for
 
-    told_to : (bytes : List ℕ) → IsToldTo (step (state s) arriving).0 request.rid bytes → IsOf posted s.number then_journal (Out conn bytes)
-    told_to bytes is = elim is [
-      | inl given ↦ inr (request, asks, for_then, inl (ap (λ (t : PlainSession). bytes_for t request.rid) (after_is s.journal arriving) ∙ given))
-      | inr refused ↦ elim refused.1 [
-        | inl lost ↦ inl (ItemNotFound, lost)
-        | inr full ↦ inl (UndefinedCondition, full)
-      ]
+    state_then : state_of then_journal ≡ replied_with.0
+    state_then = after_is s.journal arriving ∙ called_state ToArrive replied_with
+
+    -- the session ended with the copy, which the turn's last line says
+    refused_so : (bytes : List ℕ) → replied_with.1 ≡ arrivals.Answer bytes → FoundNone replied_with.0 request.rid bytes → IsRefusal stage conn bytes
+    refused_so bytes is found =
+        let ends : (state_of then_journal).ending ≡ Some found.0 = ap (λ (t : PlainSession). t.ending) state_then ∙ found.2 in
+        let over = ending_after s up arriving allowed tt s.parked (Out conn bytes ∷ []) (none_out conn bytes) ∙ ends in
+        let last = over_among (with_journal s then_journal) (Out conn bytes ∷ []) found.0 over in
+        subst (IsRefusal stage conn) (sym found.4)
+        (refuses found.0 found.1 (subst (λ reply. IsAmong (Over s.number found.0) (arrived (with_journal s then_journal) conn reply).lines) (sym is) last) found.3)
+
+    told_to : (bytes : List ℕ) → replied_with.1 ≡ arrivals.Answer bytes → IsOf stage s.number then_journal (Out conn bytes)
+    told_to bytes is = elim (every_how s.journal up.made request body now allowed up.goes_on bytes is) [
+      | inl given ↦ inr (request, asks, for_then, inl (ap (λ (t : PlainSession). bytes_for t request.rid) state_then ∙ given))
+      | inr found ↦ inl (refused_so bytes is found)
     ]
 
-    then_waiting : All (WaitsFor posted s.number then_journal) s.parked
+    then_waiting : All (WaitsFor stage.posted s.number then_journal) s.parked
     then_waiting = same_waiting s up arriving allowed waiting
 
-    arrived_answers : (reply : Arrived) → (arrive (state s) request body now).1 ≡ reply → Answers posted s (arrived (with_journal s then_journal) conn reply)
+    not_over : replied_with.1 ≡ arrivals.Over → ⊥
+    not_over is =
+        let over = (every_over s.journal up.made request body now allowed).0 (called_reply replied_with ∙ ap ToArrive is) in
+        true_false (sym over ∙ up.goes_on)
+
+    arrived_answers : (reply : Arrived) → replied_with.1 ≡ reply → Answers stage s (arrived (with_journal s then_journal) conn reply)
     arrived_answers (arrivals.Answer answer) is =
-        let told = every_answer_told s.journal up.made request body now answer allowed up.goes_on (called_reply (arrive (state s) request body now) ∙ ap ToArrive is) in
-        called_answers s up arriving allowed s.parked (Out conn answer ∷ []) then_waiting (one_of posted s.number then_journal (Out conn answer) (told_to answer told))
+        called_answers s up arriving allowed s.parked (Out conn answer ∷ []) then_waiting (one_of stage s.number then_journal (Out conn answer) (told_to answer is))
     arrived_answers (arrivals.Parked ticket) is =
-        let P = WaitsFor posted s.number then_journal in
+        let P = WaitsFor stage.posted s.number then_journal in
         let new : Parked = record { ticket = ticket; conn = conn; is_open = true } in
         called_answers s up arriving allowed (with_parked s ticket conn).parked []
         (All-append P s.parked (new ∷ []) then_waiting
         (All-cons P new [] (λ is_open. (request, asks, for_then, parked_id s.journal up.made request body now allowed up.goes_on ticket is, parked_told s.journal up.made request body now allowed up.goes_on ticket is)) (All-nil P)))
-        (none_of posted s.number then_journal)
-    arrived_answers arrivals.Over is =
-        called_answers s up arriving allowed s.parked (not_found conn ∷ []) then_waiting (one_of posted s.number then_journal (not_found conn) (inl (ItemNotFound, refl)))
+        (none_of stage s.number then_journal)
+    arrived_answers arrivals.Over is = absurd (not_over is)
 
-  ticked_answers : (s : PlainLive) (up : IsUp s) (now : ℕ) → Waiting posted s → (reply : Ticked) → Answers posted s (ticked s (with_journal s (after_call s.journal (Tick now))) reply)
-  ticked_answers s up now waiting Quiet = record { opening = refl; keeps = λ rid bytes is. is; are = none_of posted s.number s.journal; waiting = waiting }
+  ticked_answers : (s : PlainLive) (up : IsUp s) (now : ℕ) → Waiting stage.posted s → (reply : Ticked) → Answers stage s (ticked s (with_journal s (after_call s.journal (Tick now))) reply)
+  ticked_answers s up now waiting Quiet = record { opening = refl; keeps = λ rid bytes is. is; are = none_of stage s.number s.journal; waiting = waiting }
   ticked_answers s up now waiting Changed =
-      called_answers s up (Tick now) tt s.parked [] (same_waiting s up (Tick now) tt waiting) (none_of posted s.number (after_call s.journal (Tick now)))
+      called_answers s up (Tick now) tt s.parked [] (same_waiting s up (Tick now) tt waiting) (none_of stage s.number (after_call s.journal (Tick now)))
 
   -- a request that comes was the latest on its connection, and is for the session
-  abbrev pub AsksHere : ℕ → Journal → Event → Type 0
-  AsksHere number journal (Arrives conn request body) = Asks posted conn request × IsFor request number journal
-  AsksHere number journal (Gives stanza) = ⊤
-  AsksHere number journal (Shuts closing) = ⊤
-  AsksHere number journal Passes = ⊤
+  abbrev pub AsksHere : PlainLive → ℕ → Event → Type 0
+  AsksHere s now (Arrives conn request body) =
+      Asks stage.posted conn request × IsFor request s.number s.journal × Refuses s.number conn request (turn_at now (Arrives conn request body) s).lines
+  AsksHere s now (Gives stanza) = ⊤
+  AsksHere s now (Shuts closing) = ⊤
+  AsksHere s now Passes = ⊤
 
   -- whatever comes to a session
-  pub turn_answers : (s : PlainLive) (now : ℕ) (event : Event) → IsUp s → IsEvent event → Waiting posted s → AsksHere s.number s.journal event → Answers posted s (turn_at now event s)
+  pub turn_answers : (s : PlainLive) (now : ℕ) (event : Event) → IsUp s → IsEvent event → Waiting stage.posted s → AsksHere s now event → Answers stage s (turn_at now event s)
   turn_answers s now (Arrives conn request body) up allowed waiting asks =
-      arrived_answers s up request body now allowed waiting conn asks.0 asks.1 (arrive (state s) request body now).1 refl
+      arrived_answers s up request body now allowed waiting conn asks.0 asks.1 asks.2 (arrive (state s) request body now).1 refl
   turn_answers s now (Gives stanza) up allowed waiting asks = refused_answers s _ _ (back_of s.number (back (state s) unnamed stanza now).1)
       (called_answers s up (Back unnamed stanza now) allowed s.parked [] (same_waiting s up (Back unnamed stanza now) allowed waiting)
-      (none_of posted s.number (after_call s.journal (Back unnamed stanza now))))
+      (none_of stage s.number (after_call s.journal (Back unnamed stanza now))))
   turn_answers s now (Shuts closing) up allowed waiting asks = refused_answers s _ _ (shut_of s.number (back_closed (state s) unnamed closing now).1)
       (called_answers s up (BackClosed unnamed closing now) tt s.parked [] (same_waiting s up (BackClosed unnamed closing now) tt waiting)
-      (none_of posted s.number (after_call s.journal (BackClosed unnamed closing now))))
+      (none_of stage s.number (after_call s.journal (BackClosed unnamed closing now))))
   turn_answers s now Passes up allowed waiting asks = ticked_answers s up now waiting (tick (state s) now).1
 
 -- the answer to a creation
@@ -381,8 +418,8 @@ first_is false bytes a rest other is same = absurd (cc)
 created_bytes : (o : Opening) → bytes_for (opened o) o.request.rid ≡ Some (answer_text (created_parts o))
 created_bytes o = first_is (o.request.rid == o.request.rid) (answer_text (created_parts o)) _ _ _ (same_number o.request.rid) refl
 
-pub opened_answers : (posted : List Posting) (number conn : ℕ) (o : Opening) → Asks posted conn o.request → IsJournal (opened_live number o).journal
-    → Answers posted (opened_live number o) (told (opened_live number o) (Out conn (answer_text (created_parts o)) ∷ []))
-opened_answers posted number conn o asks made = told_answers posted (opened_live number o) (Out conn (answer_text (created_parts o)) ∷ []) made
-    (All-nil (WaitsFor posted number (opened_live number o).journal))
-    (one_of posted number (opened_live number o).journal (Out conn (answer_text (created_parts o))) (inr (o.request, asks, inr refl, inl (created_bytes o))))
+pub opened_answers : (stage : Stage) (number conn : ℕ) (o : Opening) → Asks stage.posted conn o.request → IsJournal (opened_live number o).journal
+    → Answers stage (opened_live number o) (told (opened_live number o) (Out conn (answer_text (created_parts o)) ∷ []))
+opened_answers stage number conn o asks made = told_answers stage (opened_live number o) (Out conn (answer_text (created_parts o)) ∷ []) made
+    (All-nil (WaitsFor stage.posted number (opened_live number o).journal))
+    (one_of stage number (opened_live number o).journal (Out conn (answer_text (created_parts o))) (inr (o.request, asks, inr refl, inl (created_bytes o))))

@@ -184,7 +184,7 @@ module _ (s : PlainLive) (up : IsUp s) (call : Call) (allowed : IsAllowed call) 
       moved_brings s (after_call s.journal call) parked [] _ same.0 (λ on. same.1 ∙ sym (append-nil (bodies_of s.journal)))
       ([], ap (λ l. l ++ []) (sym same.1)) (told_brings (record s { journal = after_call s.journal call; parked = parked }) answer)
 
-  ending_after : (parked : List Parked) (answer : List ReportLine) → TellNone answer
+  pub ending_after : (parked : List Parked) (answer : List ReportLine) → TellNone answer
       → (state (told (record s { journal = after_call s.journal call; parked = parked }) answer).after).ending ≡ (state_of (after_call s.journal call)).ending
   ending_after parked answer none =
       settled_ending (record s { journal = after_call s.journal call; parked = parked }) answer (later_made s up call allowed comes) (few s up call allowed comes) none

@@ -42,73 +42,14 @@ use Rattle.script_text.specs.declared.report.Refusal.TheVariants.{BackOver, Shut
 use Rattle.script_text.specs.declared.report.ReportLine.{ReportLine}
 use Rattle.script_text.specs.declared.report.ReportLine.TheVariants.{Out, Refused}
 use Rattle.script_text.specs.Headline.{is_numbered, is_opened, manager_of}
-use Rattle.script_text.specs.Kept.{Grew, HasJournal, IsBehind, IsBodies, run_after}
+use Rattle.script_text.specs.Kept.{HasJournal, IsBehind, IsBodies}
 use Rattle.script_text.specs.Live.{PlainLive, Turn, all_collected, arrived, if_live, if_over, not_found, state, told, ticked, turn_at, with_journal, with_parked}
 use Rattle.script_text.specs.Manager.{PlainManager, Change, only, closed, with_closed, number_of, place_of, turned_at, comes_at, comes, passed, passed_live, passed_over, opening_by, opened_live, opened_turn, with_opened, at_host, admitted_to, refused, request_in, comes_to, posted_by, posted_as, posted, is_waiting}
-use Rattle.script_text.specs.Script.{PlainRun, Beginning, Arrivals, Bodies, PlainNext, Goes, Ends, Step, bad_step, done_step, begun, takes_host, with_host, was_given, server_step, body_step, arrival_change, host_alone, arrival_step, first_step, said_step, step_by, change_step}
+use Rattle.script_text.specs.Script.{PlainRun, Beginning, Arrivals, Bodies, PlainNext, Goes, Ends, Step, bad_step, done_step, begun, takes_host, with_host, was_given, server_step, body_step, arrival_change, host_alone, arrival_step, first_step, said_step, step_by, change_step, run_after}
+use Rattle.script_text.proofs.LaterLemmas.{IsLater, same_grew, turn_later}
 use Rattle.script_text.proofs.ReportLemmas.{closed_counts}
 use Rattle.script_text.proofs.SessionsLemmas.{all_at, count_append, count_cons, either_counts, if_live-part, if_over-part, new_number, one_if, opened_more, place_splits}
 use Rattle.script_text.proofs.ToldLemmas.{same_number}
-
-same_grew : (journal : Journal) → Grew journal journal
-same_grew journal = ([], ap (λ (l : List plain.Entry). record journal { entries = l }) (sym (append-nil journal.entries)))
-
-grew_on : (journal mid longer : Journal) → Grew journal mid → Grew mid longer → Grew journal longer
-grew_on journal mid longer (more, is) (later, then_is) =
-    (more ++ later, then_is ∙ ap (λ (j : Journal). with_later j later) is ∙ ap (λ (l : List plain.Entry). record journal { entries = l }) (append_assoc journal.entries more later))
-
-entered_grew : (journal : Journal) (o : Option Entered) → Grew journal (with_entered journal o)
-entered_grew journal None = same_grew journal
-entered_grew journal (Some e) = (_, refl)
-
-call_grew : (journal : Journal) (call : Call) → Grew journal (after_call journal call)
-call_grew journal call = entered_grew journal (entered_by (state_of journal) call)
-
-taken_grew : (count : ℕ) (journal : Journal) → Grew journal (with_taken count journal)
-taken_grew zero journal = same_grew journal
-taken_grew (suc count) journal = grew_on journal (after_call journal TakeInward) _ (call_grew journal TakeInward) (taken_grew count (after_call journal TakeInward))
-
-collected_grew : (parked : List Parked) (journal : Journal) → Grew journal (all_collected journal parked)
-collected_grew [] journal = same_grew journal
-collected_grew (first ∷ parked) journal =
-    grew_on journal (after_call journal (Collect first.ticket)) _ (call_grew journal (Collect first.ticket)) (collected_grew parked (after_call journal (Collect first.ticket)))
-
--- the same session, with a longer journal
-pub record IsLater (s t : PlainLive) : Type 0 where
-  pub number : t.number ≡ s.number
-  pub grew : Grew s.journal t.journal
-
-told_later : (s : PlainLive) (answer : List ReportLine) → IsLater s (told s answer).after
-told_later s answer = record {
-  number = refl;
-  grew = grew_on s.journal (all_taken s.journal) _ (taken_grew (length (untaken s.journal)) s.journal) (collected_grew s.parked (all_taken s.journal));
-}
-
-module _ (s : PlainLive) (call : Call) where
-  abbrev later : PlainLive
-  later = with_journal s (after_call s.journal call)
-
-  called_later : (parked : List Parked) (answer : List ReportLine) → IsLater s (told (record later { parked = parked }) answer).after
-  called_later parked answer = record {
-    number = refl;
-    grew = grew_on s.journal (after_call s.journal call) _ (call_grew s.journal call) (told_later (record later { parked = parked }) answer).grew;
-  }
-
-  arrived_later : (conn : ℕ) (reply : Arrived) → IsLater s (arrived later conn reply).after
-  arrived_later conn (arrivals.Answer body) = called_later s.parked (Out conn body ∷ [])
-  arrived_later conn (arrivals.Parked ticket) = called_later (with_parked later ticket conn).parked []
-  arrived_later conn arrivals.Over = called_later s.parked (not_found conn ∷ [])
-
-  ticked_later : (reply : Ticked) → IsLater s (ticked s later reply).after
-  ticked_later Quiet = record { number = refl; grew = same_grew s.journal }
-  ticked_later Changed = called_later s.parked []
-
--- whatever comes to a session
-turn_later : (now : ℕ) (event : Event) (s : PlainLive) → IsLater s (turn_at now event s).after
-turn_later now (Arrives conn request body) s = arrived_later s (Arrive request body now) conn (arrive (state s) request body now).1
-turn_later now (Gives stanza) s = called_later s (Back unnamed stanza now) s.parked []
-turn_later now (Shuts closing) s = called_later s (BackClosed unnamed closing now) s.parked []
-turn_later now Passes s = ticked_later s (Tick now) (tick (state s) now).1
 
 later_behind : (entries : List SessionEntry) (s t : PlainLive) → HasJournal entries s → IsLater s t → IsBehind entries t
 later_behind entries s t has later = inr (s.journal, subst (λ n. IsJournalOf (journal_in n entries) s.journal) (sym later.number) has, later.grew)

@@ -96,7 +96,7 @@ module _ (journal : Journal) (call : Call) (made : IsJournal journal) (allowed :
   pub after_passed : (state_of (after_call journal call)).passed ≡ (state_of journal).passed
   after_passed = passed_by (entered_by (state_of journal) call) refl (after_made journal call made allowed)
 
-called_state : {X : Type 0} (reply : X → Reply) (p : PlainSession × X) → (called reply p).0 ≡ p.0
+pub called_state : {X : Type 0} (reply : X → Reply) (p : PlainSession × X) → (called reply p).0 ≡ p.0
 called_state reply (s, x) = refl
 
 -- Taking.
@@ -155,7 +155,7 @@ from_same : (s : PlainSession) (index : ℕ) (o : Option Issued) → SameButTick
 from_same s index None = (s.tickets, refl)
 from_same s index (Some ticket) = ticket_same s index ticket ticket.state
 
-collect_same : (s : PlainSession) (ticket : ℕ) → SameButTickets s (collect s ticket).0
+pub collect_same : (s : PlainSession) (ticket : ℕ) → SameButTickets s (collect s ticket).0
 collect_same s zero = (s.tickets, refl)
 collect_same s (suc index) = from_same s index (slice_get s.tickets index)
 

@@ -22,7 +22,8 @@ use Rattle.session_store.proofs.GrownLemmas.{journals_grow}
 use Rattle.session_store.proofs.JournalLemmas.{with_own, with_other}
 use Rattle.script_text.specs.declared.live.Live.{Live}
 use Rattle.script_text.specs.Headline.{is_numbered, is_opened}
-use Rattle.script_text.specs.Kept.{AddsJournals, Grew, HasJournal, HaveJournals, IsBehind, IsNextAtMost, KeepsSome}
+use Rattle.script_text.specs.Entered.{Grew}
+use Rattle.script_text.specs.Kept.{AddsJournals, HasJournal, HaveJournals, IsBehind, IsNextAtMost, KeepsSome}
 use Rattle.script_text.specs.Live.{PlainLive}
 use Rattle.script_text.specs.Manager.{PlainManager}
 use Rattle.script_text.specs.Stands.{AreLive, IsLive}

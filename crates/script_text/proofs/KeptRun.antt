@@ -24,12 +24,12 @@ use Rattle.script_text.specs.declared.report.ReportLine.TheVariants.{Bad as Says
 use Rattle.script_text.specs.declared.run.Effect.{Effect}
 use Rattle.script_text.specs.declared.run.Next.TheVariants as nexts
 use Rattle.script_text.specs.declared.run.Run.{Run}
-use Rattle.script_text.specs.Kept.{HasEither, HasJournalsOf, HasKept, HasReached, HaveJournals, IsBodies, KeepsUp, Reached, onward, reached, read_at, run_after}
+use Rattle.script_text.specs.Kept.{HasEither, HasJournalsOf, HasKept, HasReached, HaveJournals, IsBodies, KeepsUp, Reached, onward, reached, read_at}
 use Rattle.script_text.specs.Line.{line_of}
 use Rattle.script_text.specs.Live.{PlainLive}
 use Rattle.script_text.specs.Manager.{PlainManager}
 use Rattle.script_text.specs.Report.{report_text}
-use Rattle.script_text.specs.Script.{PlainRun, Goes, Ends, PlainNext, Step, said, step_by, within_length}
+use Rattle.script_text.specs.Script.{PlainRun, Goes, Ends, PlainNext, Step, run_after, said, step_by, within_length}
 use Rattle.script_text.specs.Stands.{Does, IsNext, IsRun}
 use Rattle.script_text.specs.Step.{read_of}
 use Rattle.script_text.proofs.GivenLemmas.{second_part, two_parts}

@@ -28,10 +28,10 @@ use Rattle.script_text.specs.declared.report.Refusal.TheVariants.{BackOver, Shut
 use Rattle.script_text.specs.declared.run.Next.TheVariants as nexts
 use Rattle.script_text.specs.declared.run.Run.{Run}
 use Rattle.script_text.specs.Headline.{manager_of}
-use Rattle.script_text.specs.Kept.{AddsJournals, HasEither, HasJournal, HasJournalsOf, HasKept, HasNoneOrAll, HasReached, HasStored, HaveReached, IsBodies, KeepsSome, Reached, onward, run_after}
+use Rattle.script_text.specs.Kept.{AddsJournals, HasEither, HasJournal, HasJournalsOf, HasKept, HasNoneOrAll, HasReached, HasStored, HaveReached, IsBodies, KeepsSome, Reached, onward}
 use Rattle.script_text.specs.Live.{PlainLive}
 use Rattle.script_text.specs.Manager.{PlainManager, is_waiting, number_of}
-use Rattle.script_text.specs.Script.{PlainRun, Beginning, Arrivals, Bodies, PlainNext, Goes, Ends, Step, body_step, server_step, step_by, takes_host, was_given}
+use Rattle.script_text.specs.Script.{PlainRun, Beginning, Arrivals, Bodies, PlainNext, Goes, Ends, Step, body_step, run_after, server_step, step_by, takes_host, was_given}
 use Rattle.script_text.specs.Stands.{AreLive, IsNext, IsRun}
 use Rattle.script_text.proofs.GrowLemmas.{Continues, step_continues}
 use Rattle.script_text.proofs.KeptLemmas.{line_begins, line_ends}

@@ -20,6 +20,7 @@ use Rattle.script_text.specs.Manager.{PlainManager, Change, only, closed, with_c
 use Rattle.script_text.specs.Posted.{is_for, bodies_of, CameFrom}
 use Rattle.script_text.specs.Stands.{IsEvent}
 use Rattle.script_text.proofs.BodiesLemmas.{Brings, told_brings, brought, turn_brings}
+use Rattle.script_text.proofs.PositionLemmas.{none_there, some_within}
 use Rattle.script_text.proofs.ReportLemmas.{Holds}
 use Rattle.script_text.proofs.SessionsLemmas.{Ended, GoesOn, TellsAll, all_both, all_front, all_back, all_at, place_splits, swapped, apart}
 use Rattle.script_text.proofs.TurnLemmas.{comes_turn}
@@ -106,24 +107,6 @@ came_parts posts over front back s ended before after came = record {
     live_part : (b : Bool) → All (CameFrom posts) (if b then [] else s ∷ [])
     live_part true = All-nil (CameFrom posts)
     live_part false = All-cons (CameFrom posts) s [] came (All-nil (CameFrom posts))
-
--- the place of a session in a list
-none_there : (p : PlainLive → Bool) (live : List PlainLive) → position p live ≡ None → All (λ s. p s ≡ false) live
-none_there p live none = λ k d within. fails_before_first p live k d (by (nat_lt (position_or_len p live) (length live)) refl none k within)
-  where
-    by : (b : Bool) → nat_lt (position_or_len p live) (length live) ≡ b → cond b (Some (position_or_len p live)) None ≡ None
-        → (k : ℕ) → k < length live → k < position_or_len p live
-    by true is none k within = absurd (cc)
-    by false is none k within = omega (arith, ltb-false (position_or_len p live) (length live) is, within)
-
-some_within : (p : PlainLive → Bool) (live : List PlainLive) (place : ℕ) → position p live ≡ Some place → place < length live
-some_within p live place is = by (nat_lt (position_or_len p live) (length live)) refl is
-  where
-    by : (b : Bool) → nat_lt (position_or_len p live) (length live) ≡ b → cond b (Some (position_or_len p live)) None ≡ Some place → place < length live
-    by true within some =
-        let same : position_or_len p live ≡ place = cc in
-        omega (arith, ltb-true (position_or_len p live) (length live) within, same)
-    by false within some = absurd (cc)
 
 get_is : (live : List PlainLive) (k : ℕ) (s d : PlainLive) → slice_get live k ≡ Some s → get_or live k d ≡ s
 get_is [] k s d is = absurd (cc)

@@ -1,7 +1,6 @@
 -- A request whose id has a kept answer is given its bytes.
 use Rattle.std.proofs.Common.{◌≡◌, ℕ, ◌+◌, false, List, [], ◌∷◌, ◌++◌, All, map, Some, None, refl, sym, subst, ◌∙◌, if◌then◌else◌}
 use Rattle.std.specs.Prelude.{slice_get}
-use Rattle.std.proofs.lemmas.List.Elements.{All-nil, All-cons}
 use Rattle.bosh_types.specs.declared.kept.KeptAnswer.{KeptAnswer}
 use Rattle.session_attrs.specs.declared.request.Kind.{Kind}
 use Rattle.session_attrs.specs.declared.request.Kind.TheVariants as kinds
@@ -12,21 +11,19 @@ use Rattle.session_core.specs.Machine.{arrive}
 use Rattle.session_laws.specs.Laws.{KeptLaws}
 use Rattle.script_text.specs.declared.event.Event.TheVariants.{Arrives}
 use Rattle.script_text.specs.declared.line.BadKind.TheVariants.{Connection}
-use Rattle.script_text.specs.declared.line.LineRead.{LineRead}
-use Rattle.script_text.specs.declared.line.LineRead.TheVariants.{BadLine}
 use Rattle.script_text.specs.declared.report.ReportLine.{ReportLine}
 use Rattle.script_text.specs.declared.report.ReportLine.TheVariants.{In, Out}
-use Rattle.script_text.specs.Answered.{Posting, IsAmong, Repeats, GivesKept, postings_in, stage_of, stages_on, stages_by}
+use Rattle.script_text.specs.Answered.{Repeats, GivesKept, stages_by}
+use Rattle.script_text.specs.Refusing.{IsAmong}
 use Rattle.script_text.specs.Headline.{manager_of}
-use Rattle.line_reader.specs.Lines.{lines_of}
 use Rattle.session_calls.specs.After.{after_call, untaken}
 use Rattle.script_text.specs.Live.{PlainLive, state, told, with_journal, arrived, turn_at, not_found}
 use Rattle.script_text.specs.Manager.{PlainManager, Change, only, is_waiting, comes_at, comes, comes_to, posted_by, posted_as, posted}
 use Rattle.script_text.specs.Posted.{named_of}
-use Rattle.script_text.specs.Script.{PlainRun, Beginning, Bodies, PlainNext, Goes, Ends, begun, bad_step, change_step, post_step, step_by, said}
-use Rattle.script_text.proofs.HeadlineLemmas.{Follows, step_holds, well_said, new_holds}
+use Rattle.script_text.specs.Script.{Bodies, begun, bad_step, change_step, post_step, step_by}
 use Rattle.script_text.proofs.ReportLemmas.{Holds}
 use Rattle.script_text.proofs.SessionsLemmas.{GoesOn, all_at}
+use Rattle.script_text.proofs.StageLemmas.{OfEach, every_stage}
 use Rattle.script_text.proofs.TicketIds.{called_reply}
 
 same_reply : (r told : Arrived) → ToArrive r ≡ ToArrive told → r ≡ told
@@ -66,29 +63,12 @@ module _ (laws : (journal : Journal) → IsJournal journal → KeptLaws journal)
     line_gives : (n : ℕ) → is_waiting m conn ≡ false → IsAmong line (post_step m n conn body).lines
     line_gives n free = subst (λ b. IsAmong line (if b then bad_step n Connection else change_step (posted (begun m) conn body)).lines) (sym free) body_gives
 
-  stage_gives : (posted : List Posting) (report : List ReportLine) (over : List PlainLive) (run : PlainRun) → Holds report over (manager_of run) → (n : ℕ) (read : LineRead)
-      → GivesKept (stage_of posted run n read)
-  stage_gives posted report over run holds n read m conn body answer before says free r =
+  stage_gives : OfEach GivesKept
+  stage_gives posted report over run holds n read well m conn body answer before says free r =
       let here = subst (λ run. Holds report over (manager_of run)) before holds in
       subst (λ run. IsAmong (Out conn answer.bytes) (step_by run n read).lines) (sym before)
       (subst (λ read. IsAmong (Out conn answer.bytes) (step_by (Bodies m) n read).lines) (sym says) (line_gives report over m here conn body answer r n free))
 
-  repeats_on : (lines : List (List ℕ)) (run : PlainRun) (n : ℕ) (posted : List Posting) (report : List ReportLine) (over : List PlainLive) → Holds report over (manager_of run)
-      → All GivesKept (stages_on posted run n lines)
-  repeats_on [] run n posted report over holds = All-cons GivesKept (stage_of posted run n (BadLine _)) [] (stage_gives posted report over run holds n (BadLine _)) (All-nil GivesKept)
-  repeats_on (line ∷ others) run n posted report over holds =
-      by (λ after. repeats_on others after (n + 1)) (step_by run n (said n line)).next (step_holds report over run holds n (said n line) (well_said n line))
-    where
-      by : ((after : PlainRun) (posted : List Posting) (report : List ReportLine) (over : List PlainLive) → Holds report over (manager_of after) → All GivesKept (stages_on posted after (n + 1) others))
-          → (next : PlainNext) → Follows report over (manager_of run) (step_by run n (said n line)).lines (step_by run n (said n line)).over next
-          → All GivesKept (stage_of posted run n (said n line) ∷ elim next [
-            | Goes after ↦ stages_on (postings_in (said n line) ++ posted) after (n + 1) others
-            | Ends outcome ↦ []
-          ])
-      by rest (Goes after) follows = All-cons GivesKept (stage_of posted run n (said n line)) _ (stage_gives posted report over run holds n (said n line))
-          (rest after (postings_in (said n line) ++ posted) (report ++ (step_by run n (said n line)).lines) (over ++ (step_by run n (said n line)).over) follows)
-      by rest (Ends outcome) follows = All-cons GivesKept (stage_of posted run n (said n line)) [] (stage_gives posted report over run holds n (said n line)) (All-nil GivesKept)
-
   -- along every script
   pub repeats_given : (script : List ℕ) → All GivesKept (stages_by script)
-  repeats_given script = repeats_on (lines_of script) Beginning 1 [] [] [] new_holds
+  repeats_given script = every_stage GivesKept stage_gives script

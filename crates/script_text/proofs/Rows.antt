@@ -14,7 +14,7 @@ use Rattle.script_text.specs.Script.{creation_text, request_head, drive_of}
 use Rattle.script_text.specs.Stanza.{row_of}
 
 -- what a row unfolds: the reading of bodies, the meaning of attributes, the texts of answers, lines and reports
-unfoldable scripts_compute : ⊤
+unfoldable pub scripts_compute : ⊤
 unfolding cuts_compute bodies_compute keys_compute is_named value_of is_httpbind number_of pause_of version_of wish_of ack_of terminate_of flag_of rid_in creation_in asked_in request_with request_of may_greet moment_of closing_of later_line line_of sid_of is_host_name line_text ending_text creation_text request_head row_of
 scripts_compute = tt
 

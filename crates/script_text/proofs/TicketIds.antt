@@ -96,7 +96,7 @@ struck_ids : (struck : List ℕ) (tickets : List Issued) → ids (struck_tickets
 struck_ids [] tickets = refl
 struck_ids (rid ∷ struck) tickets = struck_ids struck (map (strike_ticket rid) tickets) ∙ strike_ids rid tickets
 
-length_struck : (struck : List ℕ) (tickets : List Issued) → length (struck_tickets struck tickets) ≡ length tickets
+pub length_struck : (struck : List ℕ) (tickets : List Issued) → length (struck_tickets struck tickets) ≡ length tickets
 length_struck [] tickets = refl
 length_struck (rid ∷ struck) tickets = length_struck struck (map (strike_ticket rid) tickets) ∙ length-map tickets (strike_ticket rid)
 

@@ -1,12 +1,11 @@
 -- What the answers of a report are: each is for the latest request on its connection, and is what a session gave that request's
--- id, or the error of a copy of it that was struck, or a refusal.
+-- id, or the error of a copy of it that was struck, or a refusal with its cause.
 use Rattle.std.specs.Prelude.{◌≡◌, ℕ, ◌+◌, ◌==◌, true, false, ⊤, nat_lt, List, [], ◌∷◌, ◌++◌, All, Option, Some, None, slice_get, ◌⊎◌, if◌then◌else◌}
 use Rattle.bosh_types.specs.Limits.{most_lines}
 use Rattle.bosh_types.specs.declared.condition.Condition.{Condition}
 use Rattle.bosh_types.specs.declared.kept.KeptAnswer.{KeptAnswer}
-use Rattle.body_writer.specs.Answer.{answer_text}
 use Rattle.session_attrs.specs.declared.request.Request.{Request}
-use Rattle.session_core.specs.Endings.{error_text, terminal}
+use Rattle.session_core.specs.Endings.{error_text}
 use Rattle.session_core.specs.Journal.{Journal}
 use Rattle.session_core.specs.Kept.{kept_of}
 use Rattle.session_core.specs.Machine.{bytes_for, body_cost, is_full}
@@ -19,12 +18,13 @@ use Rattle.script_text.specs.declared.line.ScriptLine.{ScriptLine}
 use Rattle.script_text.specs.declared.line.ScriptLine.TheVariants.{Open, Short, Host, At, Post, Close, Back, Shut, End as LastLine}
 use Rattle.script_text.specs.declared.report.ReportLine.{ReportLine}
 use Rattle.script_text.specs.declared.report.ReportLine.TheVariants.{In, Out, Lost, Gone, Refused, Over, Done, Bad}
-use Rattle.script_text.specs.Headline.{is_opened}
+use Rattle.script_text.specs.Headline.{is_opened, manager_of}
 use Rattle.line_reader.specs.Lines.{lines_of}
 use Rattle.script_text.specs.Live.{PlainLive, state}
-use Rattle.script_text.specs.Manager.{PlainManager, is_waiting, place_of, request_in}
+use Rattle.script_text.specs.Manager.{PlainManager, is_waiting, new_manager, place_of, request_in}
 use Rattle.script_text.specs.Posted.{named_of}
-use Rattle.script_text.specs.Script.{PlainRun, Beginning, Bodies, Goes, Ends, step_by, said}
+use Rattle.script_text.specs.Refusing.{Cause, EndsItsSession, IsAmong, refusal_text}
+use Rattle.script_text.specs.Script.{PlainRun, Beginning, Arrivals, Bodies, Goes, Ends, Step, run_after, step_by, said}
 
 -- a body that a line posts on a connection
 pub record Posting : Type 0 where
@@ -47,15 +47,28 @@ postings_in (Line said) = postings_of said
 postings_in (BadLine kind) = []
 
 -- a line of a script where it stands: what it says, what the script is run over before it, what was posted up to it, the latest
--- first, and what the report tells of it
+-- first, what the report tells of it, and the sessions as they are after it, those that ended with it first
 pub record Stage : Type 0 where
   pub said : LineRead
   pub before : PlainRun
   pub posted : List Posting
   pub lines : List ReportLine
+  pub after : List PlainLive
+
+abbrev pub sessions_after : PlainRun → Step → List PlainLive
+sessions_after run step = step.over ++ (manager_of (run_after run step.next)).live
+
+abbrev pub stage_with : List Posting → PlainRun → LineRead → Step → Stage
+stage_with posted run read step = record { said = read; before = run; posted = posted; lines = step.lines; after = sessions_after run step }
 
 abbrev pub stage_of : List Posting → PlainRun → ℕ → LineRead → Stage
-stage_of posted run n read = record { said = read; before = run; posted = postings_in read ++ posted; lines = (step_by run n read).lines }
+stage_of posted run n read = stage_with (postings_in read ++ posted) run read (step_by run n read)
+
+-- a script of bodies is run over this; one of the requests of one session over none
+abbrev pub over_bodies : PlainRun → Option PlainManager
+over_bodies Beginning = Some new_manager
+over_bodies (Arrivals m) = None
+over_bodies (Bodies m) = Some m
 
 -- the lines of a script, to the one with which it ends
 abbrev pub stages_on : List Posting → PlainRun → ℕ → List (List ℕ) → List Stage
@@ -77,9 +90,18 @@ lines_told (stage ∷ stages) = stage.lines ++ lines_told stages
 
 -- Answers.
 
--- a body that refuses a request with a condition, and gives no id anything
-abbrev pub IsRefusal : List ℕ → Type 0
-IsRefusal body = (condition : Condition) × (body ≡ answer_text (terminal (Some condition)))
+-- the line posts a body on this connection, which is refused with a condition that has its cause
+abbrev pub IsRefusal : Stage → ℕ → List ℕ → Type 0
+IsRefusal stage conn body =
+    (asked : List ℕ) × (condition : Condition) × (stage.said ≡ Line (Post conn asked)) × (body ≡ refusal_text condition)
+    × (Cause (manager_of stage.before) asked condition ⊎ EndsItsSession stage.lines asked condition)
+
+-- and where such a cause holds, the body is refused so, and nothing else comes of the line
+abbrev pub IsRefused : Stage → Type 0
+IsRefused stage =
+    (m : PlainManager) (conn : ℕ) (asked : List ℕ) (condition : Condition) → over_bodies stage.before ≡ Some m → stage.said ≡ Line (Post conn asked)
+    → is_waiting m conn ≡ false → Cause m asked condition
+    → (stage.lines ≡ Out conn (refusal_text condition) ∷ []) × (stage.after ≡ m.live)
 
 -- the latest body on this connection
 abbrev pub latest_on : ℕ → List Posting → Option (List ℕ)
@@ -109,26 +131,22 @@ IsGivenBy sessions number request bytes =
 
 -- of these sessions, with numbers up to this one, one gave this answer to the id of the latest request on its connection, or
 -- told it that a copy of that id was struck; or the answer is a refusal
-abbrev pub IsAccounted : ℕ → List PlainLive → List Posting → ReportLine → Type 0
-IsAccounted opened sessions posted (In session item) = ⊤
-IsAccounted opened sessions posted (Out conn body) =
-    IsRefusal body
-    ⊎ ((number : ℕ) × (request : Request) × Asks posted conn request × (is_opened opened number ≡ true) × IsGivenBy sessions number request body)
-IsAccounted opened sessions posted (Lost conn) = ⊤
-IsAccounted opened sessions posted (Gone conn) = ⊤
-IsAccounted opened sessions posted (Refused session refusal) = ⊤
-IsAccounted opened sessions posted (Over session ending) = ⊤
-IsAccounted opened sessions posted (Done line) = ⊤
-IsAccounted opened sessions posted (Bad line kind) = ⊤
+abbrev pub IsAccounted : ℕ → List PlainLive → Stage → ReportLine → Type 0
+IsAccounted opened sessions stage (In session item) = ⊤
+IsAccounted opened sessions stage (Out conn body) =
+    IsRefusal stage conn body
+    ⊎ ((number : ℕ) × (request : Request) × Asks stage.posted conn request × (is_opened opened number ≡ true) × IsGivenBy sessions number request body)
+IsAccounted opened sessions stage (Lost conn) = ⊤
+IsAccounted opened sessions stage (Gone conn) = ⊤
+IsAccounted opened sessions stage (Refused session refusal) = ⊤
+IsAccounted opened sessions stage (Over session ending) = ⊤
+IsAccounted opened sessions stage (Done line) = ⊤
+IsAccounted opened sessions stage (Bad line kind) = ⊤
 
 abbrev pub AreAccounted : ℕ → List PlainLive → Stage → Type 0
-AreAccounted opened sessions stage = All (IsAccounted opened sessions stage.posted) stage.lines
+AreAccounted opened sessions stage = All (IsAccounted opened sessions stage) stage.lines
 
 -- Repeats.
-
--- this line is one of these
-abbrev pub IsAmong : ReportLine → List ReportLine → Type 0
-IsAmong line lines = (before after : List ReportLine) × (lines ≡ before ++ line ∷ after)
 
 -- a request for a live session that keeps an answer for its id, as time stands, and whose journal has room
 pub record Repeats (m : PlainManager) (body : List ℕ) (answer : KeptAnswer) : Type 0 where

@@ -2,9 +2,7 @@
 use Rattle.std.specs.Prelude.{◌≡◌, ◌⊎◌, ⊤, ℕ, zero, suc, ◌+◌, ◌≤◌, false, List, [], ◌∷◌, ◌++◌, All, count_by, nat_le, nat_lt, Option, Some, None, slice_get, if◌then◌else◌}
 use Rattle.std.specs.List.{AllByRecursion}
 use Rattle.bosh_ports.specs.Sink.{AppendsFront}
-use Rattle.session_core.specs.Journal as plain
 use Rattle.session_core.specs.Journal.{Journal}
-use Rattle.session_laws.specs.Growing.{with_later}
 use Rattle.session_journal.specs.Stored.{IsJournalOf}
 use Rattle.bosh_types.specs.Limits.{most_lines}
 use Rattle.journal_store.specs.Entries.{AreEntriesOf, FitsContent, journal_in}
@@ -19,11 +17,12 @@ use Rattle.script_text.specs.declared.line.BadKind.TheVariants.{Count, End}
 use Rattle.script_text.specs.declared.line.LineRead.{LineRead}
 use Rattle.script_text.specs.declared.line.LineRead.TheVariants.{BadLine}
 use Rattle.script_text.specs.declared.report.ReportLine.{ReportLine}
+use Rattle.script_text.specs.Entered.{Grew}
 use Rattle.script_text.specs.Headline.{is_numbered, is_opened, manager_of}
 use Rattle.script_text.specs.Live.{PlainLive}
 use Rattle.script_text.specs.Manager.{PlainManager}
 use Rattle.script_text.specs.Report.{report_text}
-use Rattle.script_text.specs.Script.{PlainRun, Bodies, Goes, Ends, PlainNext, Step, Drive, drive_on, said, step_by}
+use Rattle.script_text.specs.Script.{PlainRun, Bodies, Goes, Ends, PlainNext, Step, Drive, drive_on, run_after, said, step_by}
 
 -- what a script gives over sessions that go on
 abbrev pub drive_from : PlainManager → List ℕ → Drive
@@ -38,10 +37,6 @@ pub record Reached : Type 0 where
 -- what a line of a script says, where it has so many
 abbrev pub read_at : List (List ℕ) → ℕ → LineRead
 read_at lines place = elim (slice_get lines place) [ None ↦ BadLine (if nat_lt most_lines (place + 1) then Count else End) | Some line ↦ said (place + 1) line ]
-
-abbrev pub run_after : PlainRun → PlainNext → PlainRun
-run_after run (Goes after) = after
-run_after run (Ends outcome) = run
 
 -- one line more
 abbrev pub onward : Reached → Step → Reached
@@ -58,10 +53,6 @@ sessions_at ended r = ended ++ (r.over ++ (manager_of r.run).live)
 -- the entries tell the journal of a session
 abbrev pub HasJournal : List SessionEntry → PlainLive → Type 0
 HasJournal entries s = IsJournalOf (journal_in s.number entries) s.journal
-
--- a journal is an earlier one with more entries
-abbrev pub Grew : Journal → Journal → Type 0
-Grew journal longer = (more : List plain.Entry) × (longer ≡ with_later journal more)
 
 -- the entries tell a beginning of the journal of a session, or nothing of it
 abbrev pub IsBehind : List SessionEntry → PlainLive → Type 0

@@ -1,6 +1,9 @@
 pub mod Answered
+pub mod Entered
+pub mod Fates
 pub mod Fault
 pub mod Given
+pub mod Handed
 pub mod Headline
 pub mod Hosts
 pub mod Kept
@@ -9,6 +12,7 @@ pub mod Live
 pub mod Manager
 pub mod Names
 pub mod Posted
+pub mod Refusing
 pub mod Report
 pub mod Resumed
 pub mod Said

@@ -36,6 +36,11 @@ pub data PlainNext : Type 0 where
   Goes : PlainRun → PlainNext
   Ends : Driven → PlainNext
 
+-- what the script is run over after a line, and at its end as before its last one
+abbrev pub run_after : PlainRun → PlainNext → PlainRun
+run_after run (Goes after) = after
+run_after run (Ends outcome) = run
+
 -- what a line does: its lines of the report, what follows it, and the sessions that ended with it
 pub record Step : Type 0 where
   pub lines : List ReportLine

@@ -29,7 +29,7 @@ use Rattle.serve_loop.specs.Answering.{Adds, IsWaiting, ShowsSession, Tells, Tel
 use Rattle.serve_loop.specs.Effects.{AddsNothing, CallsOne, FindsAtMost}
 use Rattle.serve_loop.specs.Trail.{IsEntry, IsNow, IsTrueOf, Names, Setting, refusal_text}
 use Rattle.serve_loop.proofs.AskedLemmas.{read_from}
-use Rattle.serve_loop.proofs.EffectLemmas.{called_for_nothing, calls_one}
+use Rattle.serve_loop.proofs.EffectLemmas.{called_for_nothing, calls_one, goes_call, goes_further, goes_look}
 use Rattle.serve_loop.proofs.EntryLemmas.{answers_by, arrival_made, last_place, over_made}
 use Rattle.serve_loop.proofs.OwnLemmas.{none_since_look, owns}
 use Rattle.serve_loop.proofs.TellingLemmas.{seen_none, seen_one, tells_line}
@@ -139,7 +139,8 @@ module _ (site : Setting) (body sid : List ℕ) (request : Request) (now number 
           added = e ∷ [];
           answers = answers_by site call.before e e.call request body text now at_now made.2 answered;
           number = number;
-          alone = calls_one old mid new number sid x t.since (e ∷ []) found turned.was named since_named
+          alone = calls_one old mid new number sid x t.since (e ∷ []) found
+              (goes_further x y t.since (goes_call x y turned.of_same turned.pass_number call) (goes_look y t.since t.of_same t.pass_number t.looked)) turned.was named since_named
               (t.looked.mine ∙ (call.mine ∙ ap (λ (m : Option journal.Entry). (known x.pass).mine ++ option_to_list m) made.1)) t.last beside.others beside.directory;
         }
 
@@ -170,7 +171,7 @@ module _ (site : Setting) (body sid : List ℕ) (request : Request) (now number 
             since = refl;
             waits = (now, at_now, subst (λ (m : Option journal.Entry). Replies call.before (plain.Arrive request body now) (plain.ToArrive (arrivals.Parked ticket)) m) made.1 call.says);
           };
-          alone = calls_one old mid new number sid x y (e ∷ []) found turned.was named y_named
+          alone = calls_one old mid new number sid x y (e ∷ []) found (goes_call x y turned.of_same turned.pass_number call) turned.was named y_named
               (call.mine ∙ ap (λ (m : Option journal.Entry). (known x.pass).mine ++ option_to_list m) made.1) (inl turned.is) beside.others beside.directory;
         }
 
@@ -188,7 +189,7 @@ module _ (site : Setting) (body sid : List ℕ) (request : Request) (now number 
         let over = over_made call.before request body now call.made (read_from body request names.read, (sid, names.named)) call.says in
         let seen = seen_none (λ e. e.caller) (known x.pass).number call.before (known y.pass).seen call.made over.0 call.seen in
         let ended : After (known y.pass).seen (λ s. is_over s ≡ true) = subst (λ (log : List journal.Entry). After log (λ s. is_over s ≡ true)) (sym seen) over.1 in
-        let alone : CallsOne old new number y [] = calls_one old mid new number sid x y [] found turned.was named y_named
+        let alone : CallsOne old new number y [] = calls_one old mid new number sid x y [] found (goes_call x y turned.of_same turned.pass_number call) turned.was named y_named
         (call.mine ∙ ap (λ (m : Option journal.Entry). (known x.pass).mine ++ option_to_list m) over.0) (inr (gone, ended)) beside.others beside.directory in
         record {
           request = request;
@@ -215,7 +216,8 @@ module _ (site : Setting) (body sid : List ℕ) (request : Request) (now number 
     pub arrives_wanting : (error : AllocError) → Turned number mid.sessions new.sessions (Calls (λ e. e.caller) (λ log made. RepliesTo log (calls.Arrive request body now) (Err error) made))
         → AddsNothing old new
     arrives_wanting error turned =
-        called_for_nothing old mid new number sid turned.before turned.after found turned.was turned.is turned.of_same.sid
+        called_for_nothing old mid new number sid turned.before turned.after found (goes_call turned.before turned.after turned.of_same turned.pass_number turned.says) turned.was turned.is
+        turned.of_same.sid
         (turned.says.mine ∙ (ap (λ (m : Option journal.Entry). (known turned.before.pass).mine ++ option_to_list m) turned.says.says ∙ append-nil (known turned.before.pass).mine))
         beside.others beside.directory
 
@@ -223,6 +225,7 @@ module _ (site : Setting) (body sid : List ℕ) (request : Request) (now number 
     over_wanting turned =
         let call = turned.says in
         let over = over_made call.before request body now call.made (read_from body request names.read, (sid, names.named)) call.says in
-        called_for_nothing old mid new number sid turned.before turned.after found turned.was turned.is turned.of_same.sid
+        called_for_nothing old mid new number sid turned.before turned.after found (goes_call turned.before turned.after turned.of_same turned.pass_number turned.says) turned.was turned.is
+        turned.of_same.sid
         (call.mine ∙ (ap (λ (m : Option journal.Entry). (known turned.before.pass).mine ++ option_to_list m) over.0 ∙ append-nil (known turned.before.pass).mine))
         beside.others beside.directory

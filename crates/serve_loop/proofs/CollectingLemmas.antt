@@ -20,7 +20,7 @@ use Rattle.serve_loop.specs.Answering.{IsTakenOver, IsUnanswered, IsWaiting, Tel
 use Rattle.serve_loop.specs.Effects.{CallsOne}
 use Rattle.serve_loop.specs.Trail.{IsEntry, Setting, WaitedFor}
 use Rattle.serve_loop.proofs.ArrivingLemmas.{Beside, tells_last}
-use Rattle.serve_loop.proofs.EffectLemmas.{calls_on}
+use Rattle.serve_loop.proofs.EffectLemmas.{calls_on, goes_call, goes_further, goes_look}
 use Rattle.serve_loop.proofs.EntryLemmas.{collect_made, collected_by, last_place, waits_on}
 use Rattle.serve_loop.proofs.OwnLemmas.{none_before_call, none_since_look, owns}
 use Rattle.serve_loop.proofs.TellingLemmas.{seen_one}
@@ -56,7 +56,7 @@ module _ (site : Setting) (body : List ℕ) (w : Waiting) (old mid : Purse) (wai
               turned.says.begins.1 turned.pass_number
               (none_since_look (known x.pass).number (known x.pass) (known y.pass) turned.says.begins.0 turned.says.begins.1 (owns x (known x.pass).number refl)
               (owns y (known x.pass).number turned.pass_number) turned.says.mine) it.came;
-          alone = calls_on old mid new w.session.number x y (it.came.entry ∷ []) [] it.alone turned.of_same.sid
+          alone = calls_on old mid new w.session.number x y (it.came.entry ∷ []) [] it.alone (goes_look x y turned.of_same turned.pass_number turned.says) turned.of_same.sid
               (turned.says.mine ∙ sym (append-nil (known x.pass).mine)) (inl turned.is) beside.others beside.directory;
         }
 
@@ -95,7 +95,8 @@ module _ (site : Setting) (body : List ℕ) (w : Waiting) (old mid : Purse) (wai
           added = it.came.entry ∷ e ∷ [];
           answers = collected_by site call.before e e.call waits.request body text w.ticket made.2 came collected;
           number = w.session.number;
-          alone = calls_on old mid new w.session.number x t.since (it.came.entry ∷ []) (e ∷ []) it.alone (t.of_same.sid ∙ turned.of_same.sid)
+          alone = calls_on old mid new w.session.number x t.since (it.came.entry ∷ []) (e ∷ []) it.alone
+              (goes_further x y t.since (goes_call x y turned.of_same turned.pass_number call) (goes_look y t.since t.of_same t.pass_number t.looked)) (t.of_same.sid ∙ turned.of_same.sid)
               (t.looked.mine ∙ (call.mine ∙ ap (λ (m : Option journal.Entry). (known x.pass).mine ++ option_to_list m) made.1)) t.last beside.others beside.directory;
         }
 
@@ -130,6 +131,6 @@ module _ (site : Setting) (body : List ℕ) (w : Waiting) (old mid : Purse) (wai
           found = collected_as what;
           gets_none = none;
           told = call.says;
-          alone = calls_on old mid new w.session.number x y (it.came.entry ∷ []) (option_to_list call.made) it.alone turned.of_same.sid
+          alone = calls_on old mid new w.session.number x y (it.came.entry ∷ []) (option_to_list call.made) it.alone (goes_call x y turned.of_same turned.pass_number call) turned.of_same.sid
               call.mine (inl turned.is) beside.others beside.directory;
         }

@@ -3,6 +3,7 @@ pub mod ArrivingLemmas
 pub mod AskedLemmas
 pub mod CollectingLemmas
 pub mod ConnectionLemmas
+pub mod DrawingLemmas
 pub mod EffectLemmas
 pub mod OwnLemmas
 pub mod EntryLemmas

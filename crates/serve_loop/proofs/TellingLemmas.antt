@@ -1,5 +1,5 @@
 -- What a line of a trail says is true.
-use Rattle.std.proofs.Common.{◌≡◌, ℕ, true, List, [], ◌∷◌, ◌++◌, Option, Some, None, ◌⊎◌, refl, sym, ◌∙◌, ap, subst, inl, inr, slice_get}
+use Rattle.std.proofs.Common.{◌≡◌, ℕ, ◌+◌, true, List, [], ◌∷◌, ◌++◌, length, Option, Some, None, ◌⊎◌, refl, sym, ◌∙◌, ap, subst, inl, inr, slice_get}
 use Rattle.std.specs.Arc.{arc_value}
 use Rattle.std.specs.BTreeMap.{IsUnchanged}
 use Rattle.bosh_types.specs.declared.condition.Condition.{Condition}
@@ -16,7 +16,7 @@ use Rattle.session_table.specs.declared.handle.SessionHandle.{SessionHandle}
 use Rattle.session_table.specs.declared.opening.Limits.{Limits}
 use Rattle.session_table.specs.declared.opening.Opening.{Opening}
 use Rattle.session_table.specs.declared.purse.Purse.{Purse}
-use Rattle.session_table.specs.History.{live_at, opening_in}
+use Rattle.session_table.specs.History.{live_at, opening_in, openings_of}
 use Rattle.session_table.specs.Purses.{OpensInto, OthersStay, Sessions, held}
 use Rattle.session_table.specs.Replies.{IsFull, IsSpent, Opens, Starts}
 use Rattle.serve_loop.specs.declared.asked.Asked.TheVariants.{Nothing, Creation}
@@ -149,15 +149,21 @@ opened_by site body sid text before after y is (evidence.Session session) shows 
 opened_one : (before after : Purse) (opening : Opening) (number : ℕ) (text : List ℕ) (y : SessionHandle) → held after.sessions number ≡ Some y
     → OthersStay number before.sessions after.sessions
     → Calls (λ e. e.caller) (λ log made. (handle : SessionHandle) × (held after.sessions number ≡ Some handle)
-    × Opens log opening (record { session = handle; answer = text }) made) (known before.directory) (known after.directory)
+    × Opens log opening (record { session = handle; answer = text }) made × (handle.number ≡ number)) (known before.directory) (known after.directory)
     → OpensOne before after y
 opened_one before after opening number text y is others call = record {
   number = number;
   is = is;
+  numbered = subst (λ (h : SessionHandle). h.number ≡ number) (same call.says.0 call.says.1) call.says.3;
   mine = subst (λ (h : SessionHandle). (known h.pass).mine ≡ []) (same call.says.0 call.says.1) call.says.2.mine;
   others = others;
   entered = calls_as (λ e. e.caller) _ _ (known before.directory) (known after.directory)
-      (λ log made says. (says.2.entry, says.2.entered, subst (λ (h : SessionHandle). opening_in says.2.entry ≡ Some (h.sid, gate_of (arc_value h.gate))) (same says.0 says.1) says.2.tells)) call;
+      (λ log made says. (
+        says.2.entry,
+        says.2.entered,
+        subst (λ (h : SessionHandle). opening_in says.2.entry ≡ Some (h.sid, gate_of (arc_value h.gate))) (same says.0 says.1) says.2.tells,
+        subst (λ (h : SessionHandle). h.number ≡ length (openings_of log) + 1) (same says.0 says.1) says.2.starts.number_is,
+      )) call;
 }
   where
     same : (h : SessionHandle) → held after.sessions number ≡ Some h → h ≡ y

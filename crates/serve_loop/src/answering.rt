@@ -3,6 +3,7 @@ ghost use Rattle.std.specs.Prelude.{◌≡◌, ℕ, List, None, Option, IfOk, Is
 ghost use Rattle.std.specs.BTreeMap.{IsUnchanged};
 ghost use Rattle.parked_gate.specs.Passes.{IsPassOf, Looks, known};
 ghost use Rattle.serve_loop.specs.Answering.{Answers, Collects, IsLost, IsWaiting, ShowsDirectory, StaysHeld, TellsLast};
+ghost use Rattle.serve_loop.specs.Drawing.{OpensAsDrawn};
 ghost use Rattle.serve_loop.specs.Trail.{Setting, setting};
 ghost use Rattle.session_core.specs.State.{is_over};
 ghost use Rattle.session_journal.specs.Stored.{After};
@@ -63,6 +64,9 @@ impl Worker {
             self.old.purse self.new.purse) }
         ensures err { OnErr result (self.new.trail ≡ self.old.trail) }
         ensures lost { OnErr result (IsLost (setting site.now.hosts.now site.now.limits (C.moment site.now.clock.now)) body self.old.purse self.new.purse) }
+
+        // Each session that it opened has a name that was drawn.
+        ensures drawn { OpensAsDrawn (M.drawn tools.old.names) (M.drawn tools.new.names) (known self.old.purse.directory) (known self.new.purse.directory) }
         ensures silences { B.silences tools.new.bell ≡ B.silences tools.old.bell }
     {
         let asked = what_is_asked(site.alloc, site.hosts, body.as_slice())?;

@@ -1,6 +1,6 @@
 // A later request, which its session is called with.
 ghost use Rattle.std.specs.Prelude.{◌≡◌, ℕ, List, IfOk, IsSome, None, OnErr, Some};
-ghost use Rattle.parked_gate.specs.Passes.{IsPassOf};
+ghost use Rattle.parked_gate.specs.Passes.{Grows, IsPassOf, known};
 ghost use Rattle.serve_loop.specs.Answering.{Adds, Answers, ShowsSession};
 ghost use Rattle.serve_loop.specs.Asked.{asked_of};
 ghost use Rattle.serve_loop.specs.Effects.{AddsNothing, FindsAtMost};
@@ -43,6 +43,8 @@ impl Worker {
             self.old.purse self.new.purse) }
         ensures err { OnErr result (self.new.trail ≡ self.old.trail) }
         ensures lost { OnErr result (AddsNothing self.old.purse self.new.purse) }
+        ensures grows { Grows (known self.old.purse.directory) (known self.new.purse.directory) }
+        ensures names { tools.new.names ≡ tools.old.names }
         ensures silences { B.silences tools.new.bell ≡ B.silences tools.old.bell }
     {
         let sid = named_by(site.alloc, &request)?;

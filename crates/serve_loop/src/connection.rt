@@ -1,10 +1,11 @@
 // One connection of a client, as a value that makes one move after the other.
 ghost use Rattle.std.specs.Prelude.{◌≡◌, ◌≤◌, ℕ, ◌⊎◌, [], ◌∷◌, ◌++◌, Bool, IsSome, List, Option, true};
-ghost use Rattle.parked_gate.specs.Passes.{IsPassOf};
+ghost use Rattle.parked_gate.specs.Passes.{IsPassOf, known};
 ghost use Rattle.serve_loop.specs.declared.trail.Traced.{Traced};
 ghost use Rattle.session_table.specs.declared.purse.Purse.{Purse};
 ghost use Rattle.session_table.specs.Purses.{held};
 ghost use Rattle.serve_loop.specs.Connections.{IsAskedOr, IsNext, IsServedBy, Moves, is_called, is_looked_at, is_read, outside, stage_after, stage_behind, wanted_by};
+ghost use Rattle.serve_loop.specs.Drawing.{OpensAsDrawn};
 ghost use Rattle.serve_loop.specs.Trail.{Setting, setting};
 
 use crate::answering::{Answering, Waiting};
@@ -138,6 +139,7 @@ impl Connection {
             (outside self.old.reader (L.left link.old) (L.given link.old) worker.old.trail worker.old.purse (L.faults link.old))
             (outside self.new.reader (L.left link.new) (L.given link.new) worker.new.trail worker.new.purse (L.faults link.new))
             self.old.stage self.new.stage }
+        ensures drawn { OpensAsDrawn (M.drawn tools.old.names) (M.drawn tools.new.names) (known worker.old.purse.directory) (known worker.new.purse.directory) }
         ensures next { IsNext self.old.stage self.new.stage }
         ensures faults { L.faults link.old ≤ L.faults link.new }
         ensures silences { B.silences tools.new.bell ≡ B.silences tools.old.bell }
@@ -164,6 +166,7 @@ impl Connection {
             (outside self.old.reader (L.left link.old) (L.given link.old) worker.old.trail worker.old.purse (L.faults link.old))
             (outside self.new.reader (L.left link.new) (L.given link.new) worker.new.trail worker.new.purse (L.faults link.new))
             stage result }
+        ensures drawn { OpensAsDrawn (M.drawn tools.old.names) (M.drawn tools.new.names) (known worker.old.purse.directory) (known worker.new.purse.directory) }
         ensures next { IsNext stage result }
         ensures faults { L.faults link.old ≤ L.faults link.new }
         ensures silences { B.silences tools.new.bell ≡ B.silences tools.old.bell }
@@ -266,6 +269,7 @@ pub(crate) fn ask<R: Wait, C: Clock, B: Bell, M: Names>(
         (record { stream = stream; given = given; trail = worker.old.trail; purse = worker.old.purse; faults = faults })
         (record { stream = stream; given = given; trail = worker.new.trail; purse = worker.new.purse; faults = faults })
         (Stage.Asked body closing) result }
+    ensures drawn { OpensAsDrawn (M.drawn tools.old.names) (M.drawn tools.new.names) (known worker.old.purse.directory) (known worker.new.purse.directory) }
     ensures next { is_called result ≡ true }
     ensures silences { B.silences tools.new.bell ≡ B.silences tools.old.bell }
 {

@@ -4,6 +4,7 @@ ghost use Rattle.std.specs.List.{list_all};
 ghost use Rattle.parked_gate.specs.Passes.{IsPassOf, known};
 ghost use Rattle.serve_loop.specs.Answering.{Adds, Answers, IsLost, ShowsDirectory};
 ghost use Rattle.serve_loop.specs.Asked.{asked_of};
+ghost use Rattle.serve_loop.specs.Drawing.{OpensAsDrawn};
 ghost use Rattle.session_attrs.specs.Serving.{can_serve};
 ghost use Rattle.serve_loop.specs.Trail.{IsNow, IsOpeningAt, Setting, refusal_text, setting};
 ghost use Rattle.session_attrs.specs.declared.request.Creation.{Creation};
@@ -45,6 +46,7 @@ impl Worker {
             self.old.purse self.new.purse) }
         ensures err { OnErr result (self.new.trail ≡ self.old.trail) }
         ensures lost { OnErr result (IsLost (setting site.now.hosts.now site.now.limits (C.moment site.now.clock.now)) body self.old.purse self.new.purse) }
+        ensures drawn { OpensAsDrawn (M.drawn tools.old.names) (M.drawn tools.new.names) (known self.old.purse.directory) (known self.new.purse.directory) }
         ensures silences { B.silences tools.new.bell ≡ B.silences tools.old.bell }
     {
         let name = tools.names.name()?;
@@ -108,6 +110,7 @@ fn opening_at(
     requires read { IsReadFrom body request }
     requires creation { (creation : Creation) × (request.kind ≡ kinds.Creation creation) }
     ensures may { IfOk result MayOpen }
+    ensures name { IfOk result (λ opening. opening.name ≡ name) }
     ensures is { (site : Setting) → IsNow site at → limits ≡ site.limits → IfOk result (IsOpeningAt site host.now request body) }
 {
     let host_name = SharedText::new(alloc, host.name.copy_in(alloc)?)?;

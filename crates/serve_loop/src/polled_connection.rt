@@ -3,10 +3,11 @@ ghost use Rattle.std.specs.Prelude.{◌≡◌, ◌≤◌, ◌⊎◌, [], ℕ, Li
 ghost use Rattle.std.specs.Io.KnownBytes.{Keeps};
 ghost use Rattle.bosh_http.specs.Reading.{GivesNothing, Reads};
 ghost use Rattle.bosh_ports.specs.Faults.{HasRisen};
-ghost use Rattle.parked_gate.specs.Passes.{IsPassOf};
+ghost use Rattle.parked_gate.specs.Passes.{IsPassOf, known};
 ghost use Rattle.serve_loop.specs.declared.trail.Traced.{Traced};
 ghost use Rattle.session_table.specs.declared.purse.Purse.{Purse};
 ghost use Rattle.serve_loop.specs.Connections.{Ends, IsServedBy, Moves, Outside, is_read, outside, wanted_by};
+ghost use Rattle.serve_loop.specs.Drawing.{OpensAsDrawn};
 ghost use Rattle.serve_loop.specs.Stepping.{CountsRead, IsNextAt, StandsAt, StaysSo, Steps, WantsMore, asks_link, given_up};
 ghost use Rattle.serve_loop.specs.Trail.{Setting, setting};
 
@@ -156,6 +157,7 @@ impl PolledConnection {
             (outside self.old.reader (K.left link.old) (K.given link.old) worker.old.trail worker.old.purse (K.faults link.old))
             (outside self.new.reader (K.left link.new) (K.given link.new) worker.new.trail worker.new.purse (K.faults link.new))
             self.old.standing self.new.standing }
+        ensures drawn { OpensAsDrawn (M.drawn tools.old.names) (M.drawn tools.new.names) (known worker.old.purse.directory) (known worker.new.purse.directory) }
         ensures next { result ≡ Moved.On → IsNextAt self.old.reader self.new.reader self.old.standing.place self.old.standing.stage self.new.standing }
 
         // Nothing but the link's count of waits changes by `NotYet`, and only by that.
@@ -200,6 +202,7 @@ impl PolledConnection {
             (outside self.old.reader (K.left link.old) (K.given link.old) worker.old.trail worker.old.purse (K.faults link.old))
             (outside self.new.reader (K.left link.new) (K.given link.new) worker.new.trail worker.new.purse (K.faults link.new))
             standing result.standing }
+        ensures drawn { OpensAsDrawn (M.drawn tools.old.names) (M.drawn tools.new.names) (known worker.old.purse.directory) (known worker.new.purse.directory) }
         ensures next { result.moved ≡ Moved.On → IsNextAt self.old.reader self.new.reader standing.place standing.stage result.standing }
         ensures same { result.moved ≡ Moved.NotYet → (result.standing ≡ standing) × (self.new ≡ self.old) }
         ensures stays { result.moved ≡ Moved.NotYet → StaysSo

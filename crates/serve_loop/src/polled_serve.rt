@@ -1,8 +1,9 @@
 // A connection over a link that is asked, stepped to its end by one thread.
 ghost use Rattle.std.specs.Prelude.{◌≡◌, ◌≢◌, ◌≤◌, []};
 ghost use Rattle.bosh_ports.specs.Faults.{HasRisen};
-ghost use Rattle.parked_gate.specs.Passes.{IsPassOf};
+ghost use Rattle.parked_gate.specs.Passes.{IsPassOf, known};
 ghost use Rattle.serve_loop.specs.Connections.{outside, Serves};
+ghost use Rattle.serve_loop.specs.Drawing.{OpensAsDrawn};
 ghost use Rattle.serve_loop.specs.Trail.{setting};
 
 use crate::connection::{ConnectionEnd, Stage};
@@ -29,6 +30,9 @@ pub fn serve_polled<R: Wait, K: Polled, C: Clock, B: Bell, M: Names>(
     ensures served { Serves (setting site.now.hosts.now site.now.limits (C.moment site.now.clock.now))
         (outside [] (K.left link.old) (K.given link.old) worker.old.trail worker.old.purse (K.faults link.old))
         (K.left link.new) (K.given link.new) worker.new.trail worker.new.purse (K.faults link.new) result }
+
+    // Each session that was opened has a name that was drawn for it.
+    ensures drawn { OpensAsDrawn (M.drawn tools.old.names) (M.drawn tools.new.names) (known worker.old.purse.directory) (known worker.new.purse.directory) }
     ensures silent { result ≡ ConnectionEnd.Silent → HasRisen (B.silences tools.old.bell) (B.silences tools.new.bell) }
     ensures never_gone { result ≢ ConnectionEnd.Gone }
     ensures silences { B.silences tools.old.bell ≤ B.silences tools.new.bell }

@@ -95,6 +95,10 @@ impl<R: Wait + Copy + Drop, L: Polled + Drop> Polled for TracedLink<R, L> {
         self.link.has_left()
     }
 
+    fn is_held(&self) -> bool {
+        self.link.is_held()
+    }
+
     fn close(&mut self) {
         self.link.close();
     }

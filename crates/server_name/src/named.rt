@@ -5,6 +5,7 @@ ghost use Rattle.server_name.specs.Names.{BeginsWith, last_of};
 
 use crate::name::ServerName;
 use bosh_types::{Rid, Text};
+use http_server::Log;
 use server_ports::Names;
 use std::alloc::{AllocError, Global};
 
@@ -18,14 +19,38 @@ pub struct NamedNames<M: Names + Drop> {
     alloc: Global,
     names: M,
     name: Option<ServerName>,
+    drawn: Log<Text, ()>,
 }
 
 impl<M: Names + Drop> NamedNames<M> {
+    ghost use Rattle.std.specs.Prelude.{[]};
+    ghost use Rattle.server_ports.specs.Names.{drawn_in};
+
     pub fn new(alloc: Global, names: M, name: Option<ServerName>) -> NamedNames<M>
         ensures names { result.names ≡ names }
         ensures name { result.name ≡ name }
+        ensures drawn { drawn_in result.drawn.items ≡ [] }
     {
-        NamedNames { alloc, names, name }
+        NamedNames {
+            alloc,
+            names,
+            name,
+            drawn: Log::new(),
+        }
+    }
+
+    // What is drawn next. The only error is want of memory.
+    fn draw(&mut self) -> Result<Text, AllocError>
+        ensures part { IfOk result IsNamePart }
+        ensures begins { IfOk result (λ made. IfSome self.old.name (λ name. BeginsWith name made)) }
+        ensures name { self.new.name ≡ self.old.name }
+        ensures drawn { self.new.drawn ≡ self.old.drawn }
+    {
+        let drawn = self.names.name()?;
+        match &self.name {
+            Some(name) => joined(self.alloc, name.as_slice(), drawn.as_slice()),
+            None => Ok(drawn),
+        }
     }
 }
 
@@ -61,15 +86,19 @@ fn joined(alloc: Global, name: &[u8], drawn: &[u8]) -> Result<Text, AllocError>
 }
 
 impl<M: Names + Drop> Names for NamedNames<M> {
+    ghost use Rattle.std.specs.Prelude.{[]};
+    ghost use Rattle.server_ports.specs.Names.{Draws, drawn_in};
+
+    ghost drawn = { λ n. drawn_in n.drawn.items };
+
     fn name(&mut self) -> Result<Text, AllocError>
         ensures part { IfOk result IsNamePart }
         ensures begins { IfOk result (λ made. IfSome self.old.name (λ name. BeginsWith name made)) }
+        ensures drawn { Draws (drawn_in self.old.drawn.items) (drawn_in self.new.drawn.items) result }
     {
-        let drawn = self.names.name()?;
-        match &self.name {
-            Some(name) => joined(self.alloc, name.as_slice(), drawn.as_slice()),
-            None => Ok(drawn),
-        }
+        let made = self.draw()?;
+        self.drawn = self.drawn.and(&made, &());
+        Ok(made)
     }
 
     fn first_rid(&mut self) -> Rid {
@@ -77,12 +106,11 @@ impl<M: Names + Drop> Names for NamedNames<M> {
     }
 
     fn share(&mut self) -> NamedNames<M>
+        ensures fresh { drawn_in result.drawn.items ≡ [] }
+        ensures drawn { drawn_in self.new.drawn.items ≡ drawn_in self.old.drawn.items }
         ensures name { result.name ≡ self.old.name }
     {
-        NamedNames {
-            alloc: self.alloc,
-            names: self.names.share(),
-            name: again(&self.name),
-        }
+        let names = self.names.share();
+        NamedNames::new(self.alloc, names, again(&self.name))
     }
 }

@@ -5,6 +5,7 @@ ghost use Rattle.server_ports.specs.Names.{IsNamePart, is_name_byte};
 
 use crate::names::Names;
 use bosh_types::{Rid, Text};
+use http_server::Log;
 use rand_chacha::ChaCha20Rng;
 use rand_core::utils::NextWord;
 use rand_core::{Rng, SeedableRng};
@@ -23,15 +24,21 @@ const DEVICE: &str = "/dev/urandom";
 pub struct RealNames {
     alloc: Global,
     rng: ChaCha20Rng,
+    drawn: Log<Text, ()>,
 }
 
 impl RealNames {
+    ghost use Rattle.std.specs.Prelude.{[]};
+    ghost use Rattle.server_ports.specs.Names.{drawn_in};
+
     pub fn new(alloc: Global, seed: [u8; 32]) -> RealNames
-        ensures { result.rng ≡ of_seed seed }
+        ensures seed { result.rng ≡ of_seed seed }
+        ensures drawn { drawn_in result.drawn.items ≡ [] }
     {
         RealNames {
             alloc,
             rng: ChaCha20Rng::from_seed(seed),
+            drawn: Log::new(),
         }
     }
 }
@@ -64,9 +71,15 @@ fn written(alloc: Global, bits: u64) -> Result<Vec<u8>, AllocError>
 }
 
 impl Names for RealNames {
+    ghost use Rattle.server_ports.specs.Names.{drawn_in};
+
+    ghost drawn = { λ n. drawn_in n.drawn.items };
+
     fn name(&mut self) -> Result<Text, AllocError> {
         let bits = self.rng.next_u64();
-        Ok(Text::from_vec(written(self.alloc, bits)?))
+        let name = Text::from_vec(written(self.alloc, bits)?);
+        self.drawn = self.drawn.and(&name, &());
+        Ok(name)
     }
 
     fn first_rid(&mut self) -> Rid {

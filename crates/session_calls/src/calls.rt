@@ -50,7 +50,6 @@ pub fn back(session: &mut Journalled, stanza: SharedText, now: Moment) -> Result
         },
     )? {
         Reply::Back(taken) => Ok(taken),
-        Reply::BackClosed(taken) => Ok(taken),
         _ => unreachable!(),
     }
 }
@@ -75,7 +74,6 @@ pub fn back_closed(
             now,
         },
     )? {
-        Reply::Back(taken) => Ok(taken),
         Reply::BackClosed(taken) => Ok(taken),
         _ => unreachable!(),
     }

@@ -10,6 +10,7 @@ use Rattle.session_core.specs.State.{PlainSession, waiting_counts}
 use Rattle.session_core.specs.Time.{is_due}
 use Rattle.session_journal.specs.declared.call.Call.{Call}
 use Rattle.session_journal.specs.declared.call.Reply.{Reply}
+use Rattle.session_journal.specs.declared.call.Stepped.{Stepped}
 use Rattle.session_journal.specs.declared.entry.Entry.{Entry}
 use Rattle.session_journal.specs.declared.asking.Answer.{Answer}
 use Rattle.session_journal.specs.declared.asking.Answer.TheVariants as answers
@@ -27,6 +28,15 @@ use Rattle.session_journal.specs.Stored.{After, Replies}
 abbrev pub RepliesTo : List Entry → Call → Result Reply AllocError → Option Entry → Type 0
 RepliesTo log call (Ok reply) made = Replies log (call_in call) (reply_in reply) made × IsReplyTo call reply
 RepliesTo log call (Err error) made = made ≡ None
+
+-- the reply of a step
+abbrev pub reply_of : Result Stepped AllocError → Result Reply AllocError
+reply_of (Ok stepped) = Ok stepped.reply
+reply_of (Err error) = Err error
+
+-- the same of a step that hands out its entry
+abbrev pub StepsTo : List Entry → Call → Result Stepped AllocError → Option Entry → Type 0
+StepsTo log call stepped made = RepliesTo log call (reply_of stepped) made
 
 -- the request of the ticket waits on
 abbrev pub Lacks : List Entry → ℕ → Type 0

@@ -1,3 +1,4 @@
+use crate::entry::Entered;
 use bosh_types::{Closing, Inward, Moment, SharedText, StreamNo};
 use session_attrs::Request;
 use session_core::{Arrived, Taken, Ticked};
@@ -39,4 +40,11 @@ pub enum Reply {
     BackClosed(Taken),
     Tick(Ticked),
     TakeInward(Option<Inward>),
+}
+
+/// What a call is replied, and the entry that it made, if it made one, for whoever stores it.
+#[derive(Debug, Drop)]
+pub struct Stepped {
+    pub reply: Reply,
+    pub made: Option<Entered>,
 }

@@ -64,6 +64,17 @@ impl Journalled {
         Ok((journalled, begun.answer))
     }
 
+    /// The session without its journal, which clauses alone see from here on.
+    pub fn into_recorded(self) -> Recorded
+        ensures { result.log ≡ self }
+    {
+        let Journalled {
+            recorded,
+            entries: _,
+        } = self;
+        recorded
+    }
+
     /// Makes a call for the caller with this number, and keeps its entry, or its limit where the journal had no room for it. Only
     /// these are not entered: arrivals, stanzas and closings after the ending, a tick at which nothing is due, and a look for an
     /// inward item where none is left. The only error is want of memory, and then all is as it was.

@@ -15,7 +15,7 @@ mod redoing;
 mod storing;
 
 pub use asking::{Answer, Found, Question, State};
-pub use call::{Call, Reply};
+pub use call::{Call, Reply, Stepped};
 pub use entry::{Entered, Entry, Limited};
 pub use history::History;
 pub use journalled::Journalled;

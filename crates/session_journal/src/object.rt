@@ -1,6 +1,6 @@
 // A session behind a gate: many threads call it, and each is told what one thread would be told.
 use crate::asking::{Answer, Found, Question};
-use crate::call::{Call, Reply};
+use crate::call::{Call, Stepped};
 use crate::entry::Entry;
 use crate::recorded::Recorded;
 use bosh_types::Ticket;
@@ -12,12 +12,12 @@ use std::alloc::AllocError;
 impl Object for Recorded {
     ghost use Rattle.session_core.specs.Journal.{IsAllowed};
     ghost use Rattle.session_journal.specs.Calls.{call_in};
-    ghost use Rattle.session_journal.specs.Seen.{Answers, Finds, Lacks, RepliesTo};
+    ghost use Rattle.session_journal.specs.Seen.{Answers, Finds, Lacks, StepsTo};
     ghost use Rattle.session_journal.specs.Stored.{IsLegal};
 
     type Call = Call;
 
-    type Reply = Result<Reply, AllocError>;
+    type Reply = Result<Stepped, AllocError>;
 
     type Ask = Ticket;
 
@@ -37,7 +37,7 @@ impl Object for Recorded {
 
     ghost may = { λ call. IsAllowed (call_in call) };
 
-    ghost replies = { RepliesTo };
+    ghost replies = { StepsTo };
 
     ghost lacks = { Lacks };
 
@@ -45,7 +45,7 @@ impl Object for Recorded {
 
     ghost answers = { Answers };
 
-    fn step(&mut self, caller: u32, call: Call) -> Result<Reply, AllocError> {
+    fn step(&mut self, caller: u32, call: Call) -> Result<Stepped, AllocError> {
         Recorded::step(self, caller, call)
     }
 

@@ -14,7 +14,7 @@ ghost use Rattle.session_journal.specs.Stored.{After, IsJournalOf, IsLegal, Step
 ghost use Rattle.session_journal.specs.Storing.{by_caller};
 
 use crate::asking::State;
-use crate::call::{Call, Reply};
+use crate::call::{Call, Reply, Stepped};
 use crate::entry::{Entered, Entry, Limited};
 use crate::history::History;
 use crate::storing::{enter, handed_out, has_room, is_quiet, stored_as, uses_up};
@@ -157,15 +157,16 @@ impl Recorded {
         }
     }
 
-    /// The same, where nobody wants the entry.
-    pub fn step(&mut self, caller: u32, call: Call) -> Result<Reply, AllocError>
+    /// The same, with the reply and the entry by their names.
+    pub fn step(&mut self, caller: u32, call: Call) -> Result<Stepped, AllocError>
         requires { IsAllowed (call_in call) }
-        ensures step { IfOk result (λ reply. Steps self.old.log caller (call_in call) (reply_in reply) self.new.log) }
-        ensures kind { IfOk result (λ reply. IsReplyTo call reply) }
+        ensures step { IfOk result (λ stepped. Steps self.old.log caller (call_in call) (reply_in stepped.reply) self.new.log) }
+        ensures entry { IfOk result (λ stepped. Appends (λ e. e.caller) caller self.old.log (by_caller caller stepped.made) self.new.log) }
+        ensures kind { IfOk result (λ stepped. IsReplyTo call stepped.reply) }
         ensures err { OnErr result (self.new ≡ self.old) }
     {
-        let (reply, _) = self.make(caller, call)?;
-        Ok(reply)
+        let (reply, made) = self.make(caller, call)?;
+        Ok(Stepped { reply, made })
     }
 
     fn arrive(

@@ -1,5 +1,5 @@
 -- The journals of entries, with more entries behind them.
-use Rattle.std.proofs.Common.{◌≡◌, ℕ, zero, suc, ◌==◌, Bool, true, false, cond, max, List, [], ◌∷◌, ◌++◌, map, refl, sym, ◌∙◌, ap, subst, arith, append_assoc}
+use Rattle.std.proofs.Common.{◌≡◌, ℕ, zero, suc, ◌==◌, ◌≤◌, Bool, true, false, cond, length, max, List, [], ◌∷◌, ◌++◌, map, refl, sym, ◌∙◌, ap, subst, arith, append_assoc}
 use Rattle.std.specs.Prelude.{filter}
 use Rattle.std.proofs.lemmas.Bool.{eq-eqb, eqb-true, eqb-false}
 use Rattle.std.proofs.lemmas.List.{append-nil}
@@ -42,6 +42,26 @@ opened-append [] e = refl
 opened-append (x ∷ entries) e =
     let more = opened-append entries e in
     omega (arith, more)
+
+opened-both : (entries more : List SessionEntry) → opened_in (entries ++ more) ≡ max (opened_in entries) (opened_in more)
+opened-both [] more = omega arith
+opened-both (x ∷ entries) more =
+    let rest = opened-both entries more in
+    omega (arith, rest)
+
+opened-own : (session : ℕ) (fresh : List Entry) → 1 ≤ length fresh → opened_in (map (of_session session) fresh) ≡ session
+opened-own session [] some = absurd (omega (arith, some))
+opened-own session (e ∷ []) some = omega arith
+opened-own session (e ∷ f ∷ fresh) some =
+    let rest = opened-own session (f ∷ fresh) (omega arith) in
+    omega (arith, rest)
+
+-- and with some more of one session
+pub opened-more : (session : ℕ) (entries : List SessionEntry) (fresh : List Entry) → 1 ≤ length fresh → opened_in (entries ++ map (of_session session) fresh) ≡ max session (opened_in entries)
+opened-more session entries fresh some =
+    let both = opened-both entries (map (of_session session) fresh) in
+    let own = opened-own session fresh some in
+    omega (arith, both, own)
 
 -- an entry that may come goes behind those that may
 pub one_comes : (before entries : List SessionEntry) (e : SessionEntry) → MayAllCome before entries → MayCome (before ++ entries) e → MayAllCome before (entries ++ e ∷ [])

@@ -1,7 +1,7 @@
 -- Records of a file that were entered.
 use Rattle.std.proofs.Common.{◌≡◌, ℕ, zero, suc, ◌+◌, ◌≤◌, true, List, [], ◌∷◌, ◌++◌, Some, length, get_or, drop, map, refl, sym, ◌∙◌, ap, subst, arith, append_assoc, length-append}
 use Rattle.std.specs.List.{AllByRecursion}
-use Rattle.std.proofs.lemmas.List.{append-nil}
+use Rattle.std.proofs.lemmas.List.{append-nil, length-map}
 use Rattle.session_journal.specs.declared.entry.Entry.{Entry}
 use Rattle.session_journal.specs.Stored.{IsLegal}
 use Rattle.journal_store.specs.Contents.{HasContent, content_of}
@@ -18,7 +18,7 @@ use Rattle.journal_store.specs.declared.record_file.RecordFile.{RecordFile}
 use Rattle.journal_store.proofs.EntryLemmas.{contents-append}
 use Rattle.journal_store.proofs.Moments.{then_crash, weaker}
 use Rattle.journal_store.proofs.RecordLemmas.{all-append, length-record, one_row, records-append}
-use Rattle.session_store.specs.Journals.{AreLogs, log_at}
+use Rattle.session_store.specs.Journals.{AreLogs, log_at, opened_in}
 use Rattle.session_store.specs.Opened.{HasEntered, IsDamagedAt}
 use Rattle.session_store.specs.Replay.{GoesBehind}
 use Rattle.session_store.specs.Store.{Stores, counted}
@@ -102,6 +102,7 @@ module _ {D : Type 0} (seen : D → List ℕ) (time : D → ℕ) (left : D → �
     counts = λ session.
         ap (λ (c : List ℕ). counted c session) counts ∙ counts_are logs session ∙ ap length (are.each session)
         ∙ ap (λ (l : List SessionEntry). length (journal_in session l)) (sym (append-nil entries));
+    sessions = ap length counts ∙ length-map logs (λ (log : List Entry). length log) ∙ are.count ∙ ap opened_in (sym (append-nil entries));
   }
 
 -- an image that is as the file was has its entries

@@ -1,10 +1,11 @@
 // The journals of a file while their sessions go on.
-ghost use Rattle.std.specs.Prelude.{◌≡◌, ◌⊎◌, ◌↔◌, ◌≤◌, ◌==◌, ◌++◌, ℕ, [], IsTrue, List, OnOk, drop, get_or, if◌then◌else◌, length, map};
+ghost use Rattle.std.specs.Prelude.{◌≡◌, ◌≢◌, ◌⊎◌, ◌↔◌, ◌≤◌, ◌==◌, ◌++◌, ℕ, [], ◌+◌, ◌<◌, ◌∷◌, IsTrue, List, OnErr, OnOk, drop, get_or, if◌then◌else◌, length, map, max, take};
 ghost use Rattle.std.specs.List.{AllByRecursion};
 ghost use Rattle.journal_store.specs.declared.reading.SessionEntry.{SessionEntry};
 ghost use Rattle.journal_store.specs.Crash.{EachCrash};
-ghost use Rattle.journal_store.specs.Entries.{AreBeforeOrAfter, Keeps, journal_in};
+ghost use Rattle.journal_store.specs.Entries.{AreBeforeOrAfter, AreBeforeOrNone, Keeps, journal_in};
 ghost use Rattle.journal_store.specs.RecordFile.{CountsStored, IsReady};
+ghost use Rattle.session_store.specs.Journals.{opened_in};
 ghost use Rattle.session_store.specs.Store.{FitsNumbers, Stores, of_session};
 
 use journal_store::{AddError, Disk, JournalFile, Stored};
@@ -39,6 +40,60 @@ impl<D: Disk> Store<D> {
         Ok(())
     }
 
+    /// Has the next entry of a session wait, as `keep` does those that its journal has. Sessions have numbers from 1 on. After an error all is
+    /// as it was. An entry that can't be counted is as where memory is wanting.
+    pub fn add(&mut self, session: u32, entry: &Entry) -> Result<(), AddError>
+        ensures adds { D.told → 1 ≤ session → (stored waiting : List SessionEntry) → Stores D.seen D.time D.left self.old stored waiting →
+            OnOk result (Stores D.seen D.time D.left self.new stored (waiting ++ of_session session entry.now ∷ [])) }
+        ensures err { D.told → (stored waiting : List SessionEntry) → Stores D.seen D.time D.left self.old stored waiting →
+            OnErr result (Stores D.seen D.time D.left self.new stored waiting) }
+        ensures file { self.new.journals.file ≡ self.old.journals.file }
+    {
+        let Some(place) = session.checked_sub(1) else {
+            return Ok(());
+        };
+        let place = place as usize;
+        let Some(count) = count_at(self.counts.as_slice(), place).checked_add(1) else {
+            return Err(AddError::NoMemory);
+        };
+        let before = self.counts.len();
+        let Ok(()) = lengthen(&mut self.counts, place + 1) else {
+            self.counts.truncate(before);
+            return Err(AddError::NoMemory);
+        };
+        // The proof learns here that each number fits its bytes.
+        know_numbers(session, entry);
+        match self.journals.add(session, entry) {
+            Ok(()) => {
+                set_at(&mut self.counts, place, count);
+                Ok(())
+            }
+            Err(error) => {
+                self.counts.truncate(before);
+                Err(error)
+            }
+        }
+    }
+
+    /// How many entries of a session are stored or wait.
+    pub fn count(&self, session: u32) -> usize
+        ensures { D.told → (stored waiting : List SessionEntry) → Stores D.seen D.time D.left self.now stored waiting →
+            result ≡ length (journal_in session (stored ++ waiting)) }
+    {
+        match session.checked_sub(1) {
+            Some(place) => count_at(self.counts.as_slice(), place as usize),
+            None => 0,
+        }
+    }
+
+    /// How many sessions were opened by what is stored or waits.
+    pub fn sessions(&self) -> usize
+        ensures { D.told → (stored waiting : List SessionEntry) → Stores D.seen D.time D.left self.now stored waiting →
+            result ≡ opened_in (stored ++ waiting) }
+    {
+        self.counts.len()
+    }
+
     /// Stores what waits, all of it or nothing. Once it is done each crash image has it.
     pub fn store(&mut self) -> Stored
         requires { D.told → IsReady D.seen D.time D.left self.old.journals.file }
@@ -53,6 +108,23 @@ impl<D: Disk> Store<D> {
         ensures faults { CountsStored (D.faults self.old.journals.file.disk) (D.faults self.new.journals.file.disk) result }
     {
         self.journals.store()
+    }
+
+    /// Lets all journals go, and what waits: the file has no session then. It is never `Full`.
+    pub fn clear(&mut self) -> Stored
+        requires { D.told → IsReady D.seen D.time D.left self.old.journals.file }
+        ensures ready { D.told → IsReady D.seen D.time D.left self.new.journals.file }
+        ensures cleared { D.told → result ≡ Stored.Done → Stores D.seen D.time D.left self.new [] [] }
+        // A crash at any moment of the call leaves the entries from before it, or none.
+        ensures any_moment { D.told → (stored waiting : List SessionEntry) → Stores D.seen D.time D.left self.old stored waiting →
+            EachCrash D.time D.left self.old.journals.file.disk self.new.journals.file.disk (AreBeforeOrNone stored) }
+        ensures never_full { result ≢ Stored.Full }
+        ensures spent { (result ≡ Stored.Spent) ↔ IsTrue self.old.journals.file.is_spent }
+        ensures spends { (IsTrue self.new.journals.file.is_spent) ↔ (IsTrue self.old.journals.file.is_spent ⊎ (result ≡ Stored.Failed)) }
+        ensures faults { CountsStored (D.faults self.old.journals.file.disk) (D.faults self.new.journals.file.disk) result }
+    {
+        self.counts.clear();
+        self.journals.clear()
     }
 
     /// The disk that the file is on.
@@ -86,7 +158,8 @@ fn count_at(counts: &[usize], place: usize) -> usize
 
 // From now on this is counted at a place.
 fn set_count(counts: &mut Vec<usize>, place: u32, count: usize) -> Result<(), AllocError>
-    ensures { OnOk result ((other : ℕ) → get_or counts.new.items other 0 ≡ (if other == place then count else get_or counts.old.items other 0)) }
+    ensures reads { OnOk result ((other : ℕ) → get_or counts.new.items other 0 ≡ (if other == place then count else get_or counts.old.items other 0)) }
+    ensures long { OnOk result (length counts.new.items ≡ max (place + 1) (length counts.old.items)) }
 {
     let place = place as usize;
     lengthen(counts, place + 1)?;
@@ -94,14 +167,26 @@ fn set_count(counts: &mut Vec<usize>, place: u32, count: usize) -> Result<(), Al
     Ok(())
 }
 
-// There are so many counts at least, the further ones 0.
+// From now on this is counted at a place that there is.
+fn set_at(counts: &mut Vec<usize>, place: usize, count: usize)
+    requires { place < length counts.old.items }
+    ensures reads { (other : ℕ) → get_or counts.new.items other 0 ≡ (if other == place then count else get_or counts.old.items other 0) }
+    ensures long { length counts.new.items ≡ length counts.old.items }
+{
+    counts[place] = count;
+}
+
+// There are so many counts at least, the further ones 0. After an error there may be fewer.
 fn lengthen(counts: &mut Vec<usize>, least: usize) -> Result<(), AllocError>
-    ensures reads { OnOk result ((other : ℕ) → get_or counts.new.items other 0 ≡ get_or counts.old.items other 0) }
-    ensures long { OnOk result (least ≤ length counts.new.items) }
+    ensures reads { (other : ℕ) → get_or counts.new.items other 0 ≡ get_or counts.old.items other 0 }
+    ensures front { take (length counts.old.items) counts.new.items ≡ counts.old.items }
+    ensures long { OnOk result (length counts.new.items ≡ max least (length counts.old.items)) }
 {
     let mut missing = least.saturating_sub(counts.len());
     while missing > 0 {
-        counts.push(0)?;
+        let Ok(()) = counts.push(0) else {
+            return Err(AllocError);
+        };
         missing -= 1;
     }
     Ok(())

@@ -34,6 +34,8 @@ use Rattle.session_core.specs.contracts.inbox.Inbox as Inbox
 use Rattle.session_core.specs.contracts.outbox.Outbox as Outbox
 use Rattle.session_core.specs.contracts.tickets.Tickets as Tickets
 use Rattle.session_core.specs.contracts.session.Session as Session
+use Rattle.entry_queue.specs.contracts.queue.EntryQueue as EntryQueue
+use Rattle.entry_queue.specs.contracts.queue.Noted as Noted
 use Rattle.session_journal.specs.contracts.entry.Entry as Entry
 use Rattle.session_journal.specs.contracts.recorded.Recorded as Recorded
 use Rattle.session_table.specs.contracts.directory.Directory as Directory
@@ -116,12 +118,21 @@ entry = search (shared_text, crosses) depth 200 fits 100000
 pub recorded : IsSend Recorded.the_row
 recorded = search (session, entry, shared_text, crosses) depth 200 fits 100000
 
+noted : IsSend Noted.the_row
+noted = search (entry, crosses) depth 200 fits 100000
+
+queue_send : IsSend EntryQueue.the_row
+queue_send = search (noted, crosses) depth 200 fits 100000
+
+queue_sync : IsSync EntryQueue.the_row
+queue_sync = search (noted, crosses) depth 200 fits 100000
+
 -- the directory and what its callers keep
 pub handle : IsSend SessionHandle.the_row
-handle = search (recorded, crosses) depth 200 fits 100000
+handle = search (recorded, entry, queue_send, queue_sync, crosses) depth 200 fits 100000
 
 pub directory : IsSend Directory.the_row
-directory = search (handle, crosses) depth 200 fits 100000
+directory = search (handle, queue_send, queue_sync, crosses) depth 200 fits 100000
 
 pub purse : IsSend (Purse.the_field).row
 purse = search (directory, handle, crosses) depth 200 fits 100000

@@ -3,11 +3,12 @@ mod MapLists
 mod LiveLists
 mod KeepingLemmas
 mod OpensLemmas
-mod LawLemmas
+pub mod LawLemmas
 mod OpeningLemmas
 mod ReplyLemmas
 mod PurseLemmas
 mod PassLemmas
 mod HoldingLemmas
 mod StateLemmas
+mod RestoringLemmas
 pub mod Crossing

@@ -103,7 +103,7 @@ keeps_live log live old new told kept number =
 pub opens_into : (log : List Entry) (o : Opening) (sessions : Sessions) (number : ℕ) (session : SessionHandle) (answer : List ℕ) (made : Option Entry)
     → number ≡ session.number → held sessions session.number ≡ Some session → Opens log o (record { session = session; answer = answer }) made
     → OpensInto log o (news.Opened number answer) sessions made
-opens_into log o sessions number session answer made same is opens = (session, subst (λ n. held sessions n ≡ Some session) (sym same) is, opens)
+opens_into log o sessions number session answer made same is opens = (session, subst (λ n. held sessions n ≡ Some session) (sym same) is, opens, sym same)
 
 pub others_beside : (old new : Sessions) (number other : ℕ) → number ≡ other → OthersStay other old new → OthersStay number old new
 others_beside old new number other same stay = subst (λ n. OthersStay n old new) (sym same) stay

@@ -1,5 +1,5 @@
 -- How a history goes on where a session is opened or removed.
-use Rattle.std.specs.Prelude.{◌≡◌, ℕ, Bool, true, false, List, [], ◌∷◌, ◌++◌, Some, None}
+use Rattle.std.specs.Prelude.{◌≡◌, ℕ, All, Bool, true, false, List, [], ◌∷◌, ◌++◌, Some, None}
 use Rattle.std.specs.Arc.{arc_value}
 use Rattle.parked_gate.specs.Passes.{gate_of}
 use Rattle.session_table.specs.declared.entry.Entry.{Entry}
@@ -27,3 +27,7 @@ pub record EntersRemoval (log : List Entry) (caller : ℕ) (sid : List ℕ) (lat
 abbrev pub RemovesOrNot : List Entry → ℕ → List ℕ → Bool → List Entry → Type 0
 RemovesOrNot log caller sid true later = EntersRemoval log caller sid later
 RemovesOrNot log caller sid false later = (later ≡ log) × (live_at log sid ≡ None)
+
+-- all entries are of this caller
+abbrev pub AreOf : ℕ → List Entry → Type 0
+AreOf caller log = All (λ e. e.caller ≡ caller) log

@@ -1,25 +1,27 @@
 // The directory of live sessions.
-ghost use Rattle.std.specs.Prelude.{◌≡◌, ◌+◌, ◌<◌, ◌≤◌, [], IfOk, OnErr, OnOk, length};
+ghost use Rattle.std.specs.Prelude.{◌≡◌, ◌+◌, ◌<◌, ◌≤◌, [], All, IfOk, OnErr, OnOk, Some, length};
 ghost use Rattle.std.specs.Option.{option_map};
 ghost use Rattle.session_attrs.specs.declared.request.Creation.{Creation};
 ghost use Rattle.session_attrs.specs.declared.request.Kind.TheVariants as kinds;
 ghost use Rattle.session_attrs.specs.Terms.{terms_of};
 ghost use Rattle.session_table.specs.declared.calls.DirectoryCall.TheVariants as calls;
-ghost use Rattle.session_table.specs.Entering.{EntersOpening, RemovesOrNot};
+ghost use Rattle.session_table.specs.Entering.{AreOf, EntersOpening, RemovesOrNot};
 ghost use Rattle.session_table.specs.History.{IsLegal, live_at, live_of, openings_of};
 ghost use Rattle.session_table.specs.Replies.{FindsOrNot, IsAnswered, MayOpen, Starts, Steps, first_seen, live_sessions, session_opening};
 ghost use Rattle.session_table.specs.Sids.{IsSidOf, highest_number, sid_of};
 
 use crate::calls::{DirectoryReply, LiveSession, LiveSessions, Opened};
 use crate::entry::{Entry, Event};
-use crate::handle::SessionHandle;
+use crate::handle::{SessionHandle, keeper_of};
 use crate::opening::Opening;
-use crate::sid::{number_in, sid_text};
+use crate::restoring::{Restored, Resumed};
+use crate::sid::{is_sid, number_in, sid_text};
 use bosh_types::{SharedText, Stanzas, Terms, Text, copy_items};
+use entry_queue::EntryQueue;
 use parked_gate::Gate;
 use session_attrs::{Kind, Request, negotiate};
 use session_core::copied_request;
-use session_journal::{History, Recorded};
+use session_journal::{Entry as Made, History, Recorded};
 use std::alloc::{AllocError, Global};
 use std::collections::BTreeMap;
 use std::marker::Model;
@@ -36,6 +38,8 @@ pub struct Directory {
     entries: History<Entry>,
     // How many sessions were opened.
     openings: u64,
+    // Where the entries of its sessions are noted, if they are stored.
+    keeper: Option<Arc<EntryQueue>>,
 }
 
 impl Model for Directory {
@@ -60,7 +64,7 @@ pub(crate) struct MaySplit {
 const MAY_SPLIT: MaySplit = MaySplit { given: () };
 
 /// A session that was just opened, and the body that answers its creation.
-type Started = (SessionHandle, SharedText);
+type Started = (SessionHandle, SharedText, Made);
 
 impl Directory {
     /// No session is live, and none was opened. It takes no memory.
@@ -72,7 +76,65 @@ impl Directory {
             sessions: BTreeMap::new(alloc),
             entries: History::new(),
             openings: 0,
+            keeper: None,
         }
+    }
+
+    /// The sessions that a store brings back, in the order of their opening numbers, from 1 on; those that are over are live no longer. Entries are
+    /// noted in this queue. None where a session has another name than one of its number. The only error is want of memory.
+    pub fn resumed(
+        alloc: Global,
+        keeper: Arc<EntryQueue>,
+        sessions: Vec<Resumed>,
+    ) -> Result<Option<Restored>, AllocError> {
+        let mut directory = Directory::new(alloc);
+        directory.keeper = Some(keeper);
+        for session in sessions {
+            if !directory.resume(session)? {
+                return Ok(None);
+            }
+        }
+        Ok(Some(Restored { directory }))
+    }
+
+    // One more comes back. Whether it has a name of its number.
+    fn resume(&mut self, session: Resumed) -> Result<bool, AllocError>
+        requires alone { AreOf 0 self.old }
+        ensures alone { IfOk result (λ named. AreOf 0 self.new) }
+    {
+        let Resumed { sid, recorded } = session;
+        if self.openings >= u64::from(u32::MAX) {
+            return Ok(false);
+        }
+        let number = self.openings + 1;
+        if !is_sid(self.alloc, sid.as_slice(), number)? {
+            return Ok(false);
+        }
+        let ending = recorded.ending();
+        let Ok((gate, pass)) = Gate::new(self.alloc, recorded) else {
+            return Err(AllocError);
+        };
+        let Ok(gate) = Arc::new(self.alloc, gate) else {
+            return Err(AllocError);
+        };
+        let name = sid.again()?;
+        let keeper = keeper_of(&self.keeper)?;
+        let handle = SessionHandle::new(sid, number, gate, pass, keeper);
+        self.enter(0, handle)?;
+        self.end(name.as_slice(), ending.is_some())?;
+        Ok(true)
+    }
+
+    // The session of this name is live no longer where it is over.
+    #[tactic(auto, using(crate::proofs::RestoringLemmas::removed_of))]
+    fn end(&mut self, sid: &[u8], is_over: bool) -> Result<(), AllocError>
+        requires alone { AreOf 0 self.old }
+        ensures alone { OnOk result (AreOf 0 self.new) }
+    {
+        if is_over {
+            let _was_live = self.remove(0, sid)?;
+        }
+        Ok(())
     }
 
     /// How many entries its history has.
@@ -108,8 +170,9 @@ impl Directory {
         if self.openings >= u64::from(limits.openings) {
             return Ok(DirectoryReply::OpeningsSpent);
         }
-        let (mut session, answer) = start(self.alloc, self.openings + 1, opening)?;
-        let handed_out = session.split(MAY_SPLIT)?;
+        let keeper = keeper_of(&self.keeper)?;
+        let (mut session, answer, first) = start(self.alloc, self.openings + 1, opening, keeper)?;
+        let handed_out = session.split(MAY_SPLIT, Some(first))?;
         self.enter(caller, session)?;
         Ok(DirectoryReply::Opened(Opened {
             session: handed_out,
@@ -163,7 +226,7 @@ impl Directory {
         let Some(session) = self.sessions.get_mut(&number) else {
             unreachable!();
         };
-        let handle = session.split(MAY_SPLIT)?;
+        let handle = session.split(MAY_SPLIT, None)?;
         Ok(Some(handle))
     }
 
@@ -202,29 +265,38 @@ impl Directory {
 }
 
 /// A session for the creation, behind a gate of its own.
-fn start(alloc: Global, number: u64, opening: &Opening) -> Result<Started, AllocError>
+fn start(
+    alloc: Global,
+    number: u64,
+    opening: &Opening,
+    keeper: Option<Arc<EntryQueue>>,
+) -> Result<Started, AllocError>
     requires may { MayOpen opening.now }
     requires few { number ≤ highest_number }
     ensures { IfOk result (λ started. Starts number opening.now started.0 started.1) }
 {
     let sid = sid_text(alloc, opening.name.as_slice(), number)?;
-    let (recorded, answer) = begin(alloc, number, &sid, opening)?;
+    let (recorded, answer, first) = begin(alloc, number, &sid, opening)?;
     let Ok((gate, pass)) = Gate::new(alloc, recorded) else {
         return Err(AllocError);
     };
     let Ok(gate) = Arc::new(alloc, gate) else {
         return Err(AllocError);
     };
-    Ok((SessionHandle::new(sid, number, gate, pass), answer))
+    Ok((
+        SessionHandle::new(sid, number, gate, pass, keeper),
+        answer,
+        first,
+    ))
 }
 
-// The session of this name, and the body that answers its creation. Nobody keeps its entry.
+// The session of this name, the body that answers its creation, and its entry.
 fn begin(
     alloc: Global,
     number: u64,
     sid: &SharedText,
     opening: &Opening,
-) -> Result<(Recorded, SharedText), AllocError>
+) -> Result<(Recorded, SharedText, Made), AllocError>
     requires may { MayOpen opening.now }
     requires few { number ≤ highest_number }
     requires sid { sid.now ≡ sid_of opening.now.name number }
@@ -232,7 +304,7 @@ fn begin(
     ensures answer { IfOk result (λ begun. IsAnswered begun.0.log begun.1) }
 {
     let begun = Recorded::open(alloc, session_opening(alloc, sid, opening)?, 0)?;
-    Ok((begun.recorded, begun.answer))
+    Ok((begun.recorded, begun.answer, begun.entry))
 }
 
 // What the session of this name is opened with.

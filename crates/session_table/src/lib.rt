@@ -10,6 +10,7 @@ mod laws;
 mod object;
 mod opening;
 mod purse;
+mod restoring;
 mod sid;
 
 pub use calls::{
@@ -21,3 +22,4 @@ pub use handle::SessionHandle;
 pub use laws::{live_sessions_are_told_by_number, names_differ};
 pub use opening::{Limits, Opening};
 pub use purse::Purse;
+pub use restoring::{Restored, Resumed};

@@ -9,7 +9,7 @@ ghost use Rattle.session_core.specs.Journal.{IsAllowed};
 ghost use Rattle.session_journal.specs.Calls.{call_in};
 ghost use Rattle.session_journal.specs.Seen.{Answers, IsStateAfter, RepliesTo};
 ghost use Rattle.session_table.specs.History.{live_at};
-ghost use Rattle.session_table.specs.Purses.{Holds, IsFound, IsNotHeld, IsNumberOf, KeepsLive, OpensInto, OpensOrNot, OthersStay, StaysBeside, Turned, found_of, held};
+ghost use Rattle.session_table.specs.Purses.{Holds, IsFound, IsNotHeld, IsNumberOf, KeepsLive, OpensInto, OpensOrNot, OthersStay, StaysBeside, StaysOrComes, Turned, WasAsked, found_of, held};
 ghost use Rattle.session_table.specs.Replies.{MayOpen};
 ghost use Rattle.session_table.specs.Serving.{PollsAs, WaitsAs};
 
@@ -93,6 +93,7 @@ impl Purse {
         ensures pass { IsPassOf directory.now self.new.directory }
         ensures grows { Grows (known self.old.directory) (known self.new.directory) }
         ensures found { IfOk result (λ found. IfSome found (λ number. IsFound self.old.sessions self.new.sessions number sid.now)) }
+        ensures kept { IfOk result (λ found. IfSome found (λ number. StaysOrComes (known self.new.directory).seen self.old.sessions self.new.sessions number sid.now)) }
         ensures unknown { IfOk result (λ found. IfNone found (IsUnchanged self.old.sessions self.new.sessions
             × Calls (λ e. e.caller) (λ before made. (made ≡ None) × (live_at before sid.now ≡ None)) (known self.old.directory) (known self.new.directory))) }
         ensures err { OnErr result (IsUnchanged self.old.sessions self.new.sessions) }
@@ -116,6 +117,7 @@ impl Purse {
         ensures pass { IsPassOf directory.now self.new.directory }
         ensures grows { Grows (known self.old.directory) (known self.new.directory) }
         ensures found { IfOk result (λ found. IfSome found (λ number. IsFound self.old.sessions self.new.sessions number sid.now)) }
+        ensures kept { IfOk result (λ found. IfSome found (λ number. StaysOrComes (known self.new.directory).seen self.old.sessions self.new.sessions number sid.now)) }
         ensures unknown { IfOk result (λ found. IfNone found (IsUnchanged self.old.sessions self.new.sessions
             × Calls (λ e. e.caller) (λ before made. (made ≡ None) × (live_at before sid.now ≡ None)) (known self.old.directory) (known self.new.directory))) }
         ensures err { OnErr result (IsUnchanged self.old.sessions self.new.sessions) }
@@ -152,6 +154,7 @@ impl Purse {
         let reply = directory.call(rt, &mut self.directory, DirectoryCall::Open(opening))?;
         match reply {
             DirectoryReply::Opened(Opened { session, answer }) => {
+                session.note_first(rt);
                 let number = self.hold(session)?;
                 Ok(NewSession::Opened { number, answer })
             }
@@ -173,6 +176,7 @@ impl Purse {
         requires { IsPassOf directory.now self.old.directory }
         ensures pass { IsPassOf directory.now self.new.directory }
         ensures grows { Grows (known self.old.directory) (known self.new.directory) }
+        ensures asked { WasAsked (known self.old.directory) (known self.new.directory) }
         ensures live { OnOk result (KeepsLive (known self.new.directory).seen self.old.sessions self.new.sessions) }
         ensures err { OnErr result (IsUnchanged self.old.sessions self.new.sessions) }
     {

@@ -1,12 +1,16 @@
 // The names of sessions, and the opening numbers at their ends.
-ghost use Rattle.std.specs.Prelude.{◌≡◌, ℕ, ◌≤◌, ◌<◌, ◌++◌, ◌-◌, List, IfOk, Some, drop, length, not};
+ghost use Rattle.std.specs.Prelude.{◌≡◌, ℕ, ◌≤◌, ◌<◌, ◌++◌, ◌-◌, List, IfOk, Some, drop, false, length, not, true};
+ghost use Rattle.std.specs.List.{list_all};
 ghost use Rattle.std.specs.Char.{is_ascii_digit};
-ghost use Rattle.server_ports.specs.Names.{IsNamePart};
+ghost use Rattle.server_ports.specs.Names.{IsNamePart, is_name_byte, last_is_digit};
 ghost use Rattle.session_table.specs.Sids.{EndsInDigits, IsSidOf, highest_number, sid_of};
 
 use bosh_types::{SharedText, Text};
 use std::alloc::{AllocError, Global};
 use std::fmt::Write;
+
+// How many bytes may be drawn for a name.
+const LONGEST_PART: usize = 32;
 
 /// The name of the session with this opening number, after the part that was drawn for it.
 pub(crate) fn sid_text(alloc: Global, part: &[u8], number: u64) -> Result<SharedText, AllocError>
@@ -40,4 +44,62 @@ pub(crate) fn number_in(sid: &[u8]) -> Option<u64>
         return None;
     };
     digits.parse().ok()
+}
+
+/// Whether this is a name of the session with this number. The only error is want of memory.
+pub(crate) fn is_sid(alloc: Global, sid: &[u8], number: u64) -> Result<bool, AllocError>
+    ensures { IfOk result (λ answer. answer ≡ true → IsSidOf sid.now number) }
+{
+    let digits = format!(in alloc; "{number}")?;
+    match sid.strip_suffix(digits.as_bytes()) {
+        Some(part) => Ok(is_name_part(part)),
+        None => Ok(false),
+    }
+}
+
+// Whether this may be drawn for a name.
+fn is_name_part(part: &[u8]) -> bool
+    ensures { result ≡ true → IsNamePart part.now }
+{
+    if part.is_empty() || part.len() > LONGEST_PART {
+        return false;
+    }
+    if ends_in_digit(part) {
+        return false;
+    }
+    are_name_bytes(part)
+}
+
+// Whether each of these is a letter, a digit or `-`.
+fn are_name_bytes(text: &[u8]) -> bool
+    ensures { result ≡ list_all is_name_byte text.now }
+{
+    let mut left = text;
+    while let [byte, others @ ..] = left {
+        if !is_name_byte(*byte) {
+            return false;
+        }
+        left = others;
+    }
+    true
+}
+
+fn is_name_byte(byte: u8) -> bool
+    ensures { result ≡ is_name_byte byte }
+{
+    if byte == b'-' {
+        return true;
+    }
+    byte.is_ascii_alphanumeric()
+}
+
+// Whether the last byte is a digit.
+fn ends_in_digit(part: &[u8]) -> bool
+    ensures { result ≡ last_is_digit false part.now }
+{
+    let mut is_digit = false;
+    for byte in part {
+        is_digit = byte.is_ascii_digit();
+    }
+    is_digit
 }

@@ -14,7 +14,7 @@ use bosh_types::{Ending, Inward, Moment, SharedText, StreamNo, Ticket};
 use parked_gate::{Gate, Pass, Waited};
 use session_core::{Arrived, Collected, Taken, Waiting};
 use session_journal::{
-    Answer, Call, Entered, Entry, Found, Journalled, Limited, Question, Recorded, Reply,
+    Answer, Call, Entered, Entry, Found, Journalled, Limited, Question, Recorded, Reply, Stepped,
 };
 use std::alloc::{AllocError, Global};
 use std::sync::Wait;
@@ -127,8 +127,17 @@ fn size_of(waited: &Waited<Found>) -> usize {
     }
 }
 
-fn is_done(reply: &Result<Reply, AllocError>) -> bool {
-    matches!(reply, Ok(Reply::Back(Taken::Done)))
+fn is_done(stepped: &Result<Stepped, AllocError>) -> bool {
+    match stepped {
+        Ok(stepped) => is_taken(&stepped.reply),
+        Err(_) => false,
+    }
+}
+
+/// The reply of a step, without its entry.
+fn reply_of(stepped: Stepped) -> Reply {
+    let Stepped { reply, made: _made } = stepped;
+    reply
 }
 
 #[test]
@@ -138,7 +147,7 @@ fn a_parked_request_is_collected_while_another_thread_answers_it(
     let (gate, mut pass) = gate(rt.alloc())?;
     let mut other = gate.split(&rt, &mut pass);
     let call = arrival(rt.alloc(), FIRST, 10)?;
-    let reply = gate.call(&rt, &mut pass, call)?;
+    let reply = reply_of(gate.call(&rt, &mut pass, call)?);
     let ticket = ticket_of(&reply).ok_or("not parked")?;
     let stanza = given(rt.alloc(), b"<b/>", 11)?;
     let (found, taken) = join(
@@ -150,7 +159,7 @@ fn a_parked_request_is_collected_while_another_thread_answers_it(
     Ok(())
 }
 
-type Made = Result<Reply, AllocError>;
+type Made = Result<Stepped, AllocError>;
 
 /// Two calls, each in a thread of its own. A pass goes into its thread by value, and comes back.
 fn call_in_two_threads<R: Threads + Wait + Sync>(
@@ -239,10 +248,10 @@ fn stanza_taken<R: Wait>(
     requires { IsPassOf gate.now pass.old }
     ensures { IsPassOf gate.now pass.new }
 {
-    let Ok(reply) = gate.call(rt, pass, Call::TakeInward) else {
+    let Ok(stepped) = gate.call(rt, pass, Call::TakeInward) else {
         return None;
     };
-    stanza_in(reply)
+    stanza_in(reply_of(stepped))
 }
 
 const SECOND: &[u8] =
@@ -263,9 +272,9 @@ fn whichever_of_two_threads_comes_first_the_session_is_one(rt: HostRuntime) -> R
         (first, second),
     );
     assert_eq!(rt; pass.length(), 3);
-    let answer = answer_to(&rt, &gate, &mut pass, answered?).ok_or("no answer")?;
+    let answer = answer_to(&rt, &gate, &mut pass, reply_of(answered?)).ok_or("no answer")?;
     assert_eq!(rt; answer.as_slice(), EMPTY_WITH_ACK);
-    assert!(rt; answer_to(&rt, &gate, &mut pass, parked?).is_none());
+    assert!(rt; answer_to(&rt, &gate, &mut pass, reply_of(parked?)).is_none());
     let first = stanza_taken(&rt, &gate, &mut pass).ok_or("no stanza")?;
     let second = stanza_taken(&rt, &gate, &mut pass).ok_or("no stanza")?;
     assert_eq!(rt;

@@ -5,11 +5,12 @@ use Rattle.parked_gate.specs.Histories.{StartsWith}
 use Rattle.parked_gate.specs.Passes.{GateId, Known}
 use Rattle.session_table.specs.declared.entry.Entry.{Entry}
 use Rattle.session_table.specs.declared.opening.Limits.{Limits}
+use Rattle.session_table.specs.History.{opening_in}
 use Rattle.serve_loop.specs.declared.trail.Traced.{Traced}
 use Rattle.trail_laws.specs.Asking.{AsksForEach, IsLeftOf, IsShown, of_directory}
 use Rattle.trail_laws.specs.Seeing.{HasOpening, IsSeenFor, IsTold, SeesEach}
 use Rattle.trail_laws.specs.Told.{Has, is_of_directory, opened_in, seen_for}
-use Rattle.trail_laws.proofs.ListLemmas.{few_behind, has_first, has_split, left_behind, none_left, one_behind, one_left, starts_itself, starts_on}
+use Rattle.trail_laws.proofs.ListLemmas.{cancel, few_behind, has_first, has_last, has_split, left_behind, none_left, one_behind, one_left, starts_itself, starts_on}
 
 -- more was seen, made and learnt
 pub record Grew (old new : Known Entry) : Type 0 where
@@ -47,10 +48,16 @@ pub record Steps (limits : Limits) (old : Known Entry) (t : Traced) (new : Known
   pub shown : IsShown t
   pub asked : (log : List Entry) → seen_for t ≡ Some log → IsAsked limits t log new grew.news
   pub opened : (session : List ℕ × GateId) → opened_in t ≡ Some session → HasOpening new.seen new.mine session
+  pub entered : (session : List ℕ × GateId) → opened_in t ≡ Some session → (e : Entry) × Has grew.more e × (opening_in e ≡ Some session)
 
 pub steps_from : (limits : Limits) (a b c : Known Entry) (t : Traced) → Grew a b → Steps limits b t c → Steps limits a t c
-steps_from limits a b c t g s = record { grew = grew_on a b c g s.grew; shown = s.shown; asked = by; opened = s.opened }
+steps_from limits a b c t g s = record { grew = grew_on a b c g s.grew; shown = s.shown; asked = by; opened = s.opened; entered = here }
   where
+    here : (session : List ℕ × GateId) → opened_in t ≡ Some session → (e : Entry) × Has (g.more ++ s.grew.more) e × (opening_in e ≡ Some session)
+    here session is =
+        let one : (e : Entry) × Has s.grew.more e × (opening_in e ≡ Some session) = s.entered session is in
+        (one.0, has_last g.more s.grew.more one.0 one.1, one.2)
+
     by : (log : List Entry) → seen_for t ≡ Some log → IsAsked limits t log c (g.news ++ s.grew.news)
     by log is =
         let asked : IsAsked limits t log c s.grew.news = s.asked log is in
@@ -131,6 +138,25 @@ chain_opens limits k last (t ∷ ts) (next, s, rest) other session (inl here) is
     let later : Grew next last = chain_grew limits next last ts rest in
     opening_on next.seen last.seen next.mine last.mine later.more session (s.opened session (ap opened_in here ∙ is)) later.begins later.mine
 chain_opens limits k last (t ∷ ts) (next, s, rest) other session (inr there) is = chain_opens limits next last ts rest other session there is
+
+-- what was entered for a line that opened a session is among what was entered in all
+pub chain_enters : (limits : Limits) (k last : Known Entry) (ts : List Traced) → Chain limits k ts last → (t : Traced) (session : List ℕ × GateId) → Has ts t → opened_in t ≡ Some session
+    → (more : List Entry) → last.mine ≡ k.mine ++ more → (e : Entry) × Has more e × (opening_in e ≡ Some session)
+chain_enters limits k last [] grew t session there is more are = absurd there
+chain_enters limits k last (x ∷ xs) (next, s, rest) t session there is more are =
+    by there (chain_grew limits next last xs rest) (chain_enters limits next last xs rest t session)
+  where
+    behind : (later : List Entry) → last.mine ≡ next.mine ++ later → s.grew.more ++ later ≡ more
+    behind later own = cancel k.mine (s.grew.more ++ later) more (sym (on_and_on k.mine next.mine last.mine s.grew.more later s.grew.mine own) ∙ are)
+
+    by : (x ≡ t) ⊎ Has xs t → Grew next last → (Has xs t → opened_in t ≡ Some session → (later : List Entry) → last.mine ≡ next.mine ++ later → (e : Entry) × Has later e × (opening_in e ≡ Some session))
+        → (e : Entry) × Has more e × (opening_in e ≡ Some session)
+    by (inl here) grew further =
+        let one : (e : Entry) × Has s.grew.more e × (opening_in e ≡ Some session) = s.entered session (ap opened_in here ∙ is) in
+        (one.0, subst (λ l. Has l one.0) (behind grew.more grew.mine) (has_first s.grew.more grew.more one.0 one.1), one.2)
+    by (inr later) grew further =
+        let one : (e : Entry) × Has grew.more e × (opening_in e ≡ Some session) = further later is grew.more grew.mine in
+        (one.0, subst (λ l. Has l one.0) (behind grew.more grew.mine) (has_last s.grew.more grew.more one.0 one.1), one.2)
 
 -- a chain in two, with a line between
 record Split (limits : Limits) (k : Known Entry) (before : List Traced) (t : Traced) (later : List Traced) (last : Known Entry) : Type 0 where

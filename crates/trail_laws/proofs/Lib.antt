@@ -2,6 +2,10 @@ mod ListLemmas
 mod ChainLemmas
 mod StepLemmas
 mod NameLemmas
+mod WalkLemmas
 mod EndLemmas
 mod SupersedingLemmas
+mod DrawnLemmas
+mod HoldingLemmas
+mod RisingLemmas
 mod Rows

@@ -1,5 +1,6 @@
 -- What a wrong connection would leave is refused: a line that says that there is no room or no such session and for which the directory wasn't
--- asked, or wasn't asked anew, or that is told by what was seen before an earlier line's opening, or where there is room; and a name without an opening.
+-- asked, or wasn't asked anew, or that is told by what was seen before an earlier line's opening, or where there is room; a name without an opening, or
+-- that wasn't drawn; and lines of one session whose places fall, stay, or are of two callers.
 use Rattle.std.proofs.Common.{◌≡◌, ◌≢◌, ◌⊎◌, ◌<◌, ◌≤◌, ◌+◌, ℕ, suc, true, List, [], ◌∷◌, ◌++◌, length, Option, Some, None, refl, sym, ◌∙◌, ap, subst, inl, inr, append-nil, arith}
 use Rattle.std.specs.Arc.{arc_value}
 use Rattle.bosh_types.specs.declared.condition.Condition.TheVariants.{UndefinedCondition}
@@ -12,7 +13,9 @@ use Rattle.serve_loop.specs.declared.trail.Traced.{Traced}
 use Rattle.serve_loop.specs.declared.trail.TrailLine.TheVariants as lines
 use Rattle.session_journal.specs.declared.entry.Entry.{Entry as Journalled}
 use Rattle.trail_laws.specs.Asking.{AsksForEach, Every}
+use Rattle.trail_laws.specs.Drawing.{IsNamedAs, NamesAsDrawn}
 use Rattle.trail_laws.specs.Naming.{IsNamed}
+use Rattle.trail_laws.specs.Rising.{HasEnded, PlacesRise, SeesEnd}
 use Rattle.trail_laws.specs.Seeing.{HasNoRoomFor, HasOpening, IsSeenFor, SeesEach}
 use Rattle.trail_laws.specs.Told.{seen_for, session_by}
 use Rattle.trail_laws.proofs.ListLemmas.{cancel}
@@ -68,3 +71,35 @@ not_without_an_opening session named = named.there
 -- a request that its own caller superseded
 pub not_by_itself : (number : ℕ) (e : Journalled) → e.caller ≡ number → Every (λ (x : Journalled). x.caller ≢ number) (e ∷ []) → ⊥
 not_by_itself number e own others = others.0 own
+
+-- a session that was opened where no name was drawn
+pub not_undrawn : (sid : List ℕ) (by : Evidence) (session : List ℕ × GateId) (last : Known Entry) → session_by sid by ≡ Some session
+    → NamesAsDrawn [] (record { line = lines.Opened sid; evidence = by } ∷ []) last → ⊥
+not_undrawn sid by session last is names = nothing (names (record { line = lines.Opened sid; evidence = by }) session (inl refl) is)
+  where
+    nothing : IsNamedAs [] last.seen session → ⊥
+    nothing named = named.drawn
+
+-- a line that names an entry
+abbrev entry : List ℕ → ℕ → ℕ → Traced
+entry sid caller place = record { line = lines.Entry sid caller place; evidence = evidence.Request }
+
+none_ends : (sid : List ℕ) (t : Traced) → t.evidence ≡ evidence.Request → SeesEnd sid (t ∷ []) → ⊥
+none_ends sid t is (u, inl here, ended) = subst (HasEnded sid) (ap (λ (l : Traced). l.evidence) (sym here) ∙ is) ended
+none_ends sid t is (u, inr there, ended) = there
+
+-- a place that isn't greater than the one before
+pub not_falling : (sid : List ℕ) (caller place place' : ℕ) → place' ≤ place → PlacesRise (entry sid caller place ∷ entry sid caller place' ∷ []) → ⊥
+not_falling sid caller place place' low rise = by (rise [] [] [] (entry sid caller place) (entry sid caller place') sid caller caller place place' refl refl refl)
+  where
+    by : ((caller ≡ caller) × (place < place')) ⊎ SeesEnd sid (entry sid caller place ∷ []) → ⊥
+    by (inl higher) = omega (arith, low, higher.1)
+    by (inr ended) = none_ends sid (entry sid caller place) refl ended
+
+-- another caller, where the session goes on
+pub not_by_two : (sid : List ℕ) (caller caller' place place' : ℕ) → caller' ≢ caller → PlacesRise (entry sid caller place ∷ entry sid caller' place' ∷ []) → ⊥
+not_by_two sid caller caller' place place' apart rise = by (rise [] [] [] (entry sid caller place) (entry sid caller' place') sid caller caller' place place' refl refl refl)
+  where
+    by : ((caller' ≡ caller) × (place < place')) ⊎ SeesEnd sid (entry sid caller place ∷ []) → ⊥
+    by (inl same) = apart same.0
+    by (inr ended) = none_ends sid (entry sid caller place) refl ended

@@ -28,13 +28,12 @@ use Rattle.serve_loop.specs.declared.trail.Traced.{Traced}
 use Rattle.serve_loop.specs.declared.trail.TrailLine.{TrailLine}
 use Rattle.serve_loop.specs.declared.trail.TrailLine.TheVariants as lines
 use Rattle.serve_loop.specs.Asked.{admitted_as, asked_as, asked_by, asked_of, request_in}
-use Rattle.serve_loop.specs.Connections.{Exchange, Follows, TellsTruth, lines_of}
 use Rattle.serve_loop.specs.Effects.{AsksDirectory, IsOpeningOf, OpensOne}
 use Rattle.serve_loop.specs.Trail.{ConcernsNone, FindsNoRoom, HasNoRoom, IsGone, IsTrueOf, IsUnknown, Setting}
 use Rattle.trail_laws.specs.Asking.{IsShown}
 use Rattle.trail_laws.specs.Seeing.{HasNoRoomFor, HasOpening, IsTold}
 use Rattle.trail_laws.specs.Told.{Has, is_of_directory, is_undefined, opened_in, seen_for, told_by}
-use Rattle.trail_laws.proofs.ChainLemmas.{Chain, Grew, IsAsked, Steps, grew_none}
+use Rattle.trail_laws.proofs.ChainLemmas.{Grew, IsAsked, Steps, grew_none}
 use Rattle.trail_laws.proofs.ListLemmas.{has_last, starts_on}
 
 pub grew_of : (old new : Known Entry) → Grows old new → Grew old new
@@ -74,6 +73,7 @@ quiet limits old new t of_none none not_opened grew = record {
   shown = λ is. absurd (true≢false (sym is ∙ of_none));
   asked = λ log is. never none is;
   opened = λ session is. never not_opened is;
+  entered = λ session is. never not_opened is;
 }
   where
     never : {A B : Type 0} {o : Option A} {x : A} → o ≡ None → o ≡ Some x → B
@@ -103,6 +103,7 @@ told_steps limits old new t k asks of_it shows not_opened told =
       shown = λ is. (k.seen, shows);
       asked = λ log is. asked log (some_same k.seen log (sym shows ∙ is)) c.earlier c.before now before;
       opened = λ session is. never not_opened is;
+      entered = λ session is. never not_opened is;
     }
   where
     never : {A B : Type 0} {o : Option A} {x : A} → o ≡ None → o ≡ Some x → B
@@ -119,7 +120,7 @@ told_steps limits old new t k asks of_it shows not_opened told =
 
 -- ---- a body that can't be served is answered with another condition
 
-none_or_room : (site : Setting) (body : List ℕ) (condition : Condition) (old new : Purse) (by : Evidence) → ConcernsNone site body condition old new by
+pub none_or_room : (site : Setting) (body : List ℕ) (condition : Condition) (old new : Purse) (by : Evidence) → ConcernsNone site body condition old new by
     → ((is_undefined condition ≡ false) × (new ≡ old)) ⊎ ((condition ≡ UndefinedCondition) × FindsNoRoom site body old new by)
 none_or_room site body condition old new by (inr finds) = inr finds
 none_or_room site body condition old new by (inl asks) = inl (read (request_in body) refl, asks.1)
@@ -143,16 +144,18 @@ none_or_room site body condition old new by (inl asks) = inl (read (request_in b
 -- ---- each line
 
 pub opened_steps : (limits : Limits) (old new : Purse) (t : Traced) (sid : List ℕ) (x : SessionHandle) (gate : GateId) → OpensOne old new x → is_of_directory t.line t.evidence ≡ false
-    → seen_for t ≡ None → opened_in t ≡ Some (sid, gate) → ((e : Entry) → IsOpeningOf x (Some e) → opening_in e ≡ Some (sid, gate))
+    → seen_for t ≡ None → opened_in t ≡ Some (sid, gate) → ((log : List Entry) (e : Entry) → IsOpeningOf log x (Some e) → opening_in e ≡ Some (sid, gate))
     → Steps limits (known old.directory) t (known new.directory)
 opened_steps limits old new t sid x gate opens of_none none opened tells =
-    let c : Calls (λ e. e.caller) (λ log made. IsOpeningOf x made) (known old.directory) (known new.directory) = opens.entered in
+    let c : Calls (λ e. e.caller) (λ log made. IsOpeningOf log x made) (known old.directory) (known new.directory) = opens.entered in
+    let opening : opening_in c.says.0 ≡ Some (sid, gate) = tells c.before c.says.0 (subst (IsOpeningOf c.before x) c.says.1 c.says) in
     record {
       grew = grew_by_call (known old.directory) (known new.directory) c;
       shown = λ is. absurd (true≢false (sym is ∙ of_none));
       asked = λ log is. never none is;
       opened = λ session is. subst (HasOpening (known new.directory).seen (known new.directory).mine) (some_same (sid, gate) session (sym opened ∙ is))
-          (has c.before c.made c.says.0 c.says.1 (tells c.says.0 (subst (IsOpeningOf x) c.says.1 c.says)) c.seen c.mine);
+          (has c.before c.made c.says.0 c.says.1 opening c.seen c.mine);
+      entered = λ session is. (c.says.0, subst (λ o. Has (option_to_list o) c.says.0) (sym c.says.1) (inl refl), opening ∙ (sym opened ∙ is));
     }
   where
     never : {A B : Type 0} {o : Option A} {y : A} → o ≡ None → o ≡ Some y → B
@@ -171,7 +174,7 @@ opened_steps limits old new t sid x gate opens of_none none opened tells =
 named : (x : SessionHandle) (sid : List ℕ) (gate : GateId) → x.sid ≡ sid → ◌≡◌ {A = List ℕ × GateId} (x.sid, gate) (sid, gate)
 named x sid gate same = ap (λ s. (s, gate)) same
 
-same_directory : (old new : Purse) → new ≡ old → Grew (known old.directory) (known new.directory)
+pub same_directory : (old new : Purse) → new ≡ old → Grew (known old.directory) (known new.directory)
 same_directory old new same = subst (λ (p : Purse). Grew (known old.directory) (known p.directory)) (sym same) (grew_none (known old.directory))
 
 step_none : (site : Setting) (body : List ℕ) (condition : Condition) (old new : Purse) (by : Evidence)
@@ -211,21 +214,9 @@ step_by site body text old new (lines.Opened sid) evidence.Request is = absurd i
 step_by site body text old new (lines.Opened sid) (evidence.Directory pass) is = absurd is
 step_by site body text old new (lines.Opened sid) (evidence.Session session) is =
     opened_steps site.limits old new (record { line = lines.Opened sid; evidence = evidence.Session session }) sid session.value (gate_of (arc_value session.value.gate)) is.alone refl refl refl
-    (λ e opening. tells e opening.0 opening.1 opening.2)
+    (λ log e opening. tells e opening.0 opening.1 opening.2)
   where
     tells : (e x : Entry) → Some e ≡ Some x → opening_in x ≡ (Some (session.value.sid, gate_of (arc_value session.value.gate))) → opening_in e ≡ Some (sid, gate_of (arc_value session.value.gate))
     tells e x same opens = ap opening_in (some_same e x same) ∙ (opens ∙ ap Some (named session.value sid (gate_of (arc_value session.value.gate)) is.of))
 step_by site body text old new (lines.Unknown sid) by is = step_unknown site sid body text old new by is
 step_by site body text old new (lines.NoSession condition) by is = step_none site body condition old new by (none_or_room site body condition old new by is.1)
-
--- ---- the lines of the exchanges
-
-pub chain_of : (site : Setting) (es : List Exchange) (first last : Purse) → All (TellsTruth site) es → Follows first es last
-    → Chain site.limits (known first.directory) (lines_of es) (known last.directory)
-chain_of site [] first last all is = same_directory first last is
-chain_of site (e ∷ es) first last all (before, later) = (
-  known e.after.directory,
-  subst (λ (p : Purse). Steps site.limits (known p.directory) e.traced (known e.after.directory)) before
-      (step_by site e.body e.text e.before e.after e.traced.line e.traced.evidence (All-head (TellsTruth site) e es all)),
-  chain_of site es e.after last (All-tail (TellsTruth site) e es all) later,
-)

@@ -3,3 +3,5 @@ pub mod Asking
 pub mod Seeing
 pub mod Naming
 pub mod Superseding
+pub mod Drawing
+pub mod Rising

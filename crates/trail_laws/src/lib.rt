@@ -3,4 +3,4 @@
 
 mod laws;
 
-pub use laws::each_trail_tells_the_directory;
+pub use laws::{each_name_was_drawn, each_trail_tells_the_directory, places_rise};

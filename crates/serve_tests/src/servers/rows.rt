@@ -136,6 +136,8 @@ pub(crate) fn served_with<R: Wait + Threads + Clock + Copy + Send + Sync + Drop 
         names,
         pollers: StillPollers { rt: *rt, alloc },
         watch: Watch::off(),
+        restored: None,
+        keeper: None,
         roll: Roll::new(),
         pump: None,
     };
@@ -149,6 +151,8 @@ pub(crate) fn served_with<R: Wait + Threads + Clock + Copy + Send + Sync + Drop 
         names: _names,
         pollers: _pollers,
         watch: _watch,
+        restored: _restored,
+        keeper: _keeper,
         roll: _roll,
         pump,
     } = outside;

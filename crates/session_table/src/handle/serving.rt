@@ -15,7 +15,7 @@ use super::SessionHandle;
 use bosh_ports::Bell;
 use bosh_types::Ticket;
 use parked_gate::Waited;
-use session_journal::{Answer, Call, Found, Question, Reply, State};
+use session_journal::{Answer, Call, Entered, Found, Question, Reply, State, Stepped};
 use std::alloc::AllocError;
 use std::sync::Wait;
 
@@ -28,7 +28,11 @@ impl SessionHandle {
         ensures called { Calls (λ e. e.caller) (λ before made. RepliesTo before call result made) (known self.old.pass) (known self.new.pass) }
         ensures learns_once { length (known self.new.pass).learnt ≡ length (known self.old.pass).learnt + 1 }
     {
-        self.gate.call(rt, &mut self.pass, call)
+        let Stepped { reply, made } = self.gate.call(rt, &mut self.pass, call)?;
+        if let Some(entered) = made {
+            self.note(rt, entered);
+        }
+        Ok(reply)
     }
 
     /// Asks the session a question, when the pass's turn has come. The only error is want of memory.
@@ -61,7 +65,11 @@ impl SessionHandle {
         ensures polled { PollsAs ticket result (known self.old.pass) (known self.new.pass) }
         ensures learns_once { length (known self.new.pass).learnt ≡ length (known self.old.pass).learnt + 1 }
     {
-        self.gate.poll(rt, &mut self.pass, ticket)
+        let found = self.gate.poll(rt, &mut self.pass, ticket);
+        if let Some(found) = &found {
+            self.note_found(rt, ticket, found);
+        }
+        found
     }
 
     /// Waits at the bell until there is something for the ticket, or the bell is silent. It takes no memory.
@@ -77,7 +85,19 @@ impl SessionHandle {
         ensures silent_only_at_bell { OnSilent result (HasRisen (B.silences bell.old) (B.silences bell.new)) }
         ensures bell { B.silences bell.old ≤ B.silences bell.new }
     {
-        self.gate.wait_for(rt, &mut self.pass, ticket, bell)
+        let waited = self.gate.wait_for(rt, &mut self.pass, ticket, bell);
+        if let Waited::Found(found) = &waited {
+            self.note_found(rt, ticket, found);
+        }
+        waited
+    }
+
+    // What uses a ticket up is an entry.
+    fn note_found<R: Wait>(&self, rt: &R, ticket: Ticket, found: &Found) {
+        match found {
+            Found::Answer(_) | Found::Superseded => self.note(rt, Entered::Collect { ticket }),
+            Found::UnknownTicket => {}
+        }
     }
 }
 

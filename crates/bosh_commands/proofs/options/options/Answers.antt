@@ -1,6 +1,6 @@
 use Rattle.std.proofs.Common.{◌∙◌, Option, List, ap, codes, option_map}
 use Rattle.clap.specs.Words.{Text, first_value, found_of, matched_of, raw_values}
-use Rattle.bosh_commands.specs.Options.{flag_in, named_in, number_in}
+use Rattle.bosh_commands.specs.Options.{named_in, number_in}
 use Rattle.bosh_commands.proofs.OptionLemmas.{options_so}
 use Rattle.bosh_commands.proofs.options.options.Goals as goal
 
@@ -9,6 +9,5 @@ returns c =
     let value : Text → Option Text = λ id. first_value (found_of c.args.matches.now) id in
     let names : Option (List Text) = option_map raw_values (matched_of (found_of c.args.matches.now) (codes "xmpp")) in
     c.options_from.ensures
-    ∙ options_so value names _ _ _ _ _ _ _ (c.flag-until_eof.ensures ∙ ap flag_in c.get_str.ensures) (c.number-port.ensures.number ∙ ap (number_in 1 65535) c.get_str-2.ensures)
-    c.plan-plan.ensures c.in_ok-site.ensures (c.in_ok-trace.ensures ∙ c.get_str-3.ensures) (c.flag-log.ensures ∙ ap flag_in c.get_str-4.ensures)
-    (c.named_in-name.ensures ∙ ap named_in c.get_str-5.ensures)
+    ∙ options_so value names _ _ _ _ _ c.in_ok-beside.ensures (c.number-port.ensures.number ∙ ap (number_in 1 65535) c.get_str.ensures)
+    c.plan-plan.ensures c.in_ok-site.ensures (c.named_in-name.ensures ∙ ap named_in c.get_str-2.ensures)

@@ -38,7 +38,7 @@ returns-clause-report g c =
     too_many drive_of _ _ c.loop-n.run 1000001 _ _ _ (omega arith) (Going-at drive_of _ _ c.loop-n.run c.loop-n.n 1000001 _ _ last c.loop-n.invariant.goes) c.in_ok-give_line.ensures.given
 
 pub returns-in-Ends-clause-headline : goal.returns-in-Ends-clause-headline
-returns-in-Ends-clause-headline g c = gives_report (record { told = c.reports_tell_of_sessions.ensures.told; came = c.reports_tell_of_sessions.ensures.came; stages = c.reports_tell_of_sessions.ensures.stages; answers = c.reports_tell_of_sessions.ensures.answers; repeats = c.reports_tell_of_sessions.ensures.repeats }) (g.S.Source.left c.args.source.now) c.in-Ends.outcome _ _ (returns-in-Ends-clause-report g c)
+returns-in-Ends-clause-headline g c = gives_report (record { told = c.reports_tell_of_sessions.ensures.told; came = c.reports_tell_of_sessions.ensures.came; stages = c.reports_tell_of_sessions.ensures.stages; entered = c.reports_tell_of_sessions.ensures.entered; moments = c.reports_tell_of_sessions.ensures.moments; still = c.reports_tell_of_sessions.ensures.still; handed = c.reports_tell_of_sessions.ensures.handed; fates = c.reports_tell_of_sessions.ensures.fates; answers = c.reports_tell_of_sessions.ensures.answers; refused = c.reports_tell_of_sessions.ensures.refused; repeats = c.reports_tell_of_sessions.ensures.repeats }) (g.S.Source.left c.args.source.now) c.in-Ends.outcome _ _ (returns-in-Ends-clause-report g c)
 
 pub returns-clause-headline : goal.returns-clause-headline
-returns-clause-headline g c = gives_report (record { told = c.reports_tell_of_sessions.ensures.told; came = c.reports_tell_of_sessions.ensures.came; stages = c.reports_tell_of_sessions.ensures.stages; answers = c.reports_tell_of_sessions.ensures.answers; repeats = c.reports_tell_of_sessions.ensures.repeats }) (g.S.Source.left c.args.source.now) _ _ _ (returns-clause-report g c)
+returns-clause-headline g c = gives_report (record { told = c.reports_tell_of_sessions.ensures.told; came = c.reports_tell_of_sessions.ensures.came; stages = c.reports_tell_of_sessions.ensures.stages; entered = c.reports_tell_of_sessions.ensures.entered; moments = c.reports_tell_of_sessions.ensures.moments; still = c.reports_tell_of_sessions.ensures.still; handed = c.reports_tell_of_sessions.ensures.handed; fates = c.reports_tell_of_sessions.ensures.fates; answers = c.reports_tell_of_sessions.ensures.answers; refused = c.reports_tell_of_sessions.ensures.refused; repeats = c.reports_tell_of_sessions.ensures.repeats }) (g.S.Source.left c.args.source.now) _ _ _ (returns-clause-report g c)

@@ -1,8 +1,8 @@
 use Rattle.std.proofs.Common.{◌≡◌, ◌∙◌, ◌++◌, [], List, sym, subst}
 use Rattle.script_text.specs.declared.run.Next.{Next}
 use Rattle.script_text.specs.Headline.{manager_of}
-use Rattle.script_text.specs.Kept.{HasKept, HasStored, onward, run_after}
-use Rattle.script_text.specs.Script.{step_by}
+use Rattle.script_text.specs.Kept.{HasKept, HasStored, onward}
+use Rattle.script_text.specs.Script.{run_after, step_by}
 use Rattle.script_text.specs.Stands.{IsNext}
 use Rattle.script_text.proofs.KeptRun.{none_run}
 use Rattle.script_text.proofs.KeptSteps.{ends_next, last_crash, last_kept, line_crash, line_first, line_stored, live_then, on_ok}

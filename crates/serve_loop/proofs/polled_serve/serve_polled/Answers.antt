@@ -1,10 +1,12 @@
-use Rattle.std.proofs.Common.{[], List, ℕ, sym, subst, rules, arith}
+use Rattle.std.proofs.Common.{refl, [], List, ℕ, sym, subst, rules, arith}
+use Rattle.parked_gate.specs.Passes.{known}
 use Rattle.serve_loop.specs.Connections.{Answered, EndsItself, IsServedBy, Stands, outside}
 use Rattle.serve_loop.specs.Stepping.{StandsAt}
 use Rattle.serve_loop.specs.Trail.{setting}
 use Rattle.serve_loop.specs.declared.connection.ConnectionEnd.TheVariants as ends
 use Rattle.serve_loop.specs.declared.connection.Stage.TheVariants as stages
 use Rattle.serve_loop.proofs.ConnectionLemmas.{ends_so, nothing_yet}
+use Rattle.serve_loop.proofs.DrawingLemmas.{draws_none, draws_on}
 use Rattle.serve_loop.proofs.EffectLemmas.{drops_removed}
 use Rattle.serve_loop.proofs.polled_serve.serve_polled.Goals as goal
 
@@ -23,9 +25,10 @@ loop-init g c =
       pass = c.drop_removed.ensures.pass;
       held = subst (IsServedBy purse.sessions) (sym new.ensures.stage) tt;
       first = purse;
-      dropped = drops_removed c.args.worker.now.purse purse c.drop_removed.result c.drop_removed.ensures.grows c.drop_removed.ensures.live c.drop_removed.ensures.err;
+      dropped = drops_removed c.args.worker.now.purse purse c.drop_removed.result c.drop_removed.ensures.grows c.drop_removed.ensures.asked c.drop_removed.ensures.live c.drop_removed.ensures.err;
       stands = subst (StandsAt site start (outside new.result.reader (port.left link) (port.given link) trail purse (port.faults link)) new.result.standing.place) (sym new.ensures.stage)
           ([], subst (λ kept. Answered site start [] (outside kept (port.left link) (port.given link) trail purse (port.faults link))) (sym new.ensures.reader) (nothing_yet site start));
+      drawn = draws_none (g.M.Names.drawn c.args.tools.now.names) (g.M.Names.drawn c.args.tools.now.names) (known c.args.worker.now.purse.directory) (known purse.directory) refl c.drop_removed.ensures.grows;
       silences = search rules;
       faults = search rules;
     }
@@ -89,7 +92,7 @@ loop-preserved-in-Waiting-1 g c =
     let all = c.loop.invariant in
     let start = outside [] (port.left link) (port.given link) c.args.worker.now.trail all.first (port.faults link) in
     let stands = c.step.ensures.moves start all.stands in
-    record { next = tt; finite = tt; pass = c.step.ensures.pass; held = c.step.ensures.held; first = all.first; dropped = all.dropped; stands = stands; silences = omega (arith, c.loop.invariant.silences, c.step.ensures.silences, c.is_silent.ensures.never_falls); faults = omega (arith, c.loop.invariant.faults, c.step.ensures.faults) }
+    record { next = tt; finite = tt; pass = c.step.ensures.pass; held = c.step.ensures.held; first = all.first; dropped = all.dropped; stands = stands; drawn = draws_on _ _ _ _ _ _ all.drawn c.step.ensures.drawn; silences = omega (arith, c.loop.invariant.silences, c.step.ensures.silences, c.is_silent.ensures.never_falls); faults = omega (arith, c.loop.invariant.faults, c.step.ensures.faults) }
 
 pub loop-preserved-in-Reading-connection : goal.loop-preserved-in-Reading-connection
 loop-preserved-in-Reading-connection g c =
@@ -98,7 +101,7 @@ loop-preserved-in-Reading-connection g c =
     let all = c.loop.invariant in
     let start = outside [] (port.left link) (port.given link) c.args.worker.now.trail all.first (port.faults link) in
     let stands = c.step.ensures.moves start all.stands in
-    record { next = tt; finite = tt; pass = c.step.ensures.pass; held = c.step.ensures.held; first = all.first; dropped = all.dropped; stands = stands; silences = omega (arith, c.loop.invariant.silences, c.step.ensures.silences); faults = omega (arith, c.loop.invariant.faults, c.step.ensures.faults) }
+    record { next = tt; finite = tt; pass = c.step.ensures.pass; held = c.step.ensures.held; first = all.first; dropped = all.dropped; stands = stands; drawn = draws_on _ _ _ _ _ _ all.drawn c.step.ensures.drawn; silences = omega (arith, c.loop.invariant.silences, c.step.ensures.silences); faults = omega (arith, c.loop.invariant.faults, c.step.ensures.faults) }
 
 pub loop-preserved-in-Asked-connection : goal.loop-preserved-in-Asked-connection
 loop-preserved-in-Asked-connection g c =
@@ -107,7 +110,7 @@ loop-preserved-in-Asked-connection g c =
     let all = c.loop.invariant in
     let start = outside [] (port.left link) (port.given link) c.args.worker.now.trail all.first (port.faults link) in
     let stands = c.step.ensures.moves start all.stands in
-    record { next = tt; finite = tt; pass = c.step.ensures.pass; held = c.step.ensures.held; first = all.first; dropped = all.dropped; stands = stands; silences = omega (arith, c.loop.invariant.silences, c.step.ensures.silences); faults = omega (arith, c.loop.invariant.faults, c.step.ensures.faults) }
+    record { next = tt; finite = tt; pass = c.step.ensures.pass; held = c.step.ensures.held; first = all.first; dropped = all.dropped; stands = stands; drawn = draws_on _ _ _ _ _ _ all.drawn c.step.ensures.drawn; silences = omega (arith, c.loop.invariant.silences, c.step.ensures.silences); faults = omega (arith, c.loop.invariant.faults, c.step.ensures.faults) }
 
 pub loop-preserved : goal.loop-preserved
 loop-preserved g c =
@@ -116,4 +119,10 @@ loop-preserved g c =
     let all = c.loop.invariant in
     let start = outside [] (port.left link) (port.given link) c.args.worker.now.trail all.first (port.faults link) in
     let stands = c.step.ensures.moves start all.stands in
-    record { next = tt; finite = tt; pass = c.step.ensures.pass; held = c.step.ensures.held; first = all.first; dropped = all.dropped; stands = stands; silences = omega (arith, c.loop.invariant.silences, c.step.ensures.silences); faults = omega (arith, c.loop.invariant.faults, c.step.ensures.faults) }
+    record { next = tt; finite = tt; pass = c.step.ensures.pass; held = c.step.ensures.held; first = all.first; dropped = all.dropped; stands = stands; drawn = draws_on _ _ _ _ _ _ all.drawn c.step.ensures.drawn; silences = omega (arith, c.loop.invariant.silences, c.step.ensures.silences); faults = omega (arith, c.loop.invariant.faults, c.step.ensures.faults) }
+
+pub returns-then-is_silent-clause-drawn : goal.returns-then-is_silent-clause-drawn
+returns-then-is_silent-clause-drawn g c = draws_on _ _ _ _ _ _ c.loop.invariant.drawn c.step.ensures.drawn
+
+pub returns-in-Over-clause-drawn : goal.returns-in-Over-clause-drawn
+returns-in-Over-clause-drawn g c = draws_on _ _ _ _ _ _ c.loop.invariant.drawn c.step.ensures.drawn

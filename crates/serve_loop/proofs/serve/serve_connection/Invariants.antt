@@ -1,7 +1,8 @@
 use Rattle.std.proofs.Common.{◌≤◌, []}
-use Rattle.parked_gate.specs.Passes.{IsPassOf}
+use Rattle.parked_gate.specs.Passes.{IsPassOf, known}
 use Rattle.session_table.specs.declared.purse.Purse.{Purse}
 use Rattle.serve_loop.specs.Connections.{IsServedBy, Stands, outside}
+use Rattle.serve_loop.specs.Drawing.{OpensAsDrawn}
 use Rattle.serve_loop.specs.Effects.{DropsRemoved}
 use Rattle.serve_loop.specs.Trail.{setting}
 use Rattle.serve_loop.proofs.serve.serve_connection.Given as goal
@@ -18,6 +19,7 @@ invariant-loop g l = record {
       (outside [] (g.L.Link.left l.fn.link) (g.L.Link.given l.fn.link) l.fn.worker.trail first (g.L.Link.faults l.fn.link))
       (outside l.connection.reader (g.L.Link.left l.link) (g.L.Link.given l.link) l.worker.trail l.worker.purse (g.L.Link.faults l.link))
       l.connection.stage;
+  drawn : OpensAsDrawn (g.M.Names.drawn l.fn.tools.names) (g.M.Names.drawn l.tools.names) (known l.fn.worker.purse.directory) (known l.worker.purse.directory);
   silences : g.B.Bell.silences l.fn.tools.bell ≤ g.B.Bell.silences l.tools.bell;
   faults : g.L.Link.faults l.fn.link ≤ g.L.Link.faults l.link;
 }

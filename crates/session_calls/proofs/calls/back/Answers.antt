@@ -3,8 +3,5 @@ use Rattle.session_journal.specs.Calls.{reply_in}
 use Rattle.session_calls.proofs.CallLemmas.{back_at}
 use Rattle.session_calls.proofs.calls.back.Goals as goal
 
-pub returns-in-Back-clause-reply : goal.returns-in-Back-clause-reply
-returns-in-Back-clause-reply c = λ journal is. back_at _ _ journal is _ c.unnamed-stream.ensures _ _ c.requires _ _ (ap reply_in c.in-Back.is) c.in_ok-taken.ensures.step
-
-pub returns-in-BackClosed-clause-reply : goal.returns-in-BackClosed-clause-reply
-returns-in-BackClosed-clause-reply c = λ journal is. back_at _ _ journal is _ c.unnamed-stream.ensures _ _ c.requires _ _ (ap reply_in c.in-BackClosed.is) c.in_ok-taken.ensures.step
+pub returns-clause-reply : goal.returns-clause-reply
+returns-clause-reply c = λ journal is. back_at _ _ journal is _ c.unnamed-stream.ensures _ _ c.requires _ _ (ap reply_in c.in-Back.is) c.in_ok-taken.ensures.step

@@ -14,6 +14,5 @@ returns c = record {
   names = λ site start left given added purse faults end serves legal.
       chain_names site.limits (known start.purse.directory) (known purse.directory) added (served_chain site start left given added purse faults end serves) legal;
   superseded = superseded_by_others;
-  grew = λ site start left given trail purse faults end serves.
-      (let a = served_adds site start left given trail purse faults end serves in (a.added, a.grew));
+  grew = served_adds;
 }

@@ -1,6 +1,7 @@
 use Rattle.std.proofs.Common.{◌≡◌, ◌≤◌}
-use Rattle.parked_gate.specs.Passes.{IsPassOf}
+use Rattle.parked_gate.specs.Passes.{IsPassOf, known}
 use Rattle.serve_loop.specs.Connections.{IsServedBy, outside}
+use Rattle.serve_loop.specs.Drawing.{OpensAsDrawn}
 use Rattle.serve_loop.specs.Stepping.{Steps}
 use Rattle.serve_loop.specs.Trail.{setting}
 use Rattle.bosh_server.proofs.served.Served.go_on.Given as goal
@@ -13,5 +14,6 @@ invariant-loop g l = record {
       (outside l.fn.self.connection.reader (g.L.Polled.left l.fn.self.link) (g.L.Polled.given l.fn.self.link) l.fn.self.worker.trail l.fn.self.worker.purse (g.L.Polled.faults l.fn.self.link))
       (outside l.self.connection.reader (g.L.Polled.left l.self.link) (g.L.Polled.given l.self.link) l.self.worker.trail l.self.worker.purse (g.L.Polled.faults l.self.link))
       l.fn.self.connection.standing l.self.connection.standing;
+  drawn : OpensAsDrawn (g.M.Names.drawn l.fn.tools.names) (g.M.Names.drawn l.tools.names) (known l.fn.self.worker.purse.directory) (known l.self.worker.purse.directory);
   faults : g.L.Polled.faults l.fn.self.link ≤ g.L.Polled.faults l.self.link;
 }

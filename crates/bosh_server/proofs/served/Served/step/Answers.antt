@@ -1,5 +1,8 @@
 use Rattle.std.proofs.Common.{subst, sym}
+use Rattle.parked_gate.specs.Passes.{known}
+use Rattle.serve_loop.specs.declared.worker.Worker.{Worker}
 use Rattle.serve_loop.specs.Connections.{outside}
+use Rattle.serve_loop.specs.Drawing.{OpensAsDrawn}
 use Rattle.serve_loop.specs.Stepping.{StandsAt}
 use Rattle.serve_loop.specs.Trail.{setting}
 use Rattle.bosh_server.proofs.served.Served.step.Goals as goal
@@ -20,3 +23,8 @@ returns-clause-moves g c = λ start stands.
     (sym c.count_coming.ensures.link)
     (subst (λ worker. StandsAt site start (outside stepped.self.reader (port.left stepped.link) (port.given stepped.link) worker.trail worker.purse (port.faults stepped.link)) standing.place standing.stage)
     (sym c.count_coming.ensures.worker) moved))
+
+pub returns-clause-drawn : goal.returns-clause-drawn
+returns-clause-drawn g c =
+    subst (λ (w : Worker). OpensAsDrawn (g.M.Names.drawn c.args.tools.now.names) (g.M.Names.drawn c.step-moved.new.tools.names) (known c.args.self.now.worker.purse.directory) (known w.purse.directory))
+    (sym c.count_coming.ensures.worker) c.step-moved.ensures.drawn

@@ -1,6 +1,8 @@
 use Rattle.std.proofs.Common.{sym, subst}
+use Rattle.parked_gate.specs.Passes.{known}
 use Rattle.serve_loop.specs.Connections.{Moves, outside}
 use Rattle.serve_loop.specs.Trail.{setting}
+use Rattle.serve_loop.proofs.DrawingLemmas.{draws_beside, draws_still}
 use Rattle.serve_loop.proofs.connection.Connection.move_on.Goals as goal
 
 pub returns-in-Reading-clause-moves : goal.returns-in-Reading-clause-moves
@@ -27,3 +29,15 @@ returns-in-Reading-clause-held g c = c.read.ensures.held c.args.worker.now.purse
 
 pub returns-in-Owing-clause-held : goal.returns-in-Owing-clause-held
 returns-in-Owing-clause-held g c = c.write.ensures.held c.args.worker.now.purse
+
+pub returns-in-Reading-clause-drawn : goal.returns-in-Reading-clause-drawn
+returns-in-Reading-clause-drawn g c = draws_still (g.M.Names.drawn c.args.tools.now.names) (known c.args.worker.now.purse.directory)
+
+pub returns-in-Owing-clause-drawn : goal.returns-in-Owing-clause-drawn
+returns-in-Owing-clause-drawn g c = draws_still (g.M.Names.drawn c.args.tools.now.names) (known c.args.worker.now.purse.directory)
+
+pub returns-in-Over-clause-drawn : goal.returns-in-Over-clause-drawn
+returns-in-Over-clause-drawn g c = draws_still (g.M.Names.drawn c.args.tools.now.names) (known c.args.worker.now.purse.directory)
+
+pub returns-in-Waiting-clause-drawn : goal.returns-in-Waiting-clause-drawn
+returns-in-Waiting-clause-drawn g c = draws_beside (g.M.Names.drawn c.args.tools.now.names) c.args.worker.now.purse c.collected.new.worker.purse c.collected.ensures.directory

@@ -1,11 +1,13 @@
 use Rattle.std.proofs.Common.{sym, subst}
 use Rattle.std.specs.Io.KnownBytes.{prepend_known}
 use Rattle.serve_loop.specs.declared.connection.Stage.TheVariants as stages
+use Rattle.parked_gate.specs.Passes.{known}
 use Rattle.serve_loop.specs.Connections.{outside}
 use Rattle.serve_loop.specs.Stepping.{IsNextAt, Steps}
 use Rattle.serve_loop.specs.Trail.{setting}
 use Rattle.serve_loop.proofs.ConnectionLemmas.{after_write}
 use Rattle.serve_loop.proofs.SteppingLemmas.{step_whole}
+use Rattle.serve_loop.proofs.DrawingLemmas.{draws_beside, draws_still}
 use Rattle.serve_loop.proofs.polled_connection.PolledConnection.move_on.Goals as goal
 
 pub returns-in-Reading-clause-moves : goal.returns-in-Reading-clause-moves
@@ -53,3 +55,15 @@ returns-in-Owing-clause-next g c = λ on.
 
 pub returns-in-Owing-clause-stays : goal.returns-in-Owing-clause-stays
 returns-in-Owing-clause-stays g c = λ is. c.give.ensures.stays is c.args.worker.now.purse c.args.worker.now.trail c.args.self.now.reader
+
+pub returns-in-Reading-clause-drawn : goal.returns-in-Reading-clause-drawn
+returns-in-Reading-clause-drawn g c = draws_still (g.M.Names.drawn c.args.tools.now.names) (known c.args.worker.now.purse.directory)
+
+pub returns-in-Owing-clause-drawn : goal.returns-in-Owing-clause-drawn
+returns-in-Owing-clause-drawn g c = draws_still (g.M.Names.drawn c.args.tools.now.names) (known c.args.worker.now.purse.directory)
+
+pub returns-in-Over-clause-drawn : goal.returns-in-Over-clause-drawn
+returns-in-Over-clause-drawn g c = draws_still (g.M.Names.drawn c.args.tools.now.names) (known c.args.worker.now.purse.directory)
+
+pub returns-in-Waiting-clause-drawn : goal.returns-in-Waiting-clause-drawn
+returns-in-Waiting-clause-drawn g c = draws_beside (g.M.Names.drawn c.args.tools.now.names) c.args.worker.now.purse c.collected.new.worker.purse c.collected.ensures.directory

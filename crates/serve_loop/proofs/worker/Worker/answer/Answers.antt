@@ -1,7 +1,9 @@
 use Rattle.std.proofs.Common.{sym, ap, ◌∙◌, refl, inl}
+use Rattle.parked_gate.specs.Passes.{known}
 use Rattle.serve_loop.specs.Asked.{asked_of}
 use Rattle.serve_loop.specs.Trail.{refusal_text}
 use Rattle.serve_loop.proofs.AnswersLemmas.{answers_from, on_err, on_err_as}
+use Rattle.serve_loop.proofs.DrawingLemmas.{draws_none, draws_still}
 use Rattle.serve_loop.proofs.EffectLemmas.{adds_nothing_same}
 use Rattle.serve_loop.proofs.TellingLemmas.{tells_nothing}
 use Rattle.serve_loop.proofs.worker.Worker.answer.Goals as goal
@@ -26,3 +28,14 @@ returns-in-Later-clause-lost g c = on_err_as c.serve.result _ _ (λ none. inl no
 
 pub returns-in_err-asked-clause-lost : goal.returns-in_err-asked-clause-lost
 returns-in_err-asked-clause-lost g c = on_err _ _ (inl (adds_nothing_same _ _ refl))
+
+pub returns-in-Nothing-clause-drawn : goal.returns-in-Nothing-clause-drawn
+returns-in-Nothing-clause-drawn g c = draws_still (g.M.Names.drawn c.args.tools.now.names) (known c.args.self.now.purse.directory)
+
+pub returns-in-Later-clause-drawn : goal.returns-in-Later-clause-drawn
+returns-in-Later-clause-drawn g c =
+    draws_none (g.M.Names.drawn c.args.tools.now.names) (g.M.Names.drawn c.serve.new.tools.names) (known c.args.self.now.purse.directory) (known c.serve.new.self.purse.directory)
+    (ap g.M.Names.drawn c.serve.ensures.names) c.serve.ensures.grows
+
+pub returns-in_err-asked-clause-drawn : goal.returns-in_err-asked-clause-drawn
+returns-in_err-asked-clause-drawn g c = draws_still (g.M.Names.drawn c.args.tools.now.names) (known c.args.self.now.purse.directory)

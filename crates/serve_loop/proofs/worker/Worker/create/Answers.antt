@@ -7,7 +7,9 @@ use Rattle.serve_loop.specs.Answering.{IsLost, Tells}
 use Rattle.serve_loop.specs.Trail.{refusal_text, setting}
 use Rattle.serve_loop.proofs.AnswersLemmas.{answers_from, on_err}
 use Rattle.serve_loop.proofs.AskedLemmas.{asks_creation, read_from}
-use Rattle.serve_loop.proofs.EffectLemmas.{adds_nothing_same}
+use Rattle.serve_loop.specs.Drawing.{OpensAsDrawn}
+use Rattle.serve_loop.proofs.DrawingLemmas.{draws_none, draws_one, draws_told, draws_unused}
+use Rattle.serve_loop.proofs.EffectLemmas.{adds_nothing_same, grows_none}
 use Rattle.serve_loop.proofs.OpeningLemmas.{full_lost, open_lost, opened_lost}
 use Rattle.serve_loop.proofs.TellingLemmas.{openings_spent, table_full, tells_full, tells_opened}
 use Rattle.serve_loop.proofs.worker.Worker.create.Goals as goal
@@ -79,3 +81,36 @@ returns-in_err-opening-clause-lost g c = on_err _ _ (inl (adds_nothing_same _ _ 
 
 pub returns-in_err-name-clause-lost : goal.returns-in_err-name-clause-lost
 returns-in_err-name-clause-lost g c = on_err _ _ (inl (adds_nothing_same _ _ refl))
+
+pub returns-in_err-name-clause-drawn : goal.returns-in_err-name-clause-drawn
+returns-in_err-name-clause-drawn g c = draws_none (g.M.Names.drawn c.args.tools.now.names) (g.M.Names.drawn c.name.new.self) (known c.args.self.now.purse.directory) (known c.args.self.now.purse.directory) c.in_err-name.ensures.drawn (grows_none (known c.args.self.now.purse.directory))
+
+pub returns-in_err-opening-clause-drawn : goal.returns-in_err-opening-clause-drawn
+returns-in_err-opening-clause-drawn g c = draws_unused (g.M.Names.drawn c.args.tools.now.names) (g.M.Names.drawn c.name.new.self) c.in_ok-name.name (known c.args.self.now.purse.directory) c.in_ok-name.ensures.drawn
+
+pub returns-in_err-new-clause-drawn : goal.returns-in_err-new-clause-drawn
+returns-in_err-new-clause-drawn g c =
+    draws_one (g.M.Names.drawn c.args.tools.now.names) (g.M.Names.drawn c.name.new.self) c.in_ok-name.name c.in_ok-opening.opening (known c.args.self.now.purse.directory) (known c.open.new.self.directory)
+    c.in_ok-name.ensures.drawn c.in_ok-opening.ensures.name c.in_err-new.ensures.err.1
+
+pub returns-in_ok-open-in-Opened-clause-drawn : goal.returns-in_ok-open-in-Opened-clause-drawn
+returns-in_ok-open-in-Opened-clause-drawn g c =
+    draws_told (g.M.Names.drawn c.args.tools.now.names) (g.M.Names.drawn c.name.new.self) c.in_ok-name.name c.in_ok-opening.opening _ c.open.new.self.sessions (known c.args.self.now.purse.directory) (known c.open.new.self.directory)
+    c.in_ok-name.ensures.drawn c.in_ok-opening.ensures.name c.in_ok-new.ensures.opened
+
+pub returns-in_err-open-in-Opened-clause-drawn : goal.returns-in_err-open-in-Opened-clause-drawn
+returns-in_err-open-in-Opened-clause-drawn g c =
+    draws_told (g.M.Names.drawn c.args.tools.now.names) (g.M.Names.drawn c.name.new.self) c.in_ok-name.name c.in_ok-opening.opening _ c.open.new.self.sessions (known c.args.self.now.purse.directory) (known c.open.new.self.directory)
+    c.in_ok-name.ensures.drawn c.in_ok-opening.ensures.name c.in_ok-new.ensures.opened
+
+pub returns-in-TableFull-clause-drawn : goal.returns-in-TableFull-clause-drawn
+returns-in-TableFull-clause-drawn g c =
+    subst (λ (p : Purse). OpensAsDrawn (g.M.Names.drawn c.args.tools.now.names) (g.M.Names.drawn c.name.new.self) (known c.args.self.now.purse.directory) (known p.directory)) (sym c.no_room.ensures.purse)
+    (draws_told (g.M.Names.drawn c.args.tools.now.names) (g.M.Names.drawn c.name.new.self) c.in_ok-name.name c.in_ok-opening.opening _ c.open.new.self.sessions (known c.args.self.now.purse.directory) (known c.open.new.self.directory)
+    c.in_ok-name.ensures.drawn c.in_ok-opening.ensures.name c.in_ok-new.ensures.opened)
+
+pub returns-in-OpeningsSpent-clause-drawn : goal.returns-in-OpeningsSpent-clause-drawn
+returns-in-OpeningsSpent-clause-drawn g c =
+    subst (λ (p : Purse). OpensAsDrawn (g.M.Names.drawn c.args.tools.now.names) (g.M.Names.drawn c.name.new.self) (known c.args.self.now.purse.directory) (known p.directory)) (sym c.no_room-in-OpeningsSpent.ensures.purse)
+    (draws_told (g.M.Names.drawn c.args.tools.now.names) (g.M.Names.drawn c.name.new.self) c.in_ok-name.name c.in_ok-opening.opening _ c.open.new.self.sessions (known c.args.self.now.purse.directory) (known c.open.new.self.directory)
+    c.in_ok-name.ensures.drawn c.in_ok-opening.ensures.name c.in_ok-new.ensures.opened)

@@ -1,8 +1,9 @@
 use Rattle.std.proofs.Common.{refl, subst}
-use Rattle.session_table.specs.Purses.{Holds, IsFound}
+use Rattle.parked_gate.specs.Passes.{known}
+use Rattle.session_table.specs.Purses.{Holds, IsFound, StaysOrComes}
 use Rattle.serve_loop.proofs.AnswersLemmas.{answers_from, on_err}
 use Rattle.serve_loop.proofs.AskedLemmas.{asks_later}
-use Rattle.serve_loop.proofs.EffectLemmas.{adds_nothing, adds_nothing_same, finds_at_most}
+use Rattle.serve_loop.proofs.EffectLemmas.{adds_nothing, adds_nothing_same, finds_at_most, grows_none, grows_to}
 use Rattle.serve_loop.proofs.TellingLemmas.{unknown_told}
 use Rattle.serve_loop.proofs.worker.Worker.serve.Goals as goal
 
@@ -21,13 +22,15 @@ pub returns-in-Some-clause-answers : goal.returns-in-Some-clause-answers
 returns-in-Some-clause-answers g c =
     let found = rw c.in-Some.is at c.in_ok-found.ensures.found in
     c.arrive.ensures.answers c.args.self.now.purse
-    (finds_at_most c.args.self.now.purse c.find.new.self c.in-Some.number _ (subst (IsFound _ _ _) c.as_slice.ensures found) c.in_ok-found.ensures.grows)
+    (finds_at_most c.args.self.now.purse c.find.new.self c.in-Some.number _ (subst (IsFound _ _ _) c.as_slice.ensures found)
+    (subst (StaysOrComes _ _ _ _) c.as_slice.ensures (rw c.in-Some.is at c.in_ok-found.ensures.kept)) c.in_ok-found.ensures.grows)
 
 pub returns-in-Some-clause-lost : goal.returns-in-Some-clause-lost
 returns-in-Some-clause-lost g c =
     let found = rw c.in-Some.is at c.in_ok-found.ensures.found in
     c.arrive.ensures.lost c.args.self.now.purse
-    (finds_at_most c.args.self.now.purse c.find.new.self c.in-Some.number _ (subst (IsFound _ _ _) c.as_slice.ensures found) c.in_ok-found.ensures.grows)
+    (finds_at_most c.args.self.now.purse c.find.new.self c.in-Some.number _ (subst (IsFound _ _ _) c.as_slice.ensures found)
+    (subst (StaysOrComes _ _ _ _) c.as_slice.ensures (rw c.in-Some.is at c.in_ok-found.ensures.kept)) c.in_ok-found.ensures.grows)
 
 pub returns-in-None-clause-answers : goal.returns-in-None-clause-answers
 returns-in-None-clause-answers g c =
@@ -45,3 +48,9 @@ returns-in_err-found-clause-lost g c = on_err _ _ (adds_nothing c.args.self.now.
 
 pub returns-in_err-sid-clause-lost : goal.returns-in_err-sid-clause-lost
 returns-in_err-sid-clause-lost g c = on_err _ _ (adds_nothing_same _ _ refl)
+
+pub returns-in-Some-clause-grows : goal.returns-in-Some-clause-grows
+returns-in-Some-clause-grows g c = grows_to c.args.self.now.purse c.find.new.self c.arrive.new.self.purse c.in_ok-found.ensures.grows c.arrive.ensures.directory
+
+pub returns-in_err-sid-clause-grows : goal.returns-in_err-sid-clause-grows
+returns-in_err-sid-clause-grows g c = grows_none (known c.args.self.now.purse.directory)

@@ -11,6 +11,12 @@ returns-in_err-live-clause-grows g c = grows_by_look _ _ _ c.look.ensures.number
 pub returns-clause-grows : goal.returns-clause-grows
 returns-clause-grows g c = grows_by_look _ _ _ c.look.ensures.number c.look.ensures.looked
 
+pub returns-in_err-live-clause-asked : goal.returns-in_err-live-clause-asked
+returns-in_err-live-clause-asked g c = (c.look.ensures.looked.earlier, c.look.ensures.looked.learnt)
+
+pub returns-clause-asked : goal.returns-clause-asked
+returns-clause-asked g c = (c.look.ensures.looked.earlier, c.look.ensures.looked.learnt)
+
 pub returns-clause-live : goal.returns-clause-live
 returns-clause-live g c =
     keeps_live (known c.look.new.pass).seen c.as_slice-live.result.now c.args.self.now.sessions c.retain.new.self (c.as_slice-live.ensures ∙ c.in_ok-live.ensures.looked.says)
