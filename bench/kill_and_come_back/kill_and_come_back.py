@@ -2,15 +2,17 @@
 """A server that keeps its sessions in a file is killed at random moments under load and started again with the same file. Each session sends
 messages to an echo; what wasn't answered when the server died is sent again, as the same bytes, and so is the last request that was answered.
 
-usage: bench/kill_and_come_back/kill_and_come_back.py PROGRAM [KILLS] [SESSIONS] [SEED]       100 kills, 30 sessions
+usage: kill_and_come_back.py PROGRAM [KILLS] [SESSIONS] [SEED]       100 kills, 30 sessions
 
 It prints how many messages came back, and fails where one is doubled or out of order, where an answer that was given is given anew with other bytes,
 where a session doesn't come back, or where a request that was answered isn't in the file at the end. The echo is in the server's memory: what it was
-passed and had not given back when the server was killed is lost with it, at most one message of a session and a kill.
+passed and had not given back when the server was killed is lost with it, at most one message of a session and a kill. Where something is wrong the file
+is kept, and named.
 """
 import os
 import random
 import re
+import shutil
 import socket
 import subprocess
 import sys
@@ -194,7 +196,9 @@ def main():
         server.terminate()
         server.wait()
         arrived = {rids[0]: set(rids) for rids in arrived_in(file).values()}
-    wrong = [session.wrong for session in sessions if session.wrong]
+        wrong = [session.wrong for session in sessions if session.wrong]
+        if wrong:
+            print("the file:", shutil.copy(file, tempfile.mkdtemp()))
     kept = 0
     for session in sessions:
         lost = session.all_answered - arrived.get(1000 * (session.number + 1), set())

@@ -1,5 +1,5 @@
 -- Counts of two, of which one rises.
-use Rattle.std.proofs.Common.{◌≡◌, ◌+◌, ◌<◌, ℕ, ap, arith, min}
+use Rattle.std.proofs.Common.{◌≡◌, ◌+◌, ℕ, arith}
 use Rattle.bosh_ports.specs.Faults.{HasRisen}
 use Rattle.bosh_ports.specs.Memory.{counted_up}
 

@@ -1,14 +1,12 @@
 -- Entries that are put behind those of a file.
-use Rattle.std.proofs.Common.{◌≡◌, ◌⊎◌, inl, inr, ℕ, zero, suc, ◌+◌, ◌<◌, ◌≤◌, ◌==◌, Bool, true, false, List, [], ◌∷◌, ◌++◌, Some, None, Result, Ok, Err, length, min, drop, take, add-one, refl, sym, ◌∙◌, ap, subst, arith, append_assoc}
+use Rattle.std.proofs.Common.{◌≡◌, ◌⊎◌, inl, inr, ℕ, zero, suc, ◌+◌, ◌≤◌, List, [], ◌∷◌, ◌++◌, Some, None, Result, Ok, Err, length, min, drop, take, add-one, refl, sym, ◌∙◌, ap, subst, arith, append_assoc}
 use Rattle.std.specs.Prelude.{OnOk, slice_get}
 use Rattle.std.proofs.lemmas.List.{append-nil}
-use Rattle.std.proofs.lemmas.Bool.{eqb-true, eqb-false}
 use Rattle.entry_queue.specs.declared.queue.Noted.{Noted}
 use Rattle.session_journal.specs.declared.entry.Entry.{Entry}
 use Rattle.journal_store.specs.Entries.{journal_in}
 use Rattle.journal_store.specs.declared.reading.SessionEntry.{SessionEntry}
 use Rattle.journal_store.proofs.EntryLemmas.{journal-append}
-use Rattle.session_store.specs.Journals.{opened_in}
 use Rattle.session_store.specs.Store.{Stores, of_session}
 use Rattle.session_store.proofs.JournalLemmas.{with_own}
 use Rattle.serve_journal.specs.Writing.{AllGo, FirstStand, IsEarly, IsFar, IsNext, Puts, StandsIn, Writes, Written, far_in}

@@ -5,7 +5,7 @@ use Rattle.entry_queue.specs.declared.queue.Noted.{Noted}
 use Rattle.journal_store.specs.Entries.{journal_in}
 use Rattle.journal_store.specs.declared.reading.SessionEntry.{SessionEntry}
 use Rattle.session_store.specs.Journals.{opened_in}
-use Rattle.session_store.specs.Store.{Stores, of_session}
+use Rattle.session_store.specs.Store.{Stores}
 use Rattle.serve_journal.specs.declared.writer.Early.{Early}
 use Rattle.serve_journal.specs.declared.writer.Writer.{Writer}
 

@@ -1,16 +1,17 @@
 // The sessions of a file go on.
 ghost use Rattle.std.specs.Prelude.{◌≡◌, ◌==◌, All, IfOk, IfSome, List, Some, [], true};
-ghost use Rattle.std.specs.List.{AllByRecursion};
+ghost use Rattle.std.specs.List.{AllByRecursion, list_all};
 ghost use Rattle.journal_store.specs.Contents.{moment_of};
 ghost use Rattle.journal_store.specs.Crash.{EachCrash};
 ghost use Rattle.journal_store.specs.Disk.{Only};
 ghost use Rattle.journal_store.specs.Entries.{AreEntriesOf, FitsContent};
 ghost use Rattle.journal_store.specs.RecordFile.{IsReady};
 ghost use Rattle.journal_store.specs.declared.reading.SessionEntry.{SessionEntry};
+ghost use Rattle.session_journal.specs.Entries.{journal_in};
 ghost use Rattle.session_store.specs.Journals.{AreLogs};
 ghost use Rattle.session_store.specs.Store.{Stores};
 ghost use Rattle.session_table.specs.Opens.{opened_sid, sid_in};
-ghost use Rattle.serve_journal.specs.Bringing.{Brings, IfSessions, IsOver, KeepsLive, LeavesLive, latest_in, latest_of};
+ghost use Rattle.serve_journal.specs.Bringing.{Brings, IfSessions, KeepsLive, LeavesLive, are_finished, has_ended, is_finished, latest_in, latest_of};
 
 use bosh_types::{Closing, Moment, SharedText, StreamNo, Text};
 use entry_queue::{EntryQueue, Noted};
@@ -82,34 +83,40 @@ fn let_ended_go<D: Disk + Drop>(store: &mut Store<D>, sessions: &mut Vec<Journal
     requires { D.told → IsReady D.seen D.time D.left store.old.journals.file }
     ensures ready { D.told → IsReady D.seen D.time D.left store.new.journals.file }
     ensures keeps { D.told → result ≡ Stored.Done → (entries : List SessionEntry) → AreLogs sessions.old.items entries → Stores D.seen D.time D.left store.old entries [] →
-        KeepsLive D.seen D.time D.left store.new entries }
+        KeepsLive D.seen D.time D.left store.new entries sessions.old.items }
     ensures any_moment { D.told → (entries : List SessionEntry) → AreLogs sessions.old.items entries → Stores D.seen D.time D.left store.old entries [] →
         EachCrash D.time D.left store.old.journals.file.disk store.new.journals.file.disk (LeavesLive entries) }
 {
-    if sessions.is_empty() || !are_over(sessions.as_slice()) {
+    if !are_finished(sessions.as_slice()) {
         return Stored::Done;
     }
     sessions.clear();
     store.clear()
 }
 
-// Whether each of these is a server's and has ended.
-fn are_over(sessions: &[Journalled]) -> bool
-    ensures { result ≡ true → AllByRecursion IsOver sessions.now }
+// Whether there are sessions, each a server's that has ended.
+#[tactic(auto, using(crate::proofs::BringingLemmas::some_finished))]
+fn are_finished(sessions: &[Journalled]) -> bool
+    ensures { result ≡ are_finished sessions.now }
 {
-    let mut left = sessions;
-    while let [session, others @ ..] = left {
-        if !is_over(session) || !is_alone(session.entries()) {
-            return false;
-        }
-        left = others;
-    }
-    true
+    !sessions.is_empty() && all_finished(sessions)
 }
 
-#[tactic(auto, using(crate::proofs::BringingLemmas::over_after))]
+fn all_finished(sessions: &[Journalled]) -> bool
+    ensures { result ≡ list_all is_finished sessions.now }
+{
+    sessions.iter().all(is_finished)
+}
+
+fn is_finished(session: &Journalled) -> bool
+    ensures { result ≡ is_finished session.now }
+{
+    is_over(session) && is_alone(session.entries())
+}
+
+#[tactic(auto, using(crate::proofs::BringingLemmas::ended_after))]
 fn is_over(session: &Journalled) -> bool
-    ensures { result ≡ true → IsOver session.now }
+    ensures { result ≡ has_ended (journal_in session.now) }
 {
     session.ending().is_some()
 }
@@ -158,7 +165,8 @@ fn resumed_of(alloc: Global, session: Journalled) -> Result<Option<Resumed>, All
 // Whether all entries are those of the caller with the number 0.
 #[tactic(auto, using(crate::proofs::BringingLemmas::all_alone))]
 fn is_alone(entries: &[Entry]) -> bool
-    ensures { result ≡ true → All (λ e. e.caller ≡ 0) entries.now }
+    ensures is { result ≡ list_all (λ e. e.caller == 0) entries.now }
+    ensures all { result ≡ true → All (λ e. e.caller ≡ 0) entries.now }
 {
     entries.iter().all(is_own)
 }

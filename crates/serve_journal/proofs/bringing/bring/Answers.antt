@@ -1,4 +1,4 @@
-use Rattle.std.proofs.Common.{◌≡◌, List, subst, sym}
+use Rattle.std.proofs.Common.{◌≡◌, List, subst}
 use Rattle.journal_store.specs.declared.reading.SessionEntry.{SessionEntry}
 use Rattle.journal_store.specs.Crash.{EachCrash}
 use Rattle.journal_store.proofs.EntryLemmas.{one_list}
@@ -10,7 +10,7 @@ use Rattle.serve_journal.proofs.bringing.bring.Goals as goal
 pub returns-in-Ok-Some-clause-brings : goal.returns-in-Ok-Some-clause-brings
 returns-in-Ok-Some-clause-brings g c = λ told.
     let all = c.in-Store.ensures.brings told in
-    (all.0, all.1, all.3, c.let_ended_go.ensures.keeps told c.in-Done.is all.0 all.5 all.4)
+    (all.0, all.1, all.3, c.in-Store.sessions.items, all.5, c.let_ended_go.ensures.keeps told c.in-Done.is all.0 all.5 all.4)
 
 pub returns-in-Ok-Some-clause-any_moment : goal.returns-in-Ok-Some-clause-any_moment
 returns-in-Ok-Some-clause-any_moment g c = λ told only entries fits are.

@@ -1,4 +1,4 @@
-use Rattle.std.proofs.Common.{◌≡◌, ℕ, refl, ap}
+use Rattle.std.proofs.Common.{ℕ, refl, ap}
 use Rattle.serve_journal.specs.declared.writer.Early.{Early}
 use Rattle.serve_journal.specs.declared.writer.Writer.{Writer}
 use Rattle.serve_journal.proofs.WriteLemmas.{takes_one}

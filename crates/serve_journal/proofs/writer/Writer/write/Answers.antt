@@ -1,4 +1,4 @@
-use Rattle.std.proofs.Common.{◌≡◌, ◌∙◌, ◌++◌, [], List, refl, ap}
+use Rattle.std.proofs.Common.{◌∙◌, ◌++◌, [], List, refl, ap}
 use Rattle.serve_journal.specs.Writing.{IsFar, far_in}
 use Rattle.serve_journal.specs.declared.writer.Early.{Early}
 use Rattle.serve_journal.specs.declared.writer.Writer.{Writer}
