@@ -14,6 +14,7 @@ use bosh_ports::{Gave, Got, Link, Polled};
 use entry_queue::EntryQueue;
 use std::os::fd::{AsRawFd, RawFd};
 use std::sync::Arc;
+use std::sync::atomic::{AtomicU64, Ordering};
 
 /// A link that takes bytes to give only once all is stored that was entered until they came, where entries are stored. It gives none once entries
 /// are lost: it fails then.
@@ -29,6 +30,8 @@ pub struct HeldLink<L: Drop> {
     pub(crate) waits: u64,
     // By what leave it last gave bytes, or gave none.
     leave: Leave,
+    // How often it was asked whether it is held since then.
+    asked: AtomicU64,
 }
 
 impl<L: Drop> HeldLink<L> {
@@ -43,6 +46,7 @@ impl<L: Drop> HeldLink<L> {
             faults: 0,
             waits: 0,
             leave: Leave::NotYet,
+            asked: AtomicU64::new(0),
         }
     }
 }
@@ -178,6 +182,7 @@ impl<L: Polled + Drop> Polled for HeldLink<L> {
             }
             Leave::NotYet => {
                 self.waits = self.waits.saturating_add(1);
+                self.asked.store(0, Ordering::SeqCst);
                 None
             }
             Leave::Lost => Some(fail(&mut self.faults)),
@@ -188,10 +193,15 @@ impl<L: Polled + Drop> Polled for HeldLink<L> {
         self.link.has_left()
     }
 
+    // Who asks for the first time is told why nothing was given, though all may be stored by now: the link within has room, and nobody would tell of
+    // that. Who asks again, once a ring would reach it, is told what is so now.
     fn is_held(&self) -> bool {
         let (Some(keeper), Some(mark)) = (&self.keeper, self.mark) else {
             return self.link.is_held();
         };
+        if matches!(self.leave, Leave::NotYet) && self.asked.fetch_add(1, Ordering::SeqCst) == 0 {
+            return true;
+        }
         matches!(ask(keeper, mark), Leave::NotYet)
     }
 
