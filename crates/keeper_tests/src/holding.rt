@@ -42,6 +42,9 @@ fn a_link_gives_nothing_before_all_is_stored(rt: HostRuntime) -> Result<(), Fail
     assert!(rt; has_given(link.poll_give(b"b")));
     assert!(rt; link.poll_give(b"c").is_none());
     queue.tell_stored(&rt, 2);
+    // Who asks first is told why nothing was given, and then what is so now.
+    assert!(rt; link.is_held());
+    assert!(rt; !link.is_held());
     assert!(rt; has_given(link.poll_give(b"c")));
     Ok(())
 }

@@ -1,5 +1,5 @@
 // What stands behind a server when it has ended.
-use super::ports::{Given, ShownLink, ShownNetwork};
+use super::ports::{Given, ShownNetwork, ShownPlan};
 use super::rows::{After, answer, ends_with, given_nothing, link, one_host, post, served_with};
 use bosh_server::{Ran, ServePlan};
 use bosh_types::{Stanzas, Text};
@@ -53,7 +53,7 @@ fn echo_link<R: Wait + Clock + Copy + Drop>(
     rt: &R,
     alloc: Global,
     given: &Given,
-) -> Result<ShownLink<R>, AllocError> {
+) -> Result<ShownPlan<R>, AllocError> {
     let text = creation_and_more(alloc, "example.org", 1, "<message/>")?;
     link(rt, &text, given, None)
 }
@@ -64,7 +64,7 @@ fn room_link<R: Wait + Clock + Copy + Drop>(
     alloc: Global,
     given: &Given,
     other: &Given,
-) -> Result<ShownLink<R>, AllocError> {
+) -> Result<ShownPlan<R>, AllocError> {
     let text = creation_and_more(alloc, "room.example.org", 2, "<presence/>")?;
     let after = Arc::try_clone(other)?;
     link(rt, &text, given, Some(after))
@@ -82,7 +82,7 @@ fn network_of_both<R: Wait + Clock + Copy + Drop>(
     alloc: Global,
     both: &Both,
 ) -> Result<ShownNetwork<R>, AllocError> {
-    let mut links: Vec<ShownLink<R>> = Vec::new(alloc);
+    let mut links: Vec<ShownPlan<R>> = Vec::new(alloc);
     links.push(echo_link(rt, alloc, &both.echo)?)?;
     links.push(room_link(rt, alloc, &both.room, &both.echo)?)?;
     Ok(ShownNetwork::new(links))

@@ -1,8 +1,8 @@
 // A network in memory that shows what its links are given while they are served, and a bell that doesn't wait long.
-ghost use Rattle.std.specs.Prelude.{◌≡◌, None, ⊤};
+ghost use Rattle.std.specs.Prelude.{◌≡◌, None, Some, [], ⊤};
 
-use bosh_ports::{Bell, BellKey, Gave, Got, Link, Polled, QuietSource, Source, Woken};
-use server_ports::{Accepted, Dialled, Network, Opened, Shared};
+use bosh_ports::{Bell, BellKey, Gave, Got, Link, Polled, Woken};
+use server_ports::{Accepted, Dialled, LinkPlan, Network, Opened, PlannedLink, Shared};
 use std::alloc::AllocError;
 use std::collections::VecDeque;
 use std::rt::Clock;
@@ -16,24 +16,59 @@ pub(crate) type Given = Arc<Mutex<Vec<u8>>>;
 /// How often the bell pauses, at most.
 const PAUSES: u32 = 1000;
 
-/// A link that gives its bytes and shows what it is given. Where it comes after another one, it has nothing but a lead until that one was
-/// given something.
+/// What a link will be. Where it comes after another one, it has nothing but a lead until that one was given something.
 #[derive(Drop)]
-pub(crate) struct ShownLink<R: Wait + Clock + Copy + Drop> {
+pub(crate) struct ShownPlan<R: Wait + Clock + Copy + Drop> {
     pub(crate) rt: R,
-    pub(crate) source: QuietSource,
+    pub(crate) plan: LinkPlan,
     pub(crate) given: Given,
     pub(crate) after: Option<Given>,
-    /// How many of its bytes come before.
+    /// How many pieces of it come before.
     pub(crate) lead: usize,
     /// Its peer leaves once its requests were read.
     pub(crate) is_left: bool,
-    pub(crate) faults: u64,
-    pub(crate) waits: u64,
-    pub(crate) leaves: u64,
+}
+
+/// A link that tells what it carries, and shows what it is given.
+#[derive(Drop)]
+pub(crate) struct ShownLink<R: Wait + Clock + Copy + Drop> {
+    rt: R,
+    link: PlannedLink,
+    given: Given,
+    after: Option<Given>,
+    lead: usize,
+    is_left: bool,
+    waits: u64,
+    leaves: u64,
 }
 
 impl<R: Wait + Clock + Copy + Drop> ShownLink<R> {
+    // The link of a plan, which was given nothing yet.
+    fn new(planned: ShownPlan<R>) -> ShownLink<R>
+        ensures faultless { result.link.faults ≡ 0 }
+        ensures ungiven { result.link.link.giving.bytes ≡ [] }
+    {
+        let ShownPlan {
+            rt,
+            plan,
+            given,
+            after,
+            lead,
+            is_left,
+        } = planned;
+        let alloc = *plan.bytes.allocator();
+        ShownLink {
+            rt,
+            link: PlannedLink::new(alloc, plan),
+            given,
+            after,
+            lead,
+            is_left,
+            waits: 0,
+            leaves: 0,
+        }
+    }
+
     // Whether the one that it comes after was given nothing yet.
     fn is_early(&self) -> bool {
         match &self.after {
@@ -42,67 +77,67 @@ impl<R: Wait + Clock + Copy + Drop> ShownLink<R> {
         }
     }
 
-    // Shows these bytes, where there is memory for them.
-    fn show(&self, bytes: &[u8]) -> bool {
-        self.given.lock(&self.rt).extend_from_slice(bytes).is_ok()
+    // Shows what was given of these bytes, where there is memory for them.
+    fn show(&self, gave: &Gave, bytes: &[u8]) {
+        if let Gave::Wrote(count) = gave {
+            let front = bytes.get(..*count).unwrap_or(bytes);
+            let _shown = self.given.lock(&self.rt).extend_from_slice(front);
+        }
     }
 }
 
 impl<R: Wait + Clock + Copy + Drop> Link for ShownLink<R> {
-    ghost left = { λ _. None };
+    ghost left = { λ l. Some l.link.link.taking.bytes };
 
-    ghost given = { λ _. None };
+    ghost given = { λ l. Some l.link.link.giving.bytes };
 
-    ghost closed = { λ _. None };
+    ghost closed = { λ l. Some l.link.link.is_closed };
 
-    ghost faults = { λ l. l.faults };
+    ghost faults = { λ l. l.link.faults };
 
     fn take(&mut self, into: &mut [u8]) -> Got {
-        self.source.take(into)
+        self.link.take(into)
     }
 
     fn give(&mut self, bytes: &[u8]) -> Gave {
-        if !self.show(bytes) {
-            self.faults = self.faults.saturating_add(1);
-            return Gave::Failed;
-        }
-        Gave::Wrote(bytes.len())
+        let gave = self.link.give(bytes);
+        self.show(&gave, bytes);
+        gave
     }
 
-    fn close(&mut self) {}
+    fn close(&mut self) {
+        Link::close(&mut self.link);
+    }
 }
 
 impl<R: Wait + Clock + Copy + Drop> Polled for ShownLink<R> {
-    ghost left = { λ _. None };
+    ghost left = { λ l. Some l.link.link.taking.bytes };
 
-    ghost given = { λ _. None };
+    ghost given = { λ l. Some l.link.link.giving.bytes };
 
-    ghost closed = { λ _. None };
+    ghost closed = { λ l. Some l.link.link.is_closed };
 
-    ghost faults = { λ l. l.faults };
+    ghost faults = { λ l. l.link.faults };
 
     ghost waits = { λ l. l.waits };
 
     ghost leaves = { λ l. l.leaves };
 
     fn poll_take(&mut self, into: &mut [u8]) -> Option<Got> {
-        if !self.is_early() {
-            return Some(self.source.take(into));
+        if self.is_early() {
+            if self.lead == 0 {
+                self.waits = self.waits.saturating_add(1);
+                return None;
+            }
+            self.lead = self.lead.saturating_sub(1);
         }
-        if self.lead == 0 {
-            self.waits = self.waits.saturating_add(1);
-            return None;
-        }
-        self.lead = self.lead.saturating_sub(1);
-        Some(self.source.take(&mut into[..1]))
+        Some(self.link.take(into))
     }
 
     fn poll_give(&mut self, bytes: &[u8]) -> Option<Gave> {
-        if !self.show(bytes) {
-            self.faults = self.faults.saturating_add(1);
-            return Some(Gave::Failed);
-        }
-        Some(Gave::Wrote(bytes.len()))
+        let gave = self.link.give(bytes);
+        self.show(&gave, bytes);
+        Some(gave)
     }
 
     fn has_left(&mut self) -> bool {
@@ -112,20 +147,22 @@ impl<R: Wait + Clock + Copy + Drop> Polled for ShownLink<R> {
         self.is_left
     }
 
-    fn close(&mut self) {}
+    fn close(&mut self) {
+        Link::close(&mut self.link);
+    }
 }
 
 /// Gives its links, and stops where none are left. Nobody can be dialled.
 #[derive(Drop)]
 pub(crate) struct ShownNetwork<R: Wait + Clock + Copy + Drop> {
-    pub(crate) links: VecDeque<ShownLink<R>>,
+    pub(crate) links: VecDeque<ShownPlan<R>>,
     pub(crate) faults: u64,
     pub(crate) accepted: u64,
     pub(crate) stops: u64,
 }
 
 impl<R: Wait + Clock + Copy + Drop> ShownNetwork<R> {
-    pub(crate) fn new(links: Vec<ShownLink<R>>) -> ShownNetwork<R> {
+    pub(crate) fn new(links: Vec<ShownPlan<R>>) -> ShownNetwork<R> {
         ShownNetwork {
             links: VecDeque::from_vec(links),
             faults: 0,
@@ -157,11 +194,9 @@ impl<R: Wait + Clock + Copy + Drop> Network for ShownNetwork<R> {
 
     fn accept(&mut self) -> Accepted<ShownLink<R>> {
         match self.links.pop_front() {
-            Some(link) => {
-                let mut link = link;
-                link.faults = 0;
+            Some(planned) => {
                 self.accepted = self.accepted.saturating_add(1);
-                Accepted::Link(link)
+                Accepted::Link(ShownLink::new(planned))
             }
             None => {
                 self.stops = self.stops.saturating_add(1);
@@ -176,7 +211,7 @@ impl<R: Wait + Clock + Copy + Drop> Network for ShownNetwork<R> {
     }
 
     fn retire(&mut self, link: ShownLink<R>) {
-        if link.faults > 0 {
+        if link.link.faults > 0 {
             self.faults = self.faults.saturating_add(1);
         }
     }

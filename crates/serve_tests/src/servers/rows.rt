@@ -1,10 +1,13 @@
 // Servers over links whose requests are written out.
-use super::ports::{Given, PausingBell, ShownLink, ShownNetwork};
-use bosh_ports::QuietSource;
+ghost use Rattle.std.specs.Prelude.{IfOk};
+ghost use Rattle.serve_tests.specs.Told.{AreAnswered};
+ghost use Rattle.serve_tests.specs.declared.servers.ports.ShownLink.{ShownLink};
+
+use super::ports::{Given, PausingBell, ShownLink, ShownNetwork, ShownPlan};
 use bosh_server::{Outside, Ran, Roll, ServePlan, run_workers};
 use bosh_types::{Moment, Rid, Stanzas, Text};
 use connection_loops::StillPollers;
-use server_ports::{GivenNames, ListedSpawner, StillClock, ThreadSpawner};
+use server_ports::{GivenNames, LinkPlan, ListedSpawner, StillClock, ThreadSpawner};
 use server_watch::Watch;
 use session_pump::{Host, Pump};
 use std::alloc::{AllocError, Global};
@@ -59,17 +62,28 @@ pub(crate) fn link<R: Wait + Clock + Copy + Drop>(
     text: &String,
     given: &Given,
     after: Option<Given>,
-) -> Result<ShownLink<R>, AllocError> {
-    Ok(ShownLink {
+) -> Result<ShownPlan<R>, AllocError> {
+    led_link(rt, text, given, after, 0)
+}
+
+// The same, of which so many bytes come singly, before the other link was given something.
+fn led_link<R: Wait + Clock + Copy + Drop>(
+    rt: &R,
+    text: &String,
+    given: &Given,
+    after: Option<Given>,
+    lead: usize,
+) -> Result<ShownPlan<R>, AllocError> {
+    let alloc = *text.allocator();
+    let mut plan = LinkPlan::new(alloc, text.as_bytes().to_vec(alloc)?);
+    plan.pieces = vec![in alloc; 1; lead]?;
+    Ok(ShownPlan {
         rt: *rt,
-        source: QuietSource::new(text.as_bytes().to_vec(*text.allocator())?),
+        plan,
         given: Arc::try_clone(given)?,
         after,
-        lead: 0,
+        lead,
         is_left: false,
-        faults: 0,
-        waits: 0,
-        leaves: 0,
     })
 }
 
@@ -115,7 +129,7 @@ pub(crate) struct After {
     pub(crate) pump: Option<Pump<InMemory>>,
 }
 
-/// The same, with the pump as it ended.
+/// The same, with the pump as it ended. What is told of the links is what their connections did.
 pub(crate) fn served_with<R: Wait + Threads + Clock + Copy + Send + Sync + Drop + 'static>(
     rt: &R,
     alloc: Global,
@@ -123,7 +137,10 @@ pub(crate) fn served_with<R: Wait + Threads + Clock + Copy + Send + Sync + Drop 
     plan: &ServePlan,
     refused: Vec<u64>,
     hosts: Vec<Host<InMemory>>,
-) -> Result<After, Fail> {
+) -> Result<After, Fail>
+    ensures told { IfOk result (λ after. ∥ AreAnswered {L = ShownLink R} (λ l. l.link.link.giving.bytes) hosts.items plan.now.limits plan.now.connections
+        (record { faults = net.faults; accepted = net.accepted; dialled = 0; stops = net.stops }) after.ran ∥₁) }
+{
     let names = GivenNames::new(alloc, b"s", Rid::new(1000).ok_or("an id")?);
     let mut outside = Outside {
         net,
@@ -295,7 +312,7 @@ const NO_ROOM: &[u8] =
 fn served_narrowly<R: Wait + Threads + Clock + Copy + Send + Sync + Drop + 'static>(
     rt: &R,
     alloc: Global,
-    links: Vec<ShownLink<R>>,
+    links: Vec<ShownPlan<R>>,
     incoming: u64,
 ) -> Result<Ran, Fail> {
     let net = ShownNetwork::new(links);
@@ -314,8 +331,7 @@ fn one_connection_too_many_is_told_so(rt: HostRuntime) -> Result<(), Fail> {
     let alloc = rt.alloc();
     let (one, two) = (given_nothing(alloc)?, given_nothing(alloc)?);
     let after = Some(Arc::try_clone(&two)?);
-    let mut first = link(&rt, &post(alloc, CREATION)?, &one, after)?;
-    first.lead = 1;
+    let first = led_link(&rt, &post(alloc, CREATION)?, &one, after, 1)?;
     let mut links = Vec::new(alloc);
     links.push(first)?;
     links.push(link(&rt, &post(alloc, CREATION)?, &two, None)?)?;
@@ -363,8 +379,11 @@ fn a_content_is_too_much_before_any_of_it_came(rt: HostRuntime) -> Result<(), Fa
     let content = format!(in alloc; "<a>{spaces}</a>")?;
     let given = given_nothing(alloc)?;
     let request = later(alloc, 1001, content.as_str())?;
-    let mut only = link(&rt, &request, &given, Some(Arc::try_clone(&given)?))?;
-    only.lead = request.as_str().find("\r\n\r\n").map_or(0, |at| at + 4);
+    let head = request
+        .as_str()
+        .find("\r\n\r\n")
+        .map_or(0, |at| at.saturating_add(4));
+    let only = led_link(&rt, &request, &given, Some(Arc::try_clone(&given)?), head)?;
     let ran = served_narrowly(&rt, alloc, vec![in alloc; only]?, 100_000)?;
     assert_eq!(rt; ran, Ran::Done { connections: 1 });
     assert_eq!(rt; given.lock(&rt).as_slice(), NO_ROOM);
