@@ -3,7 +3,7 @@
 use body_writer::{
     AnswerKind, AnswerParts, Created, RequestParts, write_answer, write_refusal, write_request,
 };
-use bosh_types::{Condition, Key, Rid, Stanzas, Terms, Text};
+use bosh_types::{Condition, Key, Rid, Stanzas, StreamNo, Terms, Text};
 use row_text::bytes_of;
 use std::alloc::{AllocError, Global};
 
@@ -42,6 +42,7 @@ pub fn answer(alloc: Global, row: &str) -> Result<String, AllocError> {
             None => AnswerKind::Usual,
         },
         condition: condition_of(value_in(row, "condition")),
+        stream: stream_in(row),
         ack: rid_in(row, "ack"),
         report: report_in(row),
         payloads: payloads_in(alloc, row)?,
@@ -57,6 +58,8 @@ pub fn ask(alloc: Global, row: &str) -> Result<String, AllocError> {
     let parts = RequestParts {
         rid,
         sid: text_in(alloc, row, "sid")?,
+        stream: stream_in(row),
+        to: text_in(alloc, row, "add")?,
         creation: creation_in(alloc, row)?,
         ack: number_in(row, "ack"),
         key: key_in(alloc, row, "key")?,
@@ -119,6 +122,11 @@ fn text_of(alloc: Global, value: &str) -> Result<Text, AllocError> {
         Some(bytes) => Ok(Text::from_vec(bytes)),
         None => Ok(Text::from_vec(Vec::new(alloc))),
     }
+}
+
+fn stream_in(row: &str) -> Option<StreamNo> {
+    let number = u16::try_from(number_in(row, "stream")?);
+    StreamNo::new(number.ok()?)
 }
 
 fn text_in(alloc: Global, row: &str, name: &str) -> Result<Option<Text>, AllocError> {

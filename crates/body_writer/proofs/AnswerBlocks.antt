@@ -1,5 +1,5 @@
 -- The attributes of an answer, block by block.
-use Rattle.std.proofs.Common.{◌≡◌, ℕ, true, List, [], ◌∷◌, ◌++◌, refl, arith}
+use Rattle.std.proofs.Common.{◌≡◌, ℕ, suc, zero, true, List, [], ◌∷◌, ◌++◌, refl, arith}
 use Rattle.std.specs.Prelude.{Option, None, Some, codes, IfSome}
 use Rattle.std.specs.Fmt.{decimal}
 use Rattle.bosh_types.specs.Condition.{name_of}
@@ -11,10 +11,11 @@ use Rattle.body_writer.specs.declared.answer.AnswerKind.{AnswerKind}
 use Rattle.body_writer.specs.declared.answer.AnswerKind.TheVariants.{Usual, Terminate, Error}
 use Rattle.body_writer.specs.declared.answer.AnswerParts.{AnswerParts}
 use Rattle.body_writer.specs.declared.answer.Created.{Created}
-use Rattle.body_writer.specs.Rows.{httpbind_row, xmpp_version_row}
+use Rattle.stream_names.specs.Streams as names
+use Rattle.body_writer.specs.Rows.{httpbind_row, xmpp_version_row, named_rows}
 use Rattle.body_writer.specs.Answer.{answer_text}
 use Rattle.body_writer.specs.AnswerRows.{answer_attributes, xmpp_rows, stream_rows, kind_rows, version_value, terms_rows, created_rows, ack_rows, report_rows, restart_rows}
-use Rattle.body_writer.specs.ReadBack.{IsAnswer, IsCreated, AreTerms, IsWord, ReadsAs}
+use Rattle.body_writer.specs.ReadBack.{IsAnswer, IsCreated, IsStream, AreTerms, IsWord, ReadsAs}
 use Rattle.body_writer.proofs.Plain.{all_plain, plain-append, decimal_plain}
 use Rattle.body_writer.proofs.Blocks.{Block, block_none, block_plain, block_value, block_number, block_text, block_both}
 use Rattle.body_writer.proofs.ReadBacks.{rows_built, rows_read}
@@ -24,6 +25,23 @@ block_httpbind = block_value (codes "xmlns") (codes "http://jabber.org/protocol/
 
 pub block_version : {Holds : Type 0} → Block Holds (xmpp_version_row ∷ []) (codes "xmpp:version" ∷ [])
 block_version = block_value (codes "xmpp:version") (codes "1.0") refl refl
+
+name_plain : (stream : ℕ) → IsStream stream → all_plain (names.name_of stream) ≡ true
+name_plain zero is = refl
+name_plain (suc zero) is = refl
+name_plain (suc (suc zero)) is = refl
+name_plain (suc (suc (suc zero))) is = refl
+name_plain (suc (suc (suc (suc zero)))) is = refl
+name_plain (suc (suc (suc (suc (suc zero))))) is = refl
+name_plain (suc (suc (suc (suc (suc (suc zero)))))) is = refl
+name_plain (suc (suc (suc (suc (suc (suc (suc zero))))))) is = refl
+name_plain (suc (suc (suc (suc (suc (suc (suc (suc stream)))))))) is = absurd (omega (arith, is))
+
+-- the name of a stream
+pub block_named : {Holds : Type 0} (stream : Option ℕ) → (Holds → IfSome stream IsStream) → Block Holds (named_rows stream) (codes "stream" ∷ [])
+unfolding named_rows
+block_named None is = block_none _
+block_named (Some stream) is = block_plain (codes "stream") (names.name_of stream) refl (λ h. name_plain stream (is h))
 
 xmpp_block : {Holds : Type 0} (created : Option Created) → Block Holds (xmpp_rows created) (codes "xmlns:xmpp" ∷ [])
 unfolding xmpp_rows
@@ -107,17 +125,18 @@ restart_block (Some created) = block_both block_version (block_value (codes "xmp
 abbrev answer_names : List (List ℕ)
 answer_names =
     codes "xmlns" ∷ codes "xmlns:xmpp" ∷ codes "xmlns:stream" ∷ codes "type" ∷ codes "condition" ∷ codes "sid" ∷ codes "wait" ∷ codes "requests"
-    ∷ codes "inactivity" ∷ codes "polling" ∷ codes "maxpause" ∷ codes "hold" ∷ codes "ver" ∷ codes "from" ∷ codes "ack" ∷ codes "report"
+    ∷ codes "inactivity" ∷ codes "polling" ∷ codes "maxpause" ∷ codes "hold" ∷ codes "ver" ∷ codes "from" ∷ codes "stream" ∷ codes "ack" ∷ codes "report"
     ∷ codes "time" ∷ codes "xmpp:version" ∷ codes "xmpp:restartlogic" ∷ []
 
 answer_blocks : (parts : AnswerParts) → Block (IsAnswer parts) (answer_attributes parts) answer_names
 unfolding answer_attributes
 answer_blocks parts =
-    block_both (block_both (block_both (block_both (block_both (block_both (block_both block_httpbind
+    block_both (block_both (block_both (block_both (block_both (block_both (block_both (block_both block_httpbind
     (xmpp_block parts.created))
     (stream_block parts.created parts.payloads))
     (kind_block parts.kind parts.condition))
     (created_block parts.created (λ is. is.created)))
+    (block_named parts.stream (λ is. is.stream)))
     (ack_block parts.ack (λ is. is.ack)))
     (report_block parts.report (λ is. is.report)))
     (restart_block parts.created)

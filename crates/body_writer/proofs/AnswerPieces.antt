@@ -6,19 +6,19 @@ use Rattle.body_writer.specs.declared.answer.Created.{Created}
 use Rattle.body_writer.specs.Answer.{answer_text}
 use Rattle.body_writer.specs.AnswerRows.{answer_attributes, xmpp_rows, stream_rows, kind_rows, terms_rows, created_rows, ack_rows, report_rows, restart_rows}
 use Rattle.body_writer.specs.Attribute.{attribute, escaped, closed_with}
-use Rattle.body_writer.specs.Rows.{rows_text, text_row, httpbind_row}
+use Rattle.body_writer.specs.Rows.{rows_text, text_row, httpbind_row, named_rows}
 use Rattle.body_writer.proofs.RowsTexts.{begun, after, rows_append}
 
 pub answer_pieces : (parts : AnswerParts) →
     answer_text parts ≡
     codes "<body" ++ rows_text (httpbind_row ∷ []) ++ rows_text (xmpp_rows parts.created) ++ rows_text (stream_rows parts.created parts.payloads)
-    ++ rows_text (kind_rows parts.kind parts.condition) ++ rows_text (created_rows parts.created) ++ rows_text (ack_rows parts.ack)
-    ++ rows_text (report_rows parts.report) ++ rows_text (restart_rows parts.created) ++ closed_with parts.payloads
+    ++ rows_text (kind_rows parts.kind parts.condition) ++ rows_text (created_rows parts.created) ++ rows_text (named_rows parts.stream)
+    ++ rows_text (ack_rows parts.ack) ++ rows_text (report_rows parts.report) ++ rows_text (restart_rows parts.created) ++ closed_with parts.payloads
 unfolding answer_text answer_attributes
 answer_pieces parts =
     ap (λ (t : List ℕ). t ++ closed_with parts.payloads)
-    (after (after (after (after (after (after (after (begun (httpbind_row ∷ [])) (xmpp_rows parts.created)) (stream_rows parts.created parts.payloads))
-    (kind_rows parts.kind parts.condition)) (created_rows parts.created)) (ack_rows parts.ack)) (report_rows parts.report)) (restart_rows parts.created)).is
+    (after (after (after (after (after (after (after (after (begun (httpbind_row ∷ [])) (xmpp_rows parts.created)) (stream_rows parts.created parts.payloads))
+    (kind_rows parts.kind parts.condition)) (created_rows parts.created)) (named_rows parts.stream)) (ack_rows parts.ack)) (report_rows parts.report)) (restart_rows parts.created)).is
 
 pub created_pieces : (created : Created) →
     rows_text (created_rows (Some created)) ≡ attribute (codes "sid") (escaped created.sid) ++ rows_text (terms_rows created.terms) ++ attribute (codes "from") (escaped created.from)

@@ -14,11 +14,12 @@ use Rattle.body_writer.specs.declared.answer.AnswerParts.{AnswerParts}
 use Rattle.body_writer.specs.Answer.{answer_text}
 use Rattle.body_writer.specs.AnswerRows.{answer_attributes, xmpp_rows, stream_rows, kind_rows, version_value, terms_rows, created_rows, ack_rows, report_rows, restart_rows}
 use Rattle.body_writer.specs.Attribute.{attribute, escaped_byte, closed_with}
+use Rattle.body_writer.specs.Rows.{named_rows}
 use Rattle.body_writer.specs.ReadBack.{IsAllowed, IsAnswer, longest}
 use Rattle.body_writer.proofs.Texts.{texts_ascii}
 
 unfoldable answers_compute : ⊤
-unfolding digits answer_text answer_attributes xmpp_rows stream_rows kind_rows version_value terms_rows created_rows ack_rows report_rows restart_rows attribute escaped_byte closed_with
+unfolding digits answer_text answer_attributes xmpp_rows stream_rows kind_rows version_value terms_rows created_rows named_rows ack_rows report_rows restart_rows attribute escaped_byte closed_with
 answers_compute = tt
 
 abbrev stanza : List ℕ
@@ -49,18 +50,20 @@ creation = record {
   });
   kind = Usual;
   condition = None;
+  stream = Some 0;
   ack = Some 1000;
   report = None;
   payloads = stanza ∷ [];
 }
 
-creation_writes : answer_text creation ≡ codes "<body xmlns='http://jabber.org/protocol/httpbind' xmlns:xmpp='urn:xmpp:xbosh' xmlns:stream='http://etherx.jabber.org/streams' sid='s1' wait='60' requests='2' inactivity='30' polling='5' maxpause='120' hold='1' ver='1.6' from='h&apos;' ack='1000' xmpp:version='1.0' xmpp:restartlogic='true'><a/></body>"
+creation_writes : answer_text creation ≡ codes "<body xmlns='http://jabber.org/protocol/httpbind' xmlns:xmpp='urn:xmpp:xbosh' xmlns:stream='http://etherx.jabber.org/streams' sid='s1' wait='60' requests='2' inactivity='30' polling='5' maxpause='120' hold='1' ver='1.6' from='h&apos;' stream='t0' ack='1000' xmpp:version='1.0' xmpp:restartlogic='true'><a/></body>"
 unfolding answers_compute
 creation_writes = refl
 
 creation_is : IsAnswer creation
 creation_is = record {
   created = (sid_is, (omega arith, omega arith, omega arith, omega arith, omega arith, omega arith, omega arith, omega arith), host_is);
+  stream = omega arith;
   ack = omega arith;
   report = tt;
   payloads = (All-cons (IsElementWithin 32 64) stanza [] element (All-nil (IsElementWithin 32 64)), omega arith);
@@ -69,7 +72,7 @@ creation_is = record {
 
 -- a terminal answer with a report
 abbrev terminal : AnswerParts
-terminal = record { created = None; kind = Terminate; condition = Some ItemNotFound; ack = None; report = Some (1001, 250); payloads = [] }
+terminal = record { created = None; kind = Terminate; condition = Some ItemNotFound; stream = None; ack = None; report = Some (1001, 250); payloads = [] }
 
 terminal_writes : answer_text terminal ≡ codes "<body xmlns='http://jabber.org/protocol/httpbind' type='terminate' condition='item-not-found' report='1001' time='250'/>"
 unfolding answers_compute
@@ -78,6 +81,7 @@ terminal_writes = refl
 terminal_is : IsAnswer terminal
 terminal_is = record {
   created = tt;
+  stream = tt;
   ack = tt;
   report = (omega arith, omega arith);
   payloads = (All-nil (IsElementWithin 32 64), omega arith);

@@ -7,10 +7,11 @@ use Rattle.body_writer.specs.declared.answer.AnswerKind.TheVariants.{Terminate}
 use Rattle.body_writer.specs.Answer.{answer_text}
 use Rattle.body_writer.specs.AnswerRows.{answer_attributes, xmpp_rows, stream_rows, kind_rows, created_rows, ack_rows, report_rows, restart_rows}
 use Rattle.body_writer.specs.Attribute.{attribute, closed_with}
+use Rattle.body_writer.specs.Rows.{named_rows}
 use Rattle.body_writer.specs.Refusal.{bare_parts, refusal_text}
 
 pub refusal_is : (condition : Condition) → refusal_text condition ≡ answer_text (bare_parts Terminate (Some condition))
-unfolding refusal_text answer_text answer_attributes xmpp_rows stream_rows kind_rows created_rows ack_rows report_rows restart_rows attribute closed_with
+unfolding refusal_text answer_text answer_attributes xmpp_rows stream_rows kind_rows created_rows named_rows ack_rows report_rows restart_rows attribute closed_with
 refusal_is BadRequest = refl
 refusal_is HostUnknown = refl
 refusal_is ImproperAddressing = refl

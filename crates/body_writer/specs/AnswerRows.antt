@@ -9,7 +9,7 @@ use Rattle.body_writer.specs.declared.answer.AnswerKind.{AnswerKind}
 use Rattle.body_writer.specs.declared.answer.AnswerKind.TheVariants.{Usual, Terminate, Error}
 use Rattle.body_writer.specs.declared.answer.AnswerParts.{AnswerParts}
 use Rattle.body_writer.specs.declared.answer.Created.{Created}
-use Rattle.body_writer.specs.Rows.{value_row, number_row, text_row, httpbind_row, xbosh_row, stream_row, xmpp_version_row}
+use Rattle.body_writer.specs.Rows.{value_row, number_row, text_row, httpbind_row, xbosh_row, stream_row, xmpp_version_row, named_rows}
 
 -- the namespaces of a creation's answer, and of payloads
 unfoldable pub xmpp_rows : Option Created → List Written
@@ -70,6 +70,7 @@ answer_attributes parts =
     ++ stream_rows parts.created parts.payloads
     ++ kind_rows parts.kind parts.condition
     ++ created_rows parts.created
+    ++ named_rows parts.stream
     ++ ack_rows parts.ack
     ++ report_rows parts.report
     ++ restart_rows parts.created

@@ -1,6 +1,7 @@
 -- What is asked of the parts of an answer and of a request, and what their texts are read as.
 use Rattle.std.specs.Prelude.{◌≡◌, ℕ, Bool, ◌<◌, ◌≤◌, ◌^◌, ◌&&◌, ◌||◌, nat_le, List, length, map, IsTrue, IfSome}
 use Rattle.std.specs.List.{All}
+use Rattle.bosh_types.specs.Limits.{most_streams}
 use Rattle.bosh_types.specs.Rid.{IsRid}
 use Rattle.bosh_types.specs.declared.terms.Terms.{Terms}
 use Rattle.body_cutter.specs.declared.parts.Cut.{Cut}
@@ -22,6 +23,10 @@ IsAllowed text = IsUtf8Of is_allowed text
 -- a number of 64 bits
 abbrev pub IsWord : ℕ → Type 0
 IsWord number = number < 2 ^ 64
+
+-- one of the eight streams that a session may have
+abbrev pub IsStream : ℕ → Type 0
+IsStream stream = stream < most_streams
 
 -- lower-case hexadecimal digits, XEP-0124 section 15
 abbrev pub is_key_digit : ℕ → Bool
@@ -49,6 +54,7 @@ IsCreated created = IsAllowed created.sid × AreTerms created.terms × IsAllowed
 -- parts of an answer whose text is within the limits of a body
 pub record IsAnswer (parts : AnswerParts) : Type 0 where
   pub created : IfSome parts.created IsCreated
+  pub stream : IfSome parts.stream IsStream
   pub ack : IfSome parts.ack IsWord
   pub report : IfSome parts.report (λ report. IsWord report.0 × IsWord report.1)
   pub payloads : ArePayloads parts.payloads
@@ -58,6 +64,8 @@ pub record IsAnswer (parts : AnswerParts) : Type 0 where
 pub record IsRequest (parts : RequestParts) : Type 0 where
   pub rid : IsRid parts.rid
   pub sid : IfSome parts.sid IsAllowed
+  pub stream : IfSome parts.stream IsStream
+  pub to : IfSome parts.to IsAllowed
   pub creation : IfSome parts.creation (λ creation. IsAllowed creation.0 × IsWord creation.1 × IsWord creation.2)
   pub ack : IfSome parts.ack IsWord
   pub key : IfSome parts.key IsKey

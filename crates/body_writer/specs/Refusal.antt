@@ -7,7 +7,7 @@ use Rattle.body_writer.specs.declared.answer.AnswerParts.{AnswerParts}
 
 -- the parts of a body without payloads that says nothing else
 abbrev pub bare_parts : AnswerKind → Option Condition → AnswerParts
-bare_parts kind condition = record { created = None; kind = kind; condition = condition; ack = None; report = None; payloads = [] }
+bare_parts kind condition = record { created = None; kind = kind; condition = condition; stream = None; ack = None; report = None; payloads = [] }
 
 -- a terminal body with its condition, XEP-0124 section 17.2
 unfoldable pub refusal_text : Condition → List ℕ

@@ -2,7 +2,7 @@
 use Rattle.std.specs.Prelude.{ℕ, Bool, true, false, List, [], ◌∷◌, ◌++◌, Option, None, Some, codes, if◌then◌else◌}
 use Rattle.body_cutter.specs.Built.{Written}
 use Rattle.body_writer.specs.declared.request.RequestParts.{RequestParts}
-use Rattle.body_writer.specs.Rows.{value_row, number_row, text_row, httpbind_row, xbosh_row, xmpp_version_row}
+use Rattle.body_writer.specs.Rows.{value_row, number_row, text_row, httpbind_row, xbosh_row, xmpp_version_row, named_rows}
 
 -- the namespace of `xmpp:` is in a creation and in a restart
 unfoldable pub xmpp_rows : Option (List ℕ × ℕ × ℕ) → Bool → List Written
@@ -15,9 +15,8 @@ sid_rows None = []
 sid_rows (Some sid) = text_row (codes "sid") sid ∷ []
 
 -- what a creation asks for: the host, and how long and how many requests are held at most
-unfoldable pub creation_rows : Option (List ℕ × ℕ × ℕ) → List Written
-creation_rows None = []
-creation_rows (Some (to, wait, hold)) =
+unfoldable pub creation_rows : List ℕ × ℕ × ℕ → List Written
+creation_rows (to, wait, hold) =
     text_row (codes "to") to
     ∷ value_row (codes "xml:lang") (codes "en")
     ∷ number_row (codes "wait") wait
@@ -25,6 +24,12 @@ creation_rows (Some (to, wait, hold)) =
     ∷ value_row (codes "ver") (codes "1.11")
     ∷ value_row (codes "content") (codes "text/xml; charset=utf-8")
     ∷ []
+
+-- a creation names its host, and so does a request that adds a stream, XEP-0124 section 16
+unfoldable pub host_rows : Option (List ℕ × ℕ × ℕ) → Option (List ℕ) → List Written
+host_rows None None = []
+host_rows None (Some to) = text_row (codes "to") to ∷ []
+host_rows (Some creation) to = creation_rows creation
 
 -- an optional number, and an optional key
 unfoldable pub number_rows : List ℕ → Option ℕ → List Written
@@ -52,7 +57,8 @@ request_attributes parts =
     ∷ xmpp_rows parts.creation parts.restart
     ++ number_row (codes "rid") parts.rid ∷ []
     ++ sid_rows parts.sid
-    ++ creation_rows parts.creation
+    ++ named_rows parts.stream
+    ++ host_rows parts.creation parts.to
     ++ number_rows (codes "ack") parts.ack
     ++ key_rows (codes "key") parts.key
     ++ key_rows (codes "newkey") parts.newkey

@@ -1,7 +1,8 @@
 -- Attributes one by one, as they are written between apostrophes, with the values that they spell.
-use Rattle.std.specs.Prelude.{ℕ, List, [], ◌∷◌, ◌++◌, codes}
+use Rattle.std.specs.Prelude.{ℕ, List, [], ◌∷◌, ◌++◌, Option, None, Some, codes}
 use Rattle.std.specs.Fmt.{decimal}
 use Rattle.body_cutter.specs.Built.{Written}
+use Rattle.stream_names.specs.Streams.{name_of}
 use Rattle.body_writer.specs.Attribute.{attribute, escaped}
 
 -- a value that is written as it is
@@ -34,3 +35,8 @@ stream_row = value_row (codes "xmlns:stream") (codes "http://etherx.jabber.org/s
 -- the version of XMPP, XEP-0206 section 4
 abbrev pub xmpp_version_row : Written
 xmpp_version_row = value_row (codes "xmpp:version") (codes "1.0")
+
+-- the stream that a body is for, XEP-0124 section 16
+unfoldable pub named_rows : Option ℕ → List Written
+named_rows None = []
+named_rows (Some stream) = value_row (codes "stream") (name_of stream) ∷ []

@@ -5,10 +5,10 @@ ghost use Rattle.body_writer.specs.Attribute.{attribute};
 ghost use Rattle.body_writer.specs.Rows.{rows_text};
 
 use crate::attribute::{
-    push_attribute, push_httpbind, push_number, push_payloads, push_text, push_xbosh,
+    push_attribute, push_httpbind, push_named, push_number, push_payloads, push_text, push_xbosh,
     push_xmpp_version, room_for,
 };
-use bosh_types::{Condition, Rid, Stanzas, Terms, Text};
+use bosh_types::{Condition, Rid, Stanzas, StreamNo, Terms, Text};
 use std::alloc::{AllocError, Global};
 
 /// The parts of an answer of the connection manager, from which its text is made.
@@ -19,6 +19,8 @@ pub struct AnswerParts {
     pub kind: AnswerKind,
     /// Why a terminal answer is one (XEP-0124, section 17). Other answers don't say it.
     pub condition: Option<Condition>,
+    /// The stream that it is about, where it names one (XEP-0124, section 16).
+    pub stream: Option<StreamNo>,
     /// The highest request id that was received without a gap (XEP-0124, section 9).
     pub ack: Option<Rid>,
     /// A request whose answer seems lost, and how many milliseconds ago it was given (XEP-0124, section 9).
@@ -42,7 +44,8 @@ pub struct Created {
 pub enum AnswerKind {
     /// The session goes on.
     Usual,
-    /// There is no session, or none any more: `type='terminate'` (XEP-0124, sections 13 and 17).
+    /// There is no session, or none any more: `type='terminate'` (XEP-0124, sections 13 and 17). Where a stream is named, that one
+    /// alone was closed (XEP-0124, section 16).
     Terminate,
     /// Its request counts as not received: the client repeats it with all earlier ones that have no answer: `type='error'`
     /// (XEP-0124, section 17.3).
@@ -62,6 +65,7 @@ pub fn write_answer(alloc: Global, parts: &AnswerParts) -> Result<Text, AllocErr
     push_stream_namespace(&mut text, &parts.created, &parts.payloads)?;
     push_kind(&mut text, parts.kind, parts.condition)?;
     push_created(alloc, &mut text, &parts.created)?;
+    push_named(&mut text, parts.stream)?;
     push_ack(alloc, &mut text, parts.ack)?;
     push_report(alloc, &mut text, parts.report)?;
     push_restart(&mut text, &parts.created)?;

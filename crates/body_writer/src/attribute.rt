@@ -2,10 +2,11 @@
 ghost use Rattle.std.specs.Prelude.{◌≡◌, ◌++◌, [], ◌∷◌, IfOk, OnOk};
 ghost use Rattle.std.specs.Fmt.{decimal};
 ghost use Rattle.body_writer.specs.Attribute.{attribute, escaped, escaped_byte, joined, closed_with};
-ghost use Rattle.body_writer.specs.Rows.{rows_text, httpbind_row, xbosh_row, xmpp_version_row};
+ghost use Rattle.body_writer.specs.Rows.{rows_text, httpbind_row, xbosh_row, xmpp_version_row, named_rows};
 
-use bosh_types::{Stanzas, Text};
+use bosh_types::{Stanzas, StreamNo, Text};
 use std::alloc::{AllocError, Global};
+use stream_names::name_of;
 
 // How many bytes all attributes take at most, but for the values that are texts.
 const ROOM: usize = 1024;
@@ -99,6 +100,17 @@ pub(crate) fn push_xmpp_version(text: &mut Vec<u8>) -> Result<(), AllocError>
     ensures { OnOk result (text.new.items ≡ text.old.items ++ rows_text (xmpp_version_row ∷ [])) }
 {
     push_attribute(text, "xmpp:version", b"1.0")
+}
+
+// Puts the name of a stream at the end, where there is one.
+#[tactic(auto, unfolding(crate::specs::Rows::named_rows))]
+pub(crate) fn push_named(text: &mut Vec<u8>, stream: Option<StreamNo>) -> Result<(), AllocError>
+    ensures { OnOk result (text.new.items ≡ text.old.items ++ rows_text (named_rows stream)) }
+{
+    match stream {
+        None => Ok(()),
+        Some(stream) => push_attribute(text, "stream", &name_of(stream)),
+    }
 }
 
 // Puts the payloads and the end of the body at the end.

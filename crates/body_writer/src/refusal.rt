@@ -17,6 +17,7 @@ impl AnswerParts {
             created: None,
             kind,
             condition,
+            stream: None,
             ack: None,
             report: None,
             payloads: Stanzas::from_vec(Vec::new(alloc)),

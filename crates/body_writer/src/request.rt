@@ -1,13 +1,13 @@
-ghost use Rattle.std.specs.Prelude.{◌≡◌, ◌++◌, Some, codes, IfOk, OnOk};
+ghost use Rattle.std.specs.Prelude.{◌≡◌, ◌++◌, None, codes, IfOk, OnOk};
 ghost use Rattle.body_writer.specs.Request.{request_text};
-ghost use Rattle.body_writer.specs.RequestRows.{xmpp_rows, sid_rows, creation_rows, number_rows, key_rows, terminate_rows, version_rows, restart_rows};
+ghost use Rattle.body_writer.specs.RequestRows.{xmpp_rows, sid_rows, creation_rows, host_rows, number_rows, key_rows, terminate_rows, version_rows, restart_rows};
 ghost use Rattle.body_writer.specs.Rows.{rows_text};
 
 use crate::attribute::{
-    push_attribute, push_httpbind, push_number, push_payloads, push_text, push_xbosh,
+    push_attribute, push_httpbind, push_named, push_number, push_payloads, push_text, push_xbosh,
     push_xmpp_version, room_for,
 };
-use bosh_types::{Key, Rid, Stanzas, Text};
+use bosh_types::{Key, Rid, Stanzas, StreamNo, Text};
 use std::alloc::{AllocError, Global};
 
 /// The parts of a client's request, from which its text is made.
@@ -17,6 +17,10 @@ pub struct RequestParts {
     pub rid: Rid,
     /// The session's id, in every request but a creation.
     pub sid: Option<Text>,
+    /// The stream that it is for, where it names one (XEP-0124, section 16).
+    pub stream: Option<StreamNo>,
+    /// The host to which it adds a stream (XEP-0124, section 16). A creation has its own.
+    pub to: Option<Text>,
     /// What a creation asks for: the host, the longest wait in seconds, and how many requests are held at most (XEP-0124,
     /// section 7).
     pub creation: Option<(Text, u32, u32)>,
@@ -47,7 +51,8 @@ pub fn write_request(alloc: Global, parts: &RequestParts) -> Result<Text, AllocE
     push_xmpp_namespace(&mut text, &parts.creation, parts.restart)?;
     push_number(alloc, &mut text, "rid", parts.rid.value())?;
     push_sid(&mut text, &parts.sid)?;
-    push_creation(alloc, &mut text, &parts.creation)?;
+    push_named(&mut text, parts.stream)?;
+    push_host(alloc, &mut text, &parts.creation, &parts.to)?;
     push_ack(alloc, &mut text, parts.ack)?;
     push_key(&mut text, "key", &parts.key)?;
     push_key(&mut text, "newkey", &parts.newkey)?;
@@ -83,27 +88,39 @@ fn push_sid(text: &mut Vec<u8>, sid: &Option<Text>) -> Result<(), AllocError>
     }
 }
 
-fn push_creation(
+#[tactic(auto, unfolding(crate::specs::RequestRows::host_rows))]
+fn push_host(
     alloc: Global,
     text: &mut Vec<u8>,
     creation: &Option<(Text, u32, u32)>,
+    to: &Option<Text>,
 ) -> Result<(), AllocError>
-    ensures { OnOk result (text.new.items ≡ text.old.items ++ rows_text (creation_rows creation.now)) }
+    ensures { OnOk result (text.new.items ≡ text.old.items ++ rows_text (host_rows creation.now to.now)) }
 {
     match creation {
-        None => Ok(()),
-        Some((to, wait, hold)) => push_creation_of(alloc, text, to, *wait, *hold),
+        None => push_to(text, to),
+        Some((to, wait, hold)) => push_creation(alloc, text, to, *wait, *hold),
     }
 }
 
-fn push_creation_of(
+#[tactic(auto, unfolding(crate::specs::RequestRows::host_rows))]
+fn push_to(text: &mut Vec<u8>, to: &Option<Text>) -> Result<(), AllocError>
+    ensures { OnOk result (text.new.items ≡ text.old.items ++ rows_text (host_rows None to.now)) }
+{
+    match to {
+        None => Ok(()),
+        Some(to) => push_text(text, "to", to),
+    }
+}
+
+fn push_creation(
     alloc: Global,
     text: &mut Vec<u8>,
     to: &Text,
     wait: u32,
     hold: u32,
 ) -> Result<(), AllocError>
-    ensures { OnOk result (text.new.items ≡ text.old.items ++ rows_text (creation_rows (Some (to.now, wait, hold)))) }
+    ensures { OnOk result (text.new.items ≡ text.old.items ++ rows_text (creation_rows (to.now, wait, hold))) }
 {
     push_text(text, "to", to)?;
     push_attribute(text, "xml:lang", b"en")?;

@@ -5,7 +5,8 @@ use Rattle.std.specs.Fmt.{digits}
 use Rattle.body_cutter.proofs.Rows.{cuts_compute}
 use Rattle.body_writer.specs.Attribute.{attribute, escaped_byte, closed_with}
 use Rattle.body_writer.specs.Request.{request_text}
-use Rattle.body_writer.specs.RequestRows.{request_attributes, xmpp_rows, sid_rows, creation_rows, number_rows, key_rows, terminate_rows, version_rows, restart_rows}
+use Rattle.body_writer.specs.Rows.{named_rows}
+use Rattle.body_writer.specs.RequestRows.{request_attributes, xmpp_rows, sid_rows, creation_rows, host_rows, number_rows, key_rows, terminate_rows, version_rows, restart_rows}
 use Rattle.hex.specs.Hex.{encode_with}
 use Rattle.key_sequence.specs.Chain.{hex_digest}
 use Rattle.sha1.specs.Sha1.{first_words, schedule, rounds, compress, hash_after, digest_bytes, sha1}
@@ -24,7 +25,7 @@ use Rattle.bosh_client.specs.Runs.{Call, Put, Restart, Pause, Terminate, NextReq
 use Rattle.bosh_client.specs.Machine.{new_client}
 
 unfoldable pub clients_compute : ⊤
-unfolding digits cuts_compute request_text request_attributes xmpp_rows sid_rows creation_rows number_rows key_rows terminate_rows version_rows restart_rows attribute escaped_byte closed_with hex_digest encode_with first_words schedule rounds compress hash_after digest_bytes sha1 is_named value_of is_httpbind number_of type_of condition_of answer_of answer_with said_in
+unfolding digits cuts_compute request_text request_attributes xmpp_rows sid_rows named_rows host_rows creation_rows number_rows key_rows terminate_rows version_rows restart_rows attribute escaped_byte closed_with hex_digest encode_with first_words schedule rounds compress hash_after digest_bytes sha1 is_named value_of is_httpbind number_of type_of condition_of answer_of answer_with said_in
 clients_compute = tt
 
 -- a client as scripts begin one: the id, the wait, the hold, acknowledgements, keys

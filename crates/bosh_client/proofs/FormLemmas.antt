@@ -25,7 +25,7 @@ use Rattle.body_cutter.specs.Utf8.{IsUtf8Of}
 use Rattle.body_cutter.proofs.Cuts.{stanza_is}
 use Rattle.body_writer.specs.declared.request.RequestParts.{RequestParts}
 use Rattle.body_writer.specs.Attribute.{joined}
-use Rattle.body_writer.specs.ReadBack.{ArePayloads, IsKey, IsRequest, IsWord}
+use Rattle.body_writer.specs.ReadBack.{ArePayloads, IsKey, IsRequest, IsWord, IsStream}
 use Rattle.session_attrs.specs.Forms.{is_number, number_of}
 use Rattle.session_attrs.specs.Rows.{Says, told}
 use Rattle.session_attrs.proofs.NumberLemmas.{below_power}
@@ -156,6 +156,8 @@ pause_fits (Some seconds) is = omega (arith, is.1)
 record IsWhole (parts : RequestParts) : Type 0 where
   rid : IsRid parts.rid
   sid : IfSome parts.sid IsName
+  stream : parts.stream ≡ None
+  to : parts.to ≡ None
   creation : IfSome parts.creation (λ creation. IsUtf8Of is_allowed creation.0 × (length creation.0 ≤ 1023) × IsWord creation.1 × IsWord creation.2)
   ack : IfSome parts.ack IsWord
   key : IfSome parts.key IsKeyText
@@ -168,6 +170,8 @@ form_request : (parts : RequestParts) → IsWhole parts → IsRequest parts
 form_request parts h = record {
   rid = h.rid;
   sid = of_sid parts.sid h.sid;
+  stream = subst (λ (o : Option ℕ). IfSome o IsStream) (sym h.stream) tt;
+  to = subst (λ (o : Option (List ℕ)). IfSome o (IsUtf8Of is_allowed)) (sym h.to) tt;
   creation = of_creation parts.creation h.creation;
   ack = h.ack;
   key = (key_digits parts.key h.key).0;
@@ -178,6 +182,8 @@ form_request parts h = record {
       request_fits parts (record {
         rid = omega (arith, h.rid.1);
         sid = short_sid parts.sid h.sid;
+        stream = h.stream;
+        to = h.to;
         creation = short_creation parts.creation h.creation;
         ack = h.ack;
         key = (key_digits parts.key h.key).1;
@@ -211,6 +217,8 @@ creation_form setup is first =
     record {
       rid = first;
       sid = tt;
+      stream = refl;
+      to = refl;
       creation = (parts.to, parts.long, omega (arith, parts.wait), omega (arith, parts.hold));
       ack = by_if (λ (o : Option ℕ). IfSome o IsWord) setup.ack (Some 1) None (λ _. omega arith) (λ _. tt);
       key = tt;
@@ -281,6 +289,8 @@ later_form c a items is some past left name all =
     record {
       rid = (omega (arith, some), left);
       sid = name;
+      stream = refl;
+      to = refl;
       creation = tt;
       ack = ack_word (ack_for c a) (next_id c) left (ack_form c a some past);
       key =
@@ -298,7 +308,7 @@ later_form c a items is some past left name all =
 
 -- a later request is one for the session
 later_known : (c : PlainClient) (a : Agreed) (items : List Outgoing) → 1 ≤ c.setup.first → c.setup.first + 1 ≤ lowest c → All IsItem items → IsOfSession (later_parts c a (front_of items))
-later_known c a items some past all = record { sid = refl; ack = ack_form c a some past; pause = pause_word (front_of items) (front_items items all) }
+later_known c a items some past all = record { sid = refl; stream = refl; to = refl; ack = ack_form c a some past; pause = pause_word (front_of items) (front_items items all) }
 
 -- What is agreed allows pauses of 9 digits at most.
 

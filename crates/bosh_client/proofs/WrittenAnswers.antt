@@ -22,7 +22,8 @@ use Rattle.body_writer.specs.declared.answer.AnswerParts.{AnswerParts}
 use Rattle.body_writer.specs.declared.answer.Created.{Created}
 use Rattle.body_writer.specs.Answer.{answer_text}
 use Rattle.body_writer.specs.AnswerRows.{answer_attributes, xmpp_rows, stream_rows, kind_rows, version_value, terms_rows, created_rows, ack_rows, report_rows, restart_rows}
-use Rattle.body_writer.specs.Rows.{httpbind_row}
+use Rattle.body_writer.specs.Rows.{httpbind_row, named_rows}
+use Rattle.stream_names.specs.Streams as names
 use Rattle.body_writer.specs.ReadBack.{IsAnswer}
 use Rattle.body_writer.proofs.AnswerBlocks.{answer_reads}
 use Rattle.session_attrs.specs.Forms.{is_httpbind, number_of}
@@ -96,6 +97,11 @@ looks_created None =
     (looks_both (looks_none (codes "polling")) (looks_both (looks_none (codes "maxpause")) (looks_both (looks_none (codes "hold")) (looks_both (looks_none (codes "ver")) (looks_none (codes "from")))))))))
 looks_created (Some created) = record { gives = λ rest name. refl }
 
+looks_named : (stream : Option ℕ) → Looks (named_rows stream) (look_for (codes "stream") (option_map names.name_of stream))
+unfolding named_rows
+looks_named None = looks_none (codes "stream")
+looks_named (Some stream) = looks_one _
+
 looks_ack : (ack : Option ℕ) → Looks (ack_rows ack) (look_for (codes "ack") (option_map decimal ack))
 unfolding ack_rows
 looks_ack None = looks_none (codes "ack")
@@ -118,30 +124,32 @@ unfolding restart_rows
 looks_restart None = looks_both (looks_none (codes "xmpp:version")) (looks_none (codes "xmpp:restartlogic"))
 looks_restart (Some created) = record { gives = λ rest name. refl }
 
-abbrev look_by : Option Created → AnswerKind → Option Condition → Option ℕ → Option (ℕ × ℕ) → List (List ℕ) → List ℕ → Option (List ℕ)
-look_by created kind condition ack report payloads name =
+abbrev look_by : Option Created → AnswerKind → Option Condition → Option ℕ → Option ℕ → Option (ℕ × ℕ) → List (List ℕ) → List ℕ → Option (List ℕ)
+look_by created kind condition stream ack report payloads name =
     look_for (codes "xmlns") (Some (codes "http://jabber.org/protocol/httpbind")) name
     (look_for (codes "xmlns:xmpp") (present created (codes "urn:xmpp:xbosh")) name
     (look_for (codes "xmlns:stream") (streams created payloads) name
     (look_kind kind condition name
     (look_created created name
+    (look_for (codes "stream") (option_map names.name_of stream) name
     (look_for (codes "ack") (option_map decimal ack) name
     (look_report report name
-    (look_restart created name None)))))))
+    (look_restart created name None))))))))
 
 abbrev look_in : AnswerParts → List ℕ → Option (List ℕ)
-look_in parts name = look_by parts.created parts.kind parts.condition parts.ack parts.report parts.payloads name
+look_in parts name = look_by parts.created parts.kind parts.condition parts.stream parts.ack parts.report parts.payloads name
 
 looks_answer : (parts : AnswerParts) (name : List ℕ) → value_in (answer_attributes parts) name ≡ look_in parts name
 unfolding answer_attributes
 looks_answer parts name =
     let all =
-    looks_both (looks_both (looks_both (looks_both (looks_both (looks_both (looks_both
+    looks_both (looks_both (looks_both (looks_both (looks_both (looks_both (looks_both (looks_both
     (looks_one httpbind_row)
     (looks_xmpp parts.created))
     (looks_stream parts.created parts.payloads))
     (looks_kind parts.kind parts.condition))
     (looks_created parts.created))
+    (looks_named parts.stream))
     (looks_ack parts.ack))
     (looks_report parts.report))
     (looks_restart parts.created) in

@@ -59,9 +59,11 @@ IsName sid = IsUtf8Of is_allowed sid × (length sid ≤ 1024)
 abbrev pub IsNamed : PlainClient → Type 0
 IsNamed c = IfSome (agreed c) (λ a. IsName a.sid)
 
--- a request for the session names it, acknowledges a lower id, and pauses for 1 to 999,999,999 seconds
+-- a request for the session names it, but no stream and no host; it acknowledges a lower id, and pauses for 1 to 999,999,999 seconds
 pub record IsOfSession (parts : RequestParts) : Type 0 where
   pub sid : IsSome parts.sid
+  pub stream : parts.stream ≡ None
+  pub to : parts.to ≡ None
   pub ack : IfSome parts.ack (λ ack. (1 ≤ ack) × (ack < parts.rid))
   pub pause : IfSome parts.pause (λ pause. (1 ≤ pause) × (pause ≤ greatest_number))
 

@@ -37,6 +37,8 @@ abbrev pub creation_parts : ClientSetup → RequestParts
 creation_parts setup = record {
   rid = setup.first;
   sid = None;
+  stream = None;
+  to = None;
   creation = Some (setup.to, setup.wait, setup.hold);
   ack = if setup.ack then Some 1 else None;
   key = None;
@@ -60,6 +62,8 @@ abbrev pub later_parts : PlainClient → Agreed → List Outgoing → RequestPar
 later_parts c a items = record {
   rid = next_id c;
   sid = Some a.sid;
+  stream = None;
+  to = None;
   creation = None;
   ack = ack_for c a;
   key = with_keys c.setup (Some (key_at c.setup.seed c.setup.keys (later_requests c)));

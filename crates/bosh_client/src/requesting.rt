@@ -121,6 +121,8 @@ impl Client {
         Ok(RequestParts {
             rid: self.setup.first,
             sid: None,
+            stream: None,
+            to: None,
             creation: Some((to, self.setup.wait, self.setup.hold)),
             ack: if self.setup.ack { Some(1) } else { None },
             key: None,
@@ -167,6 +169,8 @@ impl Client {
         Ok(RequestParts {
             rid,
             sid: self.sid(alloc)?,
+            stream: None,
+            to: None,
             creation: None,
             ack: self.ack_for(rid),
             key: self.keys.as_ref().map(|keys| keys.key()),

@@ -24,7 +24,7 @@ const CREATION: &[u8] =
     b"POST /http-bind HTTP/1.1\r\nHost: localhost\r\nConnection: close\r\nContent-Length: 108\r\n\r\n<body rid='1000' to='example.org' wait='60' hold='1' ver='1.6' xmlns='http://jabber.org/protocol/httpbind'/>";
 
 const ANSWERED: &[u8] =
-    b" sid='s1' wait='60' requests='2' inactivity='30' polling='5' maxpause='120' hold='1' ver='1.6' from='example.org' ack='1000' xmpp:version='1.0' xmpp:restartlogic='true'/>";
+    b" sid='s1' wait='60' requests='2' inactivity='30' polling='5' maxpause='120' hold='1' ver='1.6' from='example.org' stream='t0' ack='1000' xmpp:version='1.0' xmpp:restartlogic='true'/>";
 
 // The host `example.org`, which greets nobody.
 pub(crate) fn echo_host(alloc: Global) -> Result<Host<InMemory>, AllocError> {

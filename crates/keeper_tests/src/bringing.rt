@@ -1,5 +1,5 @@
 // What a file of journals brings back to a server.
-use crate::entries::{opening, stanza};
+use crate::entries::{add, opening, stanza};
 use bosh_types::Moment;
 use entry_queue::EntryQueue;
 use journal_store::{MemoryDisk, write_content};
@@ -40,6 +40,14 @@ fn file(alloc: Global, sid: &[u8], caller: u32) -> Result<MemoryDisk, Fail> {
     Ok(MemoryDisk::new(image, Vec::new(alloc), 0))
 }
 
+// A file of one session with two streams.
+fn file_of_two(alloc: Global) -> Result<MemoryDisk, Fail> {
+    let mut image = Vec::new(alloc);
+    put(alloc, &mut image, 0, opening(alloc, b"s-1")?)?;
+    put(alloc, &mut image, 0, add(alloc)?)?;
+    Ok(MemoryDisk::new(image, Vec::new(alloc), 0))
+}
+
 // The moment at which the sessions of this file stand, and how many entries were made by bringing them back.
 fn brought<R: Wait>(
     rt: &R,
@@ -63,6 +71,11 @@ fn sessions_go_on_where_they_stood(rt: HostRuntime) -> Result<(), Fail> {
     // One whose stream is lost is told so, which is an entry.
     let found = brought(&rt, alloc, file(alloc, b"s-1", 0)?, &[])?;
     assert_eq!(rt; found, Some((Moment::from_millis(7), 1)));
+    // So it is with each of its streams, but for the first at a host that lasts.
+    let found = brought(&rt, alloc, file_of_two(alloc)?, &lasting)?;
+    assert_eq!(rt; found, Some((Moment::from_millis(6), 1)));
+    let found = brought(&rt, alloc, file_of_two(alloc)?, &[])?;
+    assert_eq!(rt; found, Some((Moment::from_millis(6), 2)));
     Ok(())
 }
 

@@ -16,6 +16,9 @@ pub(crate) fn shared(alloc: Global, bytes: &[u8]) -> Result<SharedText, AllocErr
     SharedText::new(alloc, text(alloc, bytes)?)
 }
 
+const ADD: &[u8] =
+    b"<body rid='1001' sid='s-1' to='echo.localhost' xmlns='http://jabber.org/protocol/httpbind'/>";
+
 /// The opening of a session of this name.
 pub(crate) fn opening(alloc: Global, sid: &[u8]) -> Result<Entered, AllocError> {
     Ok(Entered::Open {
@@ -26,6 +29,14 @@ pub(crate) fn opening(alloc: Global, sid: &[u8]) -> Result<Entered, AllocError> 
         now: Moment::from_millis(5),
         limit: 16777216,
         gap_waits: 1,
+    })
+}
+
+/// A request that adds a stream to it.
+pub(crate) fn add(alloc: Global) -> Result<Entered, AllocError> {
+    Ok(Entered::Arrive {
+        body: shared(alloc, ADD)?,
+        now: Moment::from_millis(6),
     })
 }
 

@@ -10,19 +10,20 @@ use Rattle.bosh_types.specs.declared.condition.Condition.TheVariants.{ItemNotFou
 use Rattle.bosh_types.specs.declared.ending.Closing.{Closing}
 use Rattle.bosh_types.specs.declared.ending.Ending.{Ending}
 use Rattle.bosh_types.specs.declared.ending.Ending.TheVariants.{Stale, Above, Silent, JournalFull}
+use Rattle.body_writer.specs.Answer.{answer_text}
 use Rattle.session_attrs.specs.declared.request.Request.{Request}
-use Rattle.session_core.specs.declared.copy.RequestCopy.{RequestCopy}
 use Rattle.session_core.specs.declared.outward.Front.{Front}
 use Rattle.session_core.specs.declared.outward.Front.TheVariants.{OfStanzas, OfClosing}
 use Rattle.session_core.specs.declared.outward.Outward.{Outward}
 use Rattle.session_core.specs.declared.replies.Arrived.{Arrived}
 use Rattle.session_core.specs.declared.replies.Arrived.TheVariants as arrivals
-use Rattle.session_core.specs.Answers.{has_reason, has_reason_for, gives_reason, reasons, front_of, front_for, with_answer, settled_in, settled}
-use Rattle.session_core.specs.Copy.{id_of, is_pause}
+use Rattle.session_core.specs.Answers.{answer_parts, has_reason, has_reason_for, gives_reason, reasons, front_of, front_for, with_answer, settled_in, settled}
+use Rattle.session_core.specs.Copy.{id_of, is_prompt}
 use Rattle.session_core.specs.Gap.{struck}
 use Rattle.session_core.specs.Journal.{Arrive, Journal, IsJournal, IsAllowed, ToArrive, state_of}
 use Rattle.session_core.specs.Machine.{advanced, arrive, arrived_in_time, body_cost, bytes_for, copy_now, is_full, placed, refused, replied, reopened, wait_at, with_cost}
 use Rattle.session_core.specs.Outward.{items_in}
+use Rattle.session_core.specs.Processed.{Processed}
 use Rattle.session_core.specs.State.{PlainSession, Answered, answers, held, is_over, taken_by_answers, waiting}
 use Rattle.session_core.specs.Time.{at_moment, is_silent, quiet_of, silenced, time_applied}
 use Rattle.session_laws.specs.Replies.{IsToldTo}
@@ -52,15 +53,15 @@ drop_more (suc n) k (x ∷ xs) none =
     subst (λ m. drop m (x ∷ xs) ≡ []) same (drop_more n k xs none)
 
 -- one more answer takes no less
-waiting_less : (s : PlainSession) (rid : ℕ) (front : Front) → waiting s ≡ [] → waiting (with_answer s rid front) ≡ []
-waiting_less s rid front none =
-    let answer : Answered = record { rid = rid; bytes = _; moment = s.now; front = front } in
-    let sum : taken_by_answers (answers (with_answer s rid front)) ≡ taken_by_answers (answers s) + taken_by_answers (answer ∷ [])
+waiting_less : (s : PlainSession) (one : Processed) (front : Front) → waiting s ≡ [] → waiting (with_answer s one front) ≡ []
+waiting_less s one front none =
+    let answer : Answered = record { rid = id_of one.copy; bytes = answer_text (answer_parts s one front); moment = s.now; front = front } in
+    let sum : taken_by_answers (answers (with_answer s one front)) ≡ taken_by_answers (answers s) + taken_by_answers (answer ∷ [])
     = sum_by-append (λ (a : Answered). length (items_in a.front)) (answers s) (answer ∷ []) in
     ap (λ n. drop n s.given) sum ∙ drop_more (taken_by_answers (answers s)) (taken_by_answers (answer ∷ [])) s.given none
 
-takes_nothing : (s : PlainSession) (oldest : RequestCopy) → waiting s ≡ [] → front_for s oldest ≡ OfStanzas []
-takes_nothing s oldest none = by (is_pause oldest)
+takes_nothing : (s : PlainSession) (oldest : Processed) → waiting s ≡ [] → front_for s oldest ≡ OfStanzas []
+takes_nothing s oldest none = by (is_prompt oldest.copy)
   where
     by : (b : Bool) → (if b then OfStanzas [] else front_of (waiting s)) ≡ OfStanzas []
     by true = refl
@@ -75,24 +76,27 @@ Idles s = (is_over s ≡ false) × (waiting s ≡ [])
 
 idle_answering : Answering Idles
 idle_answering = record {
-  stanzas = λ s oldest later items is on reason front idle. (on, waiting_less s (id_of oldest) (OfStanzas items) idle.1);
-  closes = λ s oldest later stream closing is on reason front idle.
-      absurd (no_closing (front_for s oldest) stream closing (takes_nothing s oldest idle.1) front);
+  gives = λ s oldest later front is on reason due other idle. (on, waiting_less s oldest front idle.1);
+  closes = λ s oldest later stream closing is on reason due last idle.
+      absurd (no_closing (front_for s oldest) stream closing (takes_nothing s oldest idle.1) due);
 }
 
 -- where the oldest held request has no reason, nothing waits
-none_waits : (s : PlainSession) (oldest : RequestCopy) (later : List RequestCopy) → held s ≡ oldest ∷ later → is_over s ≡ false → has_reason s ≡ false → waiting s ≡ []
+none_waits : (s : PlainSession) (oldest : Processed) (later : List Processed) → held s ≡ oldest ∷ later → is_over s ≡ false → has_reason s ≡ false → waiting s ≡ []
 none_waits s oldest later is on none =
     let tests : (not (is_over s) && list_any (gives_reason s oldest) reasons) ≡ false = ap (has_reason_for s) (sym is) ∙ none in
     let any : list_any (gives_reason s oldest) reasons ≡ false = ap (λ b. not b && list_any (gives_reason s oldest) reasons) (sym on) ∙ tests in
-    let items = neither (not (length (waiting s) == 0) && not (is_pause oldest)) _ any in
+    let items = neither (not (length (waiting s) == 0) && not (is_prompt oldest.copy)) _ any in
     let hold = neither _ _ items.1 in
     let waits = neither _ _ hold.1 in
-    let pauses : list_any is_pause (held s) ≡ false = (neither _ _ waits.1).0 in
-    let no_pause : is_pause oldest ≡ false = (neither (is_pause oldest) (list_any is_pause later) (ap (list_any is_pause) (sym is) ∙ pauses)).0 in
-    let empty : (length (waiting s) == 0) ≡ true = both (length (waiting s) == 0) (is_pause oldest) items.0 no_pause in
+    let prompts : list_any prompt (held s) ≡ false = (neither _ _ waits.1).0 in
+    let not_prompt : is_prompt oldest.copy ≡ false = (neither (is_prompt oldest.copy) (list_any prompt later) (ap (list_any prompt) (sym is) ∙ prompts)).0 in
+    let empty : (length (waiting s) == 0) ≡ true = both (length (waiting s) == 0) (is_prompt oldest.copy) items.0 not_prompt in
     nil_from_length (waiting s) (eqb-true (length (waiting s)) 0 empty)
   where
+    prompt : Processed → Bool
+    prompt one = is_prompt one.copy
+
     both : (a b : Bool) → not a && not b ≡ false → b ≡ false → a ≡ true
     both true b is not = refl
     both false true is not = absurd (cc)
@@ -101,7 +105,7 @@ none_waits s oldest later is on none =
 settled_on : (s : PlainSession) (now : ℕ) → has_reason s ≡ false → is_over s ≡ false → is_over (settled (at_moment s now)) ≡ false
 settled_on s now none on = by (held s) refl
   where
-    by : (copies : List RequestCopy) → held s ≡ copies → is_over (settled (at_moment s now)) ≡ false
+    by : (copies : List Processed) → held s ≡ copies → is_over (settled (at_moment s now)) ≡ false
     by [] is = ap (λ n. is_over (settled_some n)) (ap length is) ∙ on
       where
         settled_some : ℕ → PlainSession

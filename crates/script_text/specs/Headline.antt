@@ -3,8 +3,9 @@ use Rattle.std.specs.Prelude.{◌≡◌, ℕ, ◌==◌, ◌&&◌, Bool, true, fa
 use Rattle.bosh_types.specs.declared.inward.Inward.{Inward}
 use Rattle.session_core.specs.Journal.{IsJournal}
 use Rattle.session_core.specs.Passed.{stream_of, inward_of}
-use Rattle.session_core.specs.Run.{run_of}
-use Rattle.session_core.specs.State.{inward, is_over, items_of_all}
+use Rattle.session_core.specs.Processed.{items_of_all}
+use Rattle.session_core.specs.State.{inward, is_over}
+use Rattle.session_laws.specs.OneBody.{all_processed}
 use Rattle.session_laws.specs.Laws.{KeptLaws}
 use Rattle.script_text.specs.declared.report.ReportLine.{ReportLine}
 use Rattle.script_text.specs.declared.report.ReportLine.TheVariants.{In, Out, Lost, Gone, Refused, Over, Done, Bad}
@@ -81,8 +82,8 @@ pub record TellsOf (report : List ReportLine) (s : PlainLive) : Type 0 where
   pub made : IsJournal s.journal
   pub laws : KeptLaws s.journal
   pub told : IsTold report s
-  -- so what it tells inward is what the run's copies carry, on each stream too
-  pub inward_is : inward_told s.number report ≡ items_of_all (run_of s.journal)
+  -- so what it tells inward is what the run's copies carry for the streams that were open for each, on each stream too
+  pub inward_is : inward_told s.number report ≡ items_of_all (all_processed (state s))
   pub streams : (stream : ℕ) → filter (λ item. stream_of item == stream) (inward_told s.number report) ≡ inward_of s.journal stream
 
 -- what a script gives

@@ -20,6 +20,7 @@ pub(crate) fn terminal_body(alloc: Global, condition: Condition) -> Result<Share
             created: None,
             kind: AnswerKind::Terminate,
             condition: Some(condition),
+            stream: None,
             ack: None,
             report: None,
             payloads: Stanzas::from_vec(Vec::new(alloc)),

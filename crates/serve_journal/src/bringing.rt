@@ -39,9 +39,9 @@ pub enum Brought<D: Disk + Drop> {
     NoMemory,
 }
 
-/// Opens a file of journals. One whose sessions have all ended begins anew, with none. Of sessions at other hosts than these the server behind
-/// has lost the stream: they are told so, which is noted in the queue as what they enter from now on is. A file that isn't one of a server's
-/// sessions is `Damaged`, and stays as it is.
+/// Opens a file of journals. One whose sessions have all ended begins anew, with none. Of each stream that is open the server behind has lost its
+/// side, but for the first stream of a session at one of these hosts: the session is told so, which is noted in the queue as what it enters from
+/// now on is. A file that isn't one of a server's sessions is `Damaged`, and stays as it is.
 pub fn bring<R: Wait, D: Disk + Drop>(
     rt: &R,
     alloc: Global,
@@ -136,9 +136,8 @@ fn bring_sessions<R: Wait>(
     for session in sessions {
         number = number.saturating_add(1);
         let mut session = session;
-        if !lasts(session.entries(), lasting) {
-            cut_off(rt, &mut session, number, latest, queue)?;
-        }
+        let first_lasts = lasts(session.entries(), lasting);
+        cut_off(rt, &mut session, number, first_lasts, latest, queue)?;
         let Some(one) = resumed_of(alloc, session)? else {
             return Ok(None);
         };
@@ -214,20 +213,41 @@ fn lasts(entries: &[Entry], lasting: &[&[u8]]) -> bool {
     }
 }
 
-// The stream of a session that goes on is lost.
+// The open streams of a session that goes on are lost, but for the first one where its host lasts.
 fn cut_off<R: Wait>(
     rt: &R,
     session: &mut Journalled,
     number: u64,
+    first_lasts: bool,
     now: Moment,
     queue: &EntryQueue,
 ) -> Result<(), AllocError> {
-    if session.ending().is_some() {
+    for place in 0..8 {
+        let Some(stream) = StreamNo::new(place) else {
+            return Ok(());
+        };
+        if !(first_lasts && place == 0) {
+            cut_stream(rt, session, number, stream, now, queue)?;
+        }
+    }
+    Ok(())
+}
+
+// The stream is lost, where the session goes on and it is open.
+fn cut_stream<R: Wait>(
+    rt: &R,
+    session: &mut Journalled,
+    number: u64,
+    stream: StreamNo,
+    now: Moment,
+    queue: &EntryQueue,
+) -> Result<(), AllocError> {
+    if session.ending().is_some() || !session.is_running(stream) {
         return Ok(());
     }
     let index = session.entries().len() as u64;
     let call = Call::BackClosed {
-        stream: StreamNo::unnamed(),
+        stream,
         closing: Closing::RemoteConnectionFailed,
         now,
     };

@@ -10,7 +10,7 @@ use Rattle.bosh_types.specs.Rid.{greatest_rid}
 use Rattle.bosh_types.specs.declared.condition.Condition.TheVariants.{UndefinedCondition}
 use Rattle.bosh_types.specs.declared.ending.Ending.TheVariants.{JournalFull}
 use Rattle.bosh_types.specs.declared.kept.KeptAnswer.{KeptAnswer}
-use Rattle.rid_window.specs.PlainWindow.{PlainWindow, IsWithin, id_after, reach}
+use Rattle.rid_window.specs.PlainWindow.{PlainWindow, IsAbove, IsWithin, id_after, reach}
 use Rattle.rid_window.specs.StandsFor as windows
 use Rattle.rid_window.specs.declared.window.Window.{Window}
 use Rattle.session_attrs.specs.declared.request.Request.{Request}
@@ -62,6 +62,7 @@ reopened_holds {s = s} {plain = plain} rid book h live later is = record {
   kept = h.kept;
   inward = h.inward;
   items = h.items;
+  streams = h.streams;
   tickets =
       rw is
       (given_out (bytes_for plain) (record s.tickets { out = map (replace rid) s.tickets.out }) (map (machine_replace rid) plain.tickets) rid (open_words rid h live later)
@@ -136,6 +137,7 @@ retickets tickets book h out = record {
   kept = h.kept;
   inward = h.inward;
   items = h.items;
+  streams = h.streams;
   tickets = out;
   window = h.window;
 }
@@ -166,6 +168,7 @@ placed_holds {s = s} {plain = plain} copy window h later places = record {
   kept = h.kept;
   inward = h.inward;
   items = h.items;
+  streams = h.streams;
   tickets = h.tickets;
   window = record {
     stands = subst (λ (pairs : List (ℕ × RequestCopy)). windows.StandsFor window (record { placed = pairs; next = id_after s.last; width = plain.terms.requests }))
@@ -187,6 +190,41 @@ within_reach creation standing last requests rid extra first later told =
           (omega (arith, within.1), free))
       | inr most ↦ absurd (subst (λ (o : Option ℕ). IsWithin o (reach requests extra) rid) (after_none last most) told.0)
     ]
+
+-- where the window didn't reach it, nothing stood either
+pub beyond_reach : (creation : RequestCopy) (standing : List RequestCopy) (last requests rid : ℕ) (extra : Bool) → id_of creation ≤ last → last < rid → rid ≤ greatest_rid
+    → IsAbove (id_after last) (reach requests extra) rid × (at_id (map with_id (creation ∷ standing)) rid ≡ None)
+    → (last + reach requests extra < rid) × (at_id (map with_id standing) rid ≡ None)
+beyond_reach creation standing last requests rid extra first later small told =
+    let free : at_id (map with_id standing) rid ≡ None = sym (later_at creation standing rid (omega arith)) ∙ told.1 in
+    let above : IsAbove (Some (last + 1)) (reach requests extra) rid =
+    subst (λ (o : Option ℕ). IsAbove o (reach requests extra) rid) (after_some last (omega arith)) told.0 in
+    (omega (arith, above), free)
+
+-- a copy that it didn't reach is above
+pub place_above : (plain : PlainSession) (copy : RequestCopy) → answered_of plain ≤ last_of plain → last_of plain < id_of copy → standing_at plain (id_of copy) ≡ None
+    → last_of plain + reach plain.terms.requests (is_extra copy) < id_of copy → place_of plain copy ≡ places.Above
+place_above plain copy within later free beyond =
+    let answered : nat_le (id_of copy) (answered_of plain) ≡ false = grind (arith, nat_tests) in
+    let processed : nat_le (id_of copy) (last_of plain) ≡ false = grind (arith, nat_tests) in
+    let stands : is_some (standing_at plain (id_of copy)) ≡ false = ap is_some free in
+    let above : nat_lt (last_of plain + reach plain.terms.requests (is_extra copy)) (id_of copy) ≡ true = grind (arith, nat_tests) in
+    (λ i. if answered i then places.Answered else if processed i || stands i then places.Open else if above i then places.Above else places.New)
+
+-- a window that stands for the same
+pub same_place : {s : Session} {plain : PlainSession} (window : Window RequestCopy) → Holds s plain
+    → ((w : PlainWindow RequestCopy) → windows.StandsFor s.window w → windows.StandsFor window w) → Holds (record s { window = window }) plain
+same_place window h same = record {
+  alike = h.alike;
+  run = h.run;
+  latest = h.latest;
+  kept = h.kept;
+  inward = h.inward;
+  items = h.items;
+  streams = h.streams;
+  tickets = h.tickets;
+  window = record { stands = same _ h.window.stands; ids = h.window.ids };
+}
 
 -- a copy that the window took is new
 pub place_new : (plain : PlainSession) (copy : RequestCopy) → answered_of plain ≤ last_of plain → last_of plain < id_of copy → standing_at plain (id_of copy) ≡ None

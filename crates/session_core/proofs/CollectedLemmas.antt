@@ -47,6 +47,7 @@ with_tickets book tickets h out = record {
   kept = h.kept;
   inward = h.inward;
   items = h.items;
+  streams = h.streams;
   tickets = out;
   window = h.window;
 }
@@ -106,6 +107,7 @@ taken_holds {plain = plain} None h is = record {
       let none : drop plain.passed (inward plain) ≡ [] = get_none plain.passed (inward plain) is in
       record { queue_is = ap (drop 1) (h.inward.queue_is ∙ none) ∙ sym none; within = h.inward.within };
   items = h.items;
+  streams = h.streams;
   tickets = h.tickets;
   window = h.window;
 }
@@ -119,6 +121,7 @@ taken_holds {plain = plain} (Some item) h is = record {
     within = omega (arith, slice_get_within (inward plain) plain.passed item is);
   };
   items = h.items;
+  streams = h.streams;
   tickets = h.tickets;
   window = h.window;
 }

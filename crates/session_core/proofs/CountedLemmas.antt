@@ -1,5 +1,5 @@
 -- Time and answers leave the counted bytes and their limit as they are.
-use Rattle.std.proofs.Common.{◌≡◌, ℕ, zero, suc, ◌+◌, Bool, true, false, nat_lt, List, [], ◌∷◌, length, refl, ◌∙◌, ap}
+use Rattle.std.proofs.Common.{◌≡◌, ℕ, zero, suc, ◌+◌, ◌==◌, Bool, true, false, nat_lt, List, [], ◌∷◌, length, refl, ◌∙◌, ap}
 use Rattle.std.specs.Prelude.{if◌then◌else◌}
 use Rattle.session_core.specs.declared.copy.RequestCopy.{RequestCopy}
 use Rattle.session_core.specs.declared.session.Session.{Session}
@@ -7,9 +7,12 @@ use Rattle.session_core.specs.Answers.{has_reason, closed_by, with_answer, front
 use Rattle.session_core.specs.Copy.{id_of}
 use Rattle.session_core.specs.Gap.{ids_to_strike, struck}
 use Rattle.session_core.specs.Machine.{is_full, with_cost}
+use Rattle.bosh_types.specs.declared.ending.Ending.TheVariants.{Closed}
+use Rattle.session_core.specs.Endings.{ended}
 use Rattle.session_core.specs.Outward.{Front, OfStanzas, OfClosing}
+use Rattle.session_core.specs.Processed.{Processed}
 use Rattle.session_core.specs.StandsFor.{Alike, Holds}
-use Rattle.session_core.specs.State.{PlainSession, held}
+use Rattle.session_core.specs.State.{PlainSession, held, running}
 use Rattle.session_core.specs.Time.{at_moment, silenced, time_applied}
 use Rattle.session_core.proofs.StruckLemmas.{strike_each_shape}
 
@@ -21,17 +24,17 @@ record Room : Type 0 where
 abbrev room : PlainSession → Room
 room s = record { counted = s.counted; limit = s.limit }
 
-closed_room : (rid : ℕ) (front : Front) (s : PlainSession) → room (closed_by rid front s) ≡ room s
-closed_room rid (OfStanzas items) s = refl
-closed_room rid (OfClosing stream closing) s = refl
-
-answer_room : (s : PlainSession) (copies : List RequestCopy) → room (answer_oldest s copies) ≡ room s
-answer_room s [] = refl
-answer_room s (oldest ∷ later) = closed_room (id_of oldest) (front_for s oldest) (with_answer s (id_of oldest) (front_for s oldest))
-
 either_room : (b : Bool) (x y : PlainSession) (r : Room) → room x ≡ r → room y ≡ r → room (if b then x else y) ≡ r
 either_room true x y r one other = one
 either_room false x y r one other = other
+
+closed_room : (rid : ℕ) (front : Front) (s : PlainSession) → room (closed_by rid front s) ≡ room s
+closed_room rid (OfStanzas items) s = refl
+closed_room rid (OfClosing stream closing) s = either_room (length (running s) == 0) (ended (Closed closing rid) s) s (room s) refl refl
+
+answer_room : (s : PlainSession) (copies : List Processed) → room (answer_oldest s copies) ≡ room s
+answer_room s [] = refl
+answer_room s (oldest ∷ later) = closed_room (id_of oldest.copy) (front_for s oldest) (with_answer s oldest (front_for s oldest))
 
 settled_in_room : (count : ℕ) (s : PlainSession) → room (settled_in count s) ≡ room s
 settled_in_room zero s = refl
@@ -60,6 +63,7 @@ with_cost_holds s plain counted cost h is = record {
   kept = h.kept;
   inward = h.inward;
   items = h.items;
+  streams = h.streams;
   tickets = h.tickets;
   window = h.window;
 }

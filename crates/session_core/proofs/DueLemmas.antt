@@ -9,9 +9,10 @@ use Rattle.pause_rules.specs.Due.{IsFirstMoment, is_gap_due, is_silent_due, is_w
 use Rattle.session_core.specs.declared.copy.RequestCopy.{RequestCopy}
 use Rattle.session_core.specs.declared.held.HeldRequest.{HeldRequest}
 use Rattle.session_core.specs.declared.session.Session.{Session}
-use Rattle.session_core.specs.Answers.{Items, Hold, Pause, Report, Polling, gives_reason, has_reason, has_reason_for, reasons}
+use Rattle.session_core.specs.Answers.{Items, Hold, Prompt, Report, Polling, gives_reason, has_reason, has_reason_for, reasons}
 use Rattle.session_core.specs.Due.{earlier}
 use Rattle.session_core.specs.Gap.{has_waited, ids_ahead, ids_from, is_to_strike, owes_errors}
+use Rattle.session_core.specs.Processed.{Processed}
 use Rattle.session_core.specs.StandsFor.{Holds, held_of}
 use Rattle.session_core.specs.State.{PlainSession, beyond, held, is_over, last_of, standing, standing_at}
 use Rattle.session_core.specs.Time.{at_moment, is_due, is_silent, owes_nothing_beyond, quiet_of}
@@ -175,19 +176,19 @@ or_parts true b none = absurd (cc)
 or_parts false b none = (refl, none)
 
 -- none has waited its time now: then one has later where it has by that moment itself
-waits_later : (terms : Terms) (now m : ℕ) (copies : List RequestCopy) → list_any (λ copy. is_wait_due terms copy.arrived (max now 0)) copies ≡ false
-    → list_any (λ copy. is_wait_due terms copy.arrived (max now m)) copies ≡ list_any (λ copy. is_wait_due terms copy.arrived m) copies
+waits_later : (terms : Terms) (now m : ℕ) (copies : List Processed) → list_any (λ copy. is_wait_due terms copy.copy.arrived (max now 0)) copies ≡ false
+    → list_any (λ copy. is_wait_due terms copy.copy.arrived (max now m)) copies ≡ list_any (λ copy. is_wait_due terms copy.copy.arrived m) copies
 waits_later terms now m [] none = refl
 waits_later terms now m (copy ∷ copies) none =
-    let parts = or_parts (is_wait_due terms copy.arrived (max now 0)) _ none in
-    (λ i. later_le (copy.arrived + terms.wait * 1000) now m parts.0 i || waits_later terms now m copies parts.1 i)
+    let parts = or_parts (is_wait_due terms copy.copy.arrived (max now 0)) _ none in
+    (λ i. later_le (copy.copy.arrived + terms.wait * 1000) now m parts.0 i || waits_later terms now m copies parts.1 i)
 
 -- what is due by time alone
-abbrev pub timed : PlainSession → List RequestCopy → ℕ → Bool
+abbrev pub timed : PlainSession → List Processed → ℕ → Bool
 timed s [] m = is_silent_due s.period (quiet_of s) m
-timed s (copy ∷ copies) m = list_any (λ copy. is_wait_due s.terms copy.arrived m) (held s)
+timed s (copy ∷ copies) m = list_any (λ copy. is_wait_due s.terms copy.copy.arrived m) (held s)
 
-abbrev dues : PlainSession → List RequestCopy → ℕ → Bool
+abbrev dues : PlainSession → List Processed → ℕ → Bool
 dues s copies n = not (is_over s) && (has_reason_for (record s { now = n }) copies || ((length copies == 0) && is_silent_due s.period (quiet_of s) n))
 
 some_held : (n : ℕ) → (suc n == 0) ≡ false
@@ -204,7 +205,7 @@ live s b on = ap (λ (o : Bool). not o && b) on
 dues_none : (s : PlainSession) (n : ℕ) → is_over s ≡ false → dues s [] n ≡ is_silent_due s.period (quiet_of s) n
 dues_none s n on = live s (is_silent_due s.period (quiet_of s) n) on
 
-dues_some : (s : PlainSession) (copy : RequestCopy) (copies : List RequestCopy) (n : ℕ) → is_over s ≡ false
+dues_some : (s : PlainSession) (copy : Processed) (copies : List Processed) (n : ℕ) → is_over s ≡ false
     → dues s (copy ∷ copies) n ≡ list_any (gives_reason (record s { now = n }) copy) reasons
 dues_some s copy copies n on =
     live s _ on
@@ -212,14 +213,14 @@ dues_some s copy copies n on =
     ∙ or_none (has_reason_for (record s { now = n }) (copy ∷ copies))
     ∙ live s (list_any (gives_reason (record s { now = n }) copy) reasons) on
 
-dues_timed : (s : PlainSession) (copies : List RequestCopy) → is_over s ≡ false → dues s copies (max s.now 0) ≡ false → (m : ℕ) → dues s copies (max s.now m) ≡ timed s copies m
+dues_timed : (s : PlainSession) (copies : List Processed) → is_over s ≡ false → dues s copies (max s.now 0) ≡ false → (m : ℕ) → dues s copies (max s.now m) ≡ timed s copies m
 dues_timed s [] on none m =
     dues_none s (max s.now m) on ∙ later_lt (quiet_of s + s.period * 1000) s.now m (sym (dues_none s (max s.now 0) on) ∙ none)
 dues_timed s (copy ∷ copies) on none m =
     let quiet = sym (dues_some s copy copies (max s.now 0) on) ∙ none in
     dues_some s copy copies (max s.now m) on
-    ∙ pressed_later (gives_reason s copy Items) (gives_reason s copy Hold) (list_any (λ copy. is_wait_due s.terms copy.arrived (max s.now 0)) (held s)) (list_any (λ copy. is_wait_due s.terms copy.arrived (max s.now m)) (held s)) (gives_reason s copy Pause) (gives_reason s copy Report) (gives_reason s copy Polling) quiet
-    ∙ waits_later s.terms s.now m (held s) (none_waits (gives_reason s copy Items) (gives_reason s copy Hold) (list_any (λ copy. is_wait_due s.terms copy.arrived (max s.now 0)) (held s)) (gives_reason s copy Pause) (gives_reason s copy Report) (gives_reason s copy Polling) quiet)
+    ∙ pressed_later (gives_reason s copy Items) (gives_reason s copy Hold) (list_any (λ copy. is_wait_due s.terms copy.copy.arrived (max s.now 0)) (held s)) (list_any (λ copy. is_wait_due s.terms copy.copy.arrived (max s.now m)) (held s)) (gives_reason s copy Prompt) (gives_reason s copy Report) (gives_reason s copy Polling) quiet
+    ∙ waits_later s.terms s.now m (held s) (none_waits (gives_reason s copy Items) (gives_reason s copy Hold) (list_any (λ copy. is_wait_due s.terms copy.copy.arrived (max s.now 0)) (held s)) (gives_reason s copy Prompt) (gives_reason s copy Report) (gives_reason s copy Polling) quiet)
 
 and_true : (b : Bool) → (b && true) ≡ b
 and_true true = refl
@@ -233,7 +234,7 @@ due_simple s nothing never m =
     ∙ (λ i. not (is_over s) && (or_none (has_reason_for (record s { now = n }) (held s)) i || (and_true (length (held s) == 0) i && is_silent_due s.period (quiet_of s) n)))
 
 -- nothing is due at the session's own moment: then time is due at just these moments
-pub due_timed : (s : PlainSession) (copies : List RequestCopy) → held s ≡ copies → is_over s ≡ false → owes_nothing_beyond s ≡ true
+pub due_timed : (s : PlainSession) (copies : List Processed) → held s ≡ copies → is_over s ≡ false → owes_nothing_beyond s ≡ true
     → ((n : ℕ) → owes_errors (record s { now = n }) ≡ false) → is_due s 0 ≡ false → (m : ℕ) → is_due s m ≡ timed s copies m
 due_timed s copies are on nothing never none m =
     due_simple s nothing never m ∙ ap (λ l. dues s l (max s.now m)) are
@@ -246,14 +247,14 @@ due_over s m over = ap (λ (o : Bool). not o && ((has_reason (at_moment s m) || 
 -- Where a copy beyond a gap has its error to come.
 
 -- by a later moment a held request has a reason where it has waited its time by that moment
-reason_timed : (s : PlainSession) (copies : List RequestCopy) → is_over s ≡ false → held s ≡ copies → has_reason_for (record s { now = max s.now 0 }) copies ≡ false
-    → (m : ℕ) → has_reason_for (record s { now = max s.now m }) copies ≡ list_any (λ copy. is_wait_due s.terms copy.arrived m) (held s)
-reason_timed s [] on are none m = sym (ap (list_any (λ (copy : RequestCopy). is_wait_due s.terms copy.arrived m)) are)
+reason_timed : (s : PlainSession) (copies : List Processed) → is_over s ≡ false → held s ≡ copies → has_reason_for (record s { now = max s.now 0 }) copies ≡ false
+    → (m : ℕ) → has_reason_for (record s { now = max s.now m }) copies ≡ list_any (λ copy. is_wait_due s.terms copy.copy.arrived m) (held s)
+reason_timed s [] on are none m = sym (ap (list_any (λ (copy : Processed). is_wait_due s.terms copy.copy.arrived m)) are)
 reason_timed s (copy ∷ copies) on are none m =
     let quiet = sym (live s (list_any (gives_reason (record s { now = max s.now 0 }) copy) reasons) on) ∙ none in
     live s (list_any (gives_reason (record s { now = max s.now m }) copy) reasons) on
-    ∙ pressed_later (gives_reason s copy Items) (gives_reason s copy Hold) (list_any (λ copy. is_wait_due s.terms copy.arrived (max s.now 0)) (held s)) (list_any (λ copy. is_wait_due s.terms copy.arrived (max s.now m)) (held s)) (gives_reason s copy Pause) (gives_reason s copy Report) (gives_reason s copy Polling) quiet
-    ∙ waits_later s.terms s.now m (held s) (none_waits (gives_reason s copy Items) (gives_reason s copy Hold) (list_any (λ copy. is_wait_due s.terms copy.arrived (max s.now 0)) (held s)) (gives_reason s copy Pause) (gives_reason s copy Report) (gives_reason s copy Polling) quiet)
+    ∙ pressed_later (gives_reason s copy Items) (gives_reason s copy Hold) (list_any (λ copy. is_wait_due s.terms copy.copy.arrived (max s.now 0)) (held s)) (list_any (λ copy. is_wait_due s.terms copy.copy.arrived (max s.now m)) (held s)) (gives_reason s copy Prompt) (gives_reason s copy Report) (gives_reason s copy Polling) quiet
+    ∙ waits_later s.terms s.now m (held s) (none_waits (gives_reason s copy Items) (gives_reason s copy Hold) (list_any (λ copy. is_wait_due s.terms copy.copy.arrived (max s.now 0)) (held s)) (gives_reason s copy Prompt) (gives_reason s copy Report) (gives_reason s copy Polling) quiet)
 
 -- and so is a copy struck
 test_timed : (s : PlainSession) (m : ℕ) (b : Bool) (o : Option RequestCopy) → (b && has_waited (record s { now = max s.now 0 }) o) ≡ false
@@ -288,7 +289,7 @@ owes_timed s none m = by (is_over s || s.terms.polled) none
 
 -- what is due by time alone where a copy stands beyond a gap
 abbrev pub timed_beyond : PlainSession → ℕ → Bool
-timed_beyond s m = list_any (λ copy. is_wait_due s.terms copy.arrived m) (held s) || owes_errors (record s { now = m })
+timed_beyond s m = list_any (λ copy. is_wait_due s.terms copy.copy.arrived m) (held s) || owes_errors (record s { now = m })
 
 never_silent : (a b c : Bool) → b ≡ false → ((a && b) && c) ≡ false
 never_silent true b c none = ap (λ (b : Bool). b && c) none
@@ -340,7 +341,7 @@ owes_never s nothing n = by (s.terms.polled) refl
 
 -- Of a session that stands for it.
 
-any_map : (p : HeldRequest → Bool) (copies : List RequestCopy) → list_any p (map held_of copies) ≡ list_any (λ copy. p (held_of copy)) copies
+any_map : (p : HeldRequest → Bool) (copies : List Processed) → list_any p (map held_of copies) ≡ list_any (λ copy. p (held_of copy)) copies
 any_map p [] = refl
 any_map p (copy ∷ copies) = ap (λ (b : Bool). p (held_of copy) || b) (any_map p copies)
 
@@ -350,7 +351,7 @@ module _ {s : Session} {plain : PlainSession} (h : Holds s plain) (on : is_over 
       → IsFirstMoment (λ now. list_any (λ held. is_wait_due s.deadlines.terms held.arrived now) s.held) first → IsFirstMoment (is_due plain) first
   due_waits oldest there first is = by (held plain) refl
     where
-      agree : (copy : RequestCopy) (copies : List RequestCopy) → held plain ≡ copy ∷ copies → (m : ℕ)
+      agree : (copy : Processed) (copies : List Processed) → held plain ≡ copy ∷ copies → (m : ℕ)
           → is_due plain m ≡ list_any (λ held. is_wait_due s.deadlines.terms held.arrived m) s.held
       agree copy copies are m =
           due_timed plain (copy ∷ copies) are on nothing (owes_never plain nothing) none m
@@ -358,7 +359,7 @@ module _ {s : Session} {plain : PlainSession} (h : Holds s plain) (on : is_over 
           ∙ sym (ap (list_any (λ (held : HeldRequest). is_wait_due plain.terms held.arrived m)) h.run.held_is)
           ∙ sym (ap (λ (terms : Terms). list_any (λ (held : HeldRequest). is_wait_due terms held.arrived m) s.held) (terms_is h))
 
-      by : (copies : List RequestCopy) → held plain ≡ copies → IsFirstMoment (is_due plain) first
+      by : (copies : List Processed) → held plain ≡ copies → IsFirstMoment (is_due plain) first
       by [] are =
           let nothing : slice_get s.held 0 ≡ None = ap (λ (l : List HeldRequest). slice_get l 0) (h.run.held_is ∙ ap (map held_of) are) in
           absurd (let never : Some oldest ≡ None = sym there ∙ nothing in cc never)
@@ -368,7 +369,7 @@ module _ {s : Session} {plain : PlainSession} (h : Holds s plain) (on : is_over 
   pub due_silent : slice_get s.held 0 ≡ None → (first : Option ℕ) → IsFirstMoment (is_silent_due plain.period (quiet_of plain)) first → IsFirstMoment (is_due plain) first
   due_silent there first is = by (held plain) refl
     where
-      by : (copies : List RequestCopy) → held plain ≡ copies → IsFirstMoment (is_due plain) first
+      by : (copies : List Processed) → held plain ≡ copies → IsFirstMoment (is_due plain) first
       by [] are = first_as (is_due plain) (is_silent_due plain.period (quiet_of plain)) (due_timed plain [] are on nothing (owes_never plain nothing) none) first is
       by (copy ∷ copies) are =
           let something : slice_get s.held 0 ≡ Some (held_of copy) = ap (λ (l : List HeldRequest). slice_get l 0) (h.run.held_is ∙ ap (map held_of) are) in

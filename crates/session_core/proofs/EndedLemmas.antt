@@ -48,6 +48,7 @@ ended_holds s plain ending breaker word other book h live words is = record {
   kept = h.kept;
   inward = h.inward;
   items = h.items;
+  streams = h.streams;
   tickets =
       rw is
       (ended_out (bytes_for plain) (bytes_for (ended ending plain)) s.tickets plain.tickets breaker (answer_text word) (answer_text other)

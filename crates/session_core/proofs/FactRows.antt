@@ -1,6 +1,7 @@
 -- The fact of each ending holds in a session that ends so.
-use Rattle.std.proofs.Common.{◌≡◌, refl, ap, arith}
-use Rattle.std.specs.Prelude.{true, false, is_some, List, [], ◌∷◌, Some, codes}
+use Rattle.std.proofs.Common.{◌≡◌, ℕ, refl, ap, arith}
+use Rattle.stream_names.specs.Streams.{is_among, name_of}
+use Rattle.std.specs.Prelude.{true, false, is_some, IsTrue, List, [], ◌∷◌, Some, codes}
 use Rattle.bosh_types.specs.declared.ending.Closing.TheVariants as closings
 use Rattle.bosh_types.specs.declared.ending.Ending.{Ending}
 use Rattle.bosh_types.specs.declared.ending.Ending.TheVariants as endings
@@ -15,6 +16,9 @@ use Rattle.session_core.proofs.RowTools.{usual, opening, opening_with, empty, ca
 abbrev after : PlainSession → List Call → PlainSession
 after s [] = s
 after s (call ∷ calls) = after (step s call).0 calls
+
+names_x : (stream : ℕ) × IsTrue (is_among (0 ∷ []) stream) × (name_of stream ≡ codes "x") → ⊥
+names_x (stream, is, same) = absurd (cc)
 
 -- what the last of the entries shows of this ending
 abbrev ShownBy : PlainSession → Entered → Ending → Type 0
@@ -38,15 +42,15 @@ wrong_key = (refl, refl, _, refl, λ fits. absurd (cc))
 
 unknown_stream : ShownBy (opened opening) (Made (plain (record (empty 1001) { stream = Some (codes "x") }) 0)) (endings.UnknownStream 1001)
 unfolding bodies_compute
-unknown_stream = (refl, refl, _, refl, (refl, λ unnamed. absurd (cc)))
+unknown_stream = (refl, refl, _, refl, (refl, λ names. names_x (names (codes "x") refl)))
 
 pause_too_long : ShownBy (opened opening) (Made (plain (record (empty 1001) { pause = Some 121 }) 0)) (endings.PauseTooLong 1001 121 120)
 unfolding bodies_compute
-pause_too_long = ((refl, refl, _, refl, (refl, refl, (refl, refl), omega arith)), refl)
+pause_too_long = ((refl, refl, _, refl, (refl, (λ name is. absurd (cc)), (refl, refl), omega arith)), refl)
 
 overactive : ShownBy (after (opened opening) (carrying (empty 1001) (codes "<a/>") 1000 ∷ [])) (Made (plain (empty 1002) 5999)) (endings.Overactive 1002 4999)
 unfolding bodies_compute
-overactive = (refl, refl, _, refl, (refl, refl, (λ seconds asks. absurd (cc)), refl, refl))
+overactive = (refl, refl, _, refl, (refl, (λ name is. absurd (cc)), (λ seconds asks. absurd (cc)), refl, refl))
 
 silent : ShownBy (opened opening) (Made (Tick 30001)) (endings.Silent 0 30001)
 unfolding bodies_compute
@@ -54,7 +58,7 @@ silent = (refl, (λ holds. refl), refl, refl, omega arith)
 
 closed : ShownBy (after (opened opening) (carrying (empty 1001) (codes "<a/>") 0 ∷ [])) (Made (BackClosed 0 closings.Plain 0)) (endings.Closed closings.Plain 1001)
 unfolding bodies_compute
-closed = (refl, (0, refl))
+closed = (refl, refl, (refl, (0, refl)))
 
 journal_full : ShownBy (record (opened opening) { counted = 16777100 }) (Limit Arrival 136 0) (endings.JournalFull 16777100 136)
 unfolding bodies_compute

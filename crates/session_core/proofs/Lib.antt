@@ -5,6 +5,8 @@ pub mod EndingRows
 pub mod FactRows
 pub mod JournalRows
 pub mod SessionRows
+pub mod StreamRows
+pub mod StreamLemmas
 pub mod Fronts
 pub mod InPlace
 pub mod OutTickets

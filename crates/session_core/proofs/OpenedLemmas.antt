@@ -21,18 +21,23 @@ use Rattle.session_attrs.specs.Meaning.{MeansKind}
 use Rattle.session_attrs.specs.Terms.{asked_hold, hold_of, is_polling, terms_of}
 use Rattle.session_attrs.specs.Values.{Values, values_of}
 use Rattle.session_attrs.proofs.MeaningLemmas.{reads_means}
+use Rattle.stream_names.specs.PlainStreams.{PlainStreams, begun}
+use Rattle.stream_names.specs.Streams.{those}
+use Rattle.stream_names.proofs.Numbers.{those_same}
 use Rattle.session_core.specs.declared.copy.RequestCopy.{RequestCopy}
 use Rattle.session_core.specs.declared.outward.Outward.TheVariants.{Stanza}
 use Rattle.session_core.specs.declared.session.Session.{Session}
 use Rattle.session_core.specs.Arriving.{IsModest}
-use Rattle.session_core.specs.Copy.{id_of, is_empty, items_of, unnamed, with_id}
+use Rattle.session_core.specs.Copy.{id_of, is_poll, unnamed, with_id}
+use Rattle.session_core.specs.Processed.{as_creation, items_of}
 use Rattle.session_core.specs.Journal.{IsOpening}
 use Rattle.session_core.specs.Kept.{kept_answer}
 use Rattle.session_core.specs.Machine.{bytes_for, creation_of, first_answer, greeting_of, opened}
 use Rattle.session_core.specs.declared.opening.Opening.{Opening}
-use Rattle.session_core.specs.Outward.{is_close, stanzas_in}
+use Rattle.session_core.specs.Outward.{is_close_of, stanzas_in}
 use Rattle.session_core.specs.Queue.{Queue}
 use Rattle.session_core.specs.StandsFor.{Holds, IsLater, alike_of, alike_in}
+use Rattle.session_core.specs.State.{running_in}
 use Rattle.session_core.proofs.AreOut.{none_out}
 
 -- The terms of a creation.
@@ -70,9 +75,17 @@ stanzas_given : (greeting : List (List ℕ)) → stanzas_in (map (Stanza unnamed
 stanzas_given [] = refl
 stanzas_given (stanza ∷ greeting) = ap (λ rest. stanza ∷ rest) (stanzas_given greeting)
 
-none_closes : (greeting : List (List ℕ)) → false ≡ list_any is_close (map (Stanza unnamed) greeting)
-none_closes [] = refl
-none_closes (stanza ∷ greeting) = none_closes greeting
+none_closes : (stream : ℕ) (greeting : List (List ℕ)) → list_any (is_close_of stream) (map (Stanza unnamed) greeting) ≡ false
+none_closes stream [] = refl
+none_closes stream (stanza ∷ greeting) = none_closes stream greeting
+
+none_pass : those (λ stream. false) ≡ []
+unfolding those
+none_pass = refl
+
+first_runs : 0 ∷ [] ≡ running_in [] []
+unfolding those
+first_runs = refl
 
 pub payloads_are : (o : Opening) → length o.greeting ≡ length (stanzas_in (greeting_of o))
 payloads_are o = sym (ap length (stanzas_given o.greeting))
@@ -112,22 +125,27 @@ module _ (rid width : ℕ) (copy : RequestCopy) where
 
 pub opened_holds : (o : Opening) (s : Session) → alike_of s ≡ alike_in (opened o)
     → s.last ≡ o.request.rid → s.answered ≡ o.request.rid → s.held ≡ []
-    → s.latest ≡ record { arrived = o.at; empty = is_empty (creation_of o); creation = true; bare = false }
+    → s.latest ≡ record { arrived = o.at; empty = is_poll (creation_of o); creation = true; bare = false }
     → s.last_given ≡ o.at → s.last_bare ≡ (length (stanzas_in (greeting_of o)) == 0)
     → keeps.StandsFor s.keep (record { put = kept_answer (first_answer o) ∷ []; acknowledged = 0; size = o.terms.requests + 1 })
     → windows.StandsFor s.window (record { placed = with_id (creation_of o) ∷ []; next = id_after o.request.rid; width = o.terms.requests })
-    → s.inward ≡ items_of (creation_of o) → s.outbox ≡ record { items = []; closed = false } → s.tickets ≡ record { handed_out = 0; out = [] }
+    → s.inward ≡ items_of (as_creation (creation_of o)) → s.outbox ≡ record { items = []; closed = [] } → s.streams ≡ begun → s.tickets ≡ record { handed_out = 0; out = [] }
     → Holds s (opened o)
-opened_holds o s alike last answered held latest given bare keep window inward outbox tickets = record {
+opened_holds o s alike last answered held latest given bare keep window inward outbox streams tickets = record {
   alike = alike;
   run = record { last_is = omega (arith, last); answered_is = omega (arith, answered); within = omega arith; held_is = held; ids = tt };
   latest = record { latest_is = latest; given_is = given; bare_is = bare };
   kept = record { keeps = keep; ids = (refl, tt); acked = omega arith };
-  inward = record { queue_is = inward ∙ append_none (items_of (creation_of o)); within = omega arith };
+  inward = record { queue_is = inward ∙ append_none (items_of (as_creation (creation_of o))); within = omega arith };
   items = record {
     outbox_is = ap (λ (q : Queue). q.items) outbox ∙ all_taken _ (greeting_of o) (omega arith);
     within = omega arith;
-    closed_is = ap (λ (q : Queue). q.closed) outbox ∙ none_closes o.greeting;
+    closed_is = ap (λ (q : Queue). q.closed) outbox ∙ sym (those_same _ _ (λ m small. none_closes m o.greeting) ∙ none_pass);
+  };
+  streams = record {
+    opened_is = ap (λ (p : PlainStreams). p.opened) streams;
+    running_is = ap (λ (p : PlainStreams). p.running) streams ∙ first_runs;
+    later = λ m above. (refl, refl, none_closes m o.greeting);
   };
   tickets = rw tickets (none_out (bytes_for (opened o)));
   window = record { stands = rw last window; ids = All-nil (IsLater (id_of (creation_of o))) };

@@ -1,6 +1,9 @@
 -- A copy is processed, or ends the session.
-use Rattle.std.proofs.Common.{◌≡◌, ℕ, ◌+◌, ◌<◌, ◌==◌, ◌&&◌, nat_lt, Bool, true, false, Option, Some, None, map, refl, ◌∙◌, ap, subst, arith}
-use Rattle.std.specs.Prelude.{is_some, if◌then◌else◌}
+use Rattle.std.proofs.Common.{◌≡◌, ℕ, ◌+◌, ◌<◌, ◌==◌, ◌&&◌, nat_lt, Bool, true, false, Option, Some, None, length, map, refl, sym, ◌∙◌, ap, subst, arith}
+use Rattle.std.specs.Prelude.{if◌then◌else◌}
+use Rattle.std.specs.List.{list_all}
+use Rattle.bosh_types.specs.Limits.{most_streams}
+use Rattle.stream_names.specs.Streams.{is_among}
 use Rattle.bosh_types.specs.ById.{at_id}
 use Rattle.bosh_types.specs.Rid.{greatest_rid}
 use Rattle.bosh_types.specs.declared.ending.Ending.{Ending}
@@ -11,12 +14,14 @@ use Rattle.session_core.specs.declared.copy.RequestCopy.{RequestCopy}
 use Rattle.session_core.specs.declared.session.Session.{Session}
 use Rattle.session_core.specs.Copy.{id_of, is_pause, with_id}
 use Rattle.session_core.specs.Endings.{ended}
-use Rattle.session_core.specs.Machine.{next_copy, process, unless_terminate, with_copy}
-use Rattle.session_core.specs.Rules.{Asks, Keys, Streams, Pauses, Activity, breaks, broken_rule, asked_of, mark_of, pause_breaks}
+use Rattle.session_core.specs.Machine.{as_processed, next_copy, opened_by, process, unless_terminate, with_copy}
+use Rattle.session_core.specs.Processed.{Processed, ends, targets_of}
+use Rattle.session_core.specs.Rules.{Asks, Keys, Streams, Pauses, Activity, breaks, broken_rule, asked_of, mark_of, names_none, pause_breaks}
 use Rattle.session_core.specs.StandsFor.{Alike, Holds, asks_of}
-use Rattle.session_core.specs.State.{PlainSession, answered_of, standing}
+use Rattle.session_core.specs.State.{PlainSession, answered_of, opened_in, running, standing}
 use Rattle.session_core.specs.Words.{IsAnswerable}
 use Rattle.session_core.proofs.StandingLemmas.{held_length}
+use Rattle.session_core.proofs.StreamLemmas.{ends_at, not_add}
 use Rattle.session_core.proofs.TakenUp.{next_stands, some_below}
 
 answerable_if : (n : ℕ) (b : Bool) (told ending : Ending) → IsAnswerable n told → (if b then Some told else None) ≡ Some ending → IsAnswerable n ending
@@ -47,7 +52,7 @@ first_of_two n (Some e) rest ending first second some =
 pub broken_answerable : (n : ℕ) (asks : Asks) (copy : RequestCopy) (ending : Ending) → broken_rule asks copy ≡ Some ending → IsAnswerable n ending
 broken_answerable n asks copy ending some =
     first_of_two n (breaks asks copy Keys) _ ending (λ e. answerable_unless n (fits asks.key copy.request.key) (WrongKey (id_of copy)) e tt)
-    (first_of_two n (breaks asks copy Streams) _ ending (λ e. answerable_if n (is_some copy.request.stream) (UnknownStream (id_of copy)) e tt)
+    (first_of_two n (breaks asks copy Streams) _ ending (λ e. answerable_if n (names_none asks.running copy.request.stream) (UnknownStream (id_of copy)) e tt)
     (first_of_two n (breaks asks copy Pauses) _ ending (λ e. answerable_pause n asks copy copy.request.pause e)
     (first_of_two n (breaks asks copy Activity) None ending
     (λ e. answerable_if n (is_overactive asks.terms asks.held (mark_of copy) asks.prior) (Overactive (id_of copy) (apart (mark_of copy) asks.prior)) e tt)
@@ -62,6 +67,7 @@ module _ {s : Session} {plain : PlainSession} where
       (λ i. record {
         key = key i;
         terms = terms i;
+        running = h.streams.running_is i;
         held = held_length h i;
         prior = record (h.latest.latest_is i) { bare = (held_length h i == 0) && h.latest.bare_is i };
       })
@@ -75,15 +81,29 @@ module _ {s : Session} {plain : PlainSession} where
       omega (arith, some_below plain.creation (standing plain) s.last copy h.window.ids at, h.run.last_is, h.run.within)
 
 by_rule : (o : Option Ending) (plain : PlainSession) (copy : RequestCopy) (other : Option Ending) → o ≡ other
-    → (elim o as (λ x. PlainSession) [ Some ending ↦ ended ending plain | None ↦ unless_terminate (with_copy plain copy) copy ])
-    ≡ (elim other as (λ x. PlainSession) [ Some ending ↦ ended ending plain | None ↦ unless_terminate (with_copy plain copy) copy ])
-by_rule o plain copy other same = ap (λ (p : Option Ending). elim p as (λ x. PlainSession) [ Some ending ↦ ended ending plain | None ↦ unless_terminate (with_copy plain copy) copy ]) same
+    → (elim o as (λ x. PlainSession) [ Some ending ↦ ended ending plain | None ↦ unless_terminate (with_copy plain copy) (as_processed plain copy) ])
+    ≡ (elim other as (λ x. PlainSession) [ Some ending ↦ ended ending plain | None ↦ unless_terminate (with_copy plain copy) (as_processed plain copy) ])
+by_rule o plain copy other same = ap (λ (p : Option Ending). elim p as (λ x. PlainSession) [ Some ending ↦ ended ending plain | None ↦ unless_terminate (with_copy plain copy) (as_processed plain copy) ]) same
 
 pub process_broken : (plain : PlainSession) (copy : RequestCopy) (ending : Ending) → broken_rule (asked_of plain) copy ≡ Some ending → process plain copy ≡ ended ending plain
 process_broken plain copy ending is = by_rule (broken_rule (asked_of plain) copy) plain copy (Some ending) is
 
-pub process_unbroken : (plain : PlainSession) (copy : RequestCopy) → broken_rule (asked_of plain) copy ≡ None → process plain copy ≡ unless_terminate (with_copy plain copy) copy
+pub process_unbroken : (plain : PlainSession) (copy : RequestCopy) → broken_rule (asked_of plain) copy ≡ None → process plain copy ≡ unless_terminate (with_copy plain copy) (as_processed plain copy)
 process_unbroken plain copy is = by_rule (broken_rule (asked_of plain) copy) plain copy None is
 
-pub terminates : (plain : PlainSession) (copy : RequestCopy) → copy.request.terminate ≡ true → unless_terminate plain copy ≡ ended (Terminated (id_of copy)) plain
-terminates plain copy is = ap (λ (b : Bool). if b then ended (Terminated (id_of copy)) plain else plain) is
+pub terminates : (plain : PlainSession) (one : Processed) → ends one ≡ true → unless_terminate plain one ≡ ended (Terminated (id_of one.copy)) plain
+terminates plain one is = ap (λ (b : Bool). if b then ended (Terminated (id_of one.copy)) plain else plain) is
+
+pub goes_on : (plain : PlainSession) (one : Processed) → ends one ≡ false → unless_terminate plain one ≡ plain
+goes_on plain one is = ap (λ (b : Bool). if b then ended (Terminated (id_of one.copy)) plain else plain) is
+
+-- a copy that is no terminate ends nothing
+pub kept_on : (plain : PlainSession) (copy : RequestCopy) → copy.request.terminate ≡ false → unless_terminate (with_copy plain copy) (as_processed plain copy) ≡ with_copy plain copy
+kept_on plain copy is = goes_on (with_copy plain copy) (as_processed plain copy) (ap (λ (b : Bool). b && list_all (is_among (targets_of (as_processed plain copy))) (running plain)) is)
+
+-- a terminate ends the session where nothing is open after it
+pub ends_by : {s after : Session} {plain : PlainSession} (copy : RequestCopy) (b : Bool) → Holds s plain → Holds after (with_copy plain copy) → copy.request.terminate ≡ true
+    → b ≡ (length after.streams.running == 0) → ends (as_processed plain copy) ≡ b
+ends_by {after = after} {plain = plain} copy b h up is empty =
+    let none : opened_by plain copy ≡ None = ap (λ (adds : Bool). if adds && nat_lt (opened_in plain.processed) most_streams then Some (opened_in plain.processed) else None) (not_add copy is) in
+    ends_at h.streams copy (opened_by plain copy) after.streams.running is none up.streams.running_is ∙ sym empty

@@ -12,12 +12,13 @@ use Rattle.body_writer.specs.declared.request.RequestParts.{RequestParts}
 use Rattle.body_writer.specs.Attribute.{attribute, escaped_byte, closed_with}
 use Rattle.body_writer.specs.ReadBack.{IsAllowed, IsRequest, longest}
 use Rattle.body_writer.specs.Request.{request_text}
-use Rattle.body_writer.specs.RequestRows.{request_attributes, xmpp_rows, sid_rows, creation_rows, number_rows, key_rows, terminate_rows, version_rows, restart_rows}
+use Rattle.body_writer.specs.RequestRows.{request_attributes, xmpp_rows, sid_rows, creation_rows, host_rows, number_rows, key_rows, terminate_rows, version_rows, restart_rows}
+use Rattle.body_writer.specs.Rows.{named_rows}
 use Rattle.body_writer.proofs.Texts.{texts_ascii}
 use Rattle.session_core.specs.ReadBack.{IsInForm}
 
 unfoldable requests_compute : ⊤
-unfolding digits request_text request_attributes xmpp_rows sid_rows creation_rows number_rows key_rows terminate_rows version_rows restart_rows attribute escaped_byte closed_with
+unfolding digits request_text request_attributes xmpp_rows sid_rows named_rows creation_rows host_rows number_rows key_rows terminate_rows version_rows restart_rows attribute escaped_byte closed_with
 requests_compute = tt
 
 abbrev stanza : List ℕ
@@ -44,6 +45,8 @@ abbrev creation : RequestParts
 creation = record {
   rid = 1000;
   sid = None;
+  stream = None;
+  to = None;
   creation = Some (codes "h'", 60, 1);
   ack = Some 1;
   key = None;
@@ -63,6 +66,8 @@ creation_is = (
   record {
     rid = (omega arith, omega arith);
     sid = tt;
+    stream = tt;
+    to = tt;
     creation = (host_is, omega arith, omega arith);
     ack = omega arith;
     key = tt;
@@ -79,6 +84,8 @@ abbrev later : RequestParts
 later = record {
   rid = 1001;
   sid = Some (codes "s1");
+  stream = Some 1;
+  to = None;
   creation = None;
   ack = Some 1000;
   key = None;
@@ -89,7 +96,7 @@ later = record {
   payloads = stanza ∷ [];
 }
 
-later_writes : request_text later ≡ codes "<body xmlns='http://jabber.org/protocol/httpbind' xmlns:xmpp='urn:xmpp:xbosh' rid='1001' sid='s1' ack='1000' pause='120' type='terminate' xmpp:restart='true'><a/></body>"
+later_writes : request_text later ≡ codes "<body xmlns='http://jabber.org/protocol/httpbind' xmlns:xmpp='urn:xmpp:xbosh' rid='1001' sid='s1' stream='t1' ack='1000' pause='120' type='terminate' xmpp:restart='true'><a/></body>"
 unfolding requests_compute
 later_writes = refl
 
@@ -98,6 +105,8 @@ later_is = (
   record {
     rid = (omega arith, omega arith);
     sid = sid_is;
+    stream = omega arith;
+    to = tt;
     creation = tt;
     ack = omega arith;
     key = tt;

@@ -5,6 +5,7 @@ use Rattle.bosh_types.specs.declared.ending.Ending.{Ending}
 use Rattle.bosh_types.specs.declared.inward.Inward.{Inward}
 use Rattle.body_writer.specs.Answer.{answer_text}
 use Rattle.body_writer.specs.AnswerRows.{answer_attributes, xmpp_rows, stream_rows, kind_rows, version_value, terms_rows, created_rows, ack_rows, report_rows, restart_rows}
+use Rattle.body_writer.specs.Rows.{named_rows}
 use Rattle.body_writer.specs.Attribute.{attribute, escaped_byte, closed_with}
 use Rattle.hex.specs.Hex.{encode_with}
 use Rattle.key_sequence.specs.Chain.{hex_digest}
@@ -13,6 +14,7 @@ use Rattle.session_attrs.specs.declared.request.Creation.{Creation}
 use Rattle.session_attrs.specs.declared.request.Kind.TheVariants as kinds
 use Rattle.session_attrs.specs.declared.request.Request.{Request}
 use Rattle.session_attrs.specs.Terms.{terms_of}
+use Rattle.stream_names.specs.Streams.{those}
 use Rattle.session_core.specs.Journal.{Call, Arrive, Reply, Entered, Entry, Journal, step, entered_by}
 use Rattle.session_core.specs.Machine.{opened}
 use Rattle.session_core.specs.declared.opening.Opening.{Opening}
@@ -70,6 +72,14 @@ empty rid = record {
   stanzas = [];
 }
 
+-- an empty request that names a host: it adds a stream
+abbrev pub adding : ℕ → Request
+adding rid = record (empty rid) { to = Some (codes "other.org") }
+
+-- an empty request for one stream
+abbrev pub naming : List ℕ → ℕ → Request
+naming name rid = record (empty rid) { stream = Some name }
+
 -- the request arrives with this stanza
 abbrev pub carrying : Request → List ℕ → ℕ → Call
 carrying request stanza now =
@@ -122,6 +132,14 @@ abbrev pub payload_body : List ℕ → List ℕ
 payload_body stanza =
     codes "<body xmlns='http://jabber.org/protocol/httpbind' xmlns:stream='http://etherx.jabber.org/streams'>" ++ stanza ++ codes "</body>"
 
+-- an answer that names a stream, without and with a payload
+abbrev pub named_body : List ℕ → List ℕ
+named_body name = codes "<body xmlns='http://jabber.org/protocol/httpbind' stream='" ++ name ++ codes "'/>"
+
+abbrev pub named_payload_body : List ℕ → List ℕ → List ℕ
+named_payload_body name stanza =
+    codes "<body xmlns='http://jabber.org/protocol/httpbind' xmlns:stream='http://etherx.jabber.org/streams' stream='" ++ name ++ codes "'>" ++ stanza ++ codes "</body>"
+
 abbrev pub terminal_body : List ℕ → List ℕ
 terminal_body condition =
     codes "<body xmlns='http://jabber.org/protocol/httpbind' type='terminate' condition='" ++ condition ++ codes "'/>"
@@ -139,7 +157,7 @@ short = record usual { wait = Some 10 }
 
 -- what an answer unfolds to compute a body, and a key
 unfoldable pub bodies_compute : ⊤
-unfolding digits answer_text answer_attributes xmpp_rows stream_rows kind_rows version_value terms_rows created_rows ack_rows report_rows restart_rows attribute escaped_byte closed_with terms_of
+unfolding digits answer_text answer_attributes xmpp_rows stream_rows kind_rows version_value terms_rows created_rows named_rows ack_rows report_rows restart_rows attribute escaped_byte closed_with terms_of those
 bodies_compute = tt
 
 unfoldable pub keys_compute : ⊤

@@ -4,10 +4,11 @@ use Rattle.std.proofs.lemmas.Bool.Decides.{nat_tests}
 use Rattle.pause_rules.specs.declared.mark.Mark.{Mark}
 use Rattle.session_core.specs.declared.held.HeldRequest.{HeldRequest}
 use Rattle.session_core.specs.declared.copy.RequestCopy.{RequestCopy}
-use Rattle.session_core.specs.Copy.{id_of, is_empty, items_of}
+use Rattle.session_core.specs.Copy.{id_of, is_poll}
+use Rattle.session_core.specs.Processed.{Processed, copies_of, items_of, items_of_all}
 use Rattle.session_core.specs.Rules.{mark_of}
 use Rattle.session_core.specs.StandsFor.{AreFrom, HoldsRun, HoldsLast, HoldsInward, held_of}
-use Rattle.session_core.specs.State.{Answered, last_from, items_of_all}
+use Rattle.session_core.specs.State.{Answered, last_from}
 
 module _ {X : Type 0} where
   pub last_from-push : (first : X) (xs : List X) (x : X) → last_from first (xs ++ x ∷ []) ≡ x
@@ -33,7 +34,7 @@ map-push f (y ∷ ys) x = ap (λ rest. f y ∷ rest) (map-push f ys x)
 pub length-push : {X : Type 0} (xs : List X) (x : X) → length (xs ++ x ∷ []) ≡ length xs + 1
 length-push xs x = length-append xs (x ∷ [])
 
-pub items_of_all-push : (copies : List RequestCopy) (copy : RequestCopy) → items_of_all (copies ++ copy ∷ []) ≡ items_of_all copies ++ items_of copy
+pub items_of_all-push : (copies : List Processed) (copy : Processed) → items_of_all (copies ++ copy ∷ []) ≡ items_of_all copies ++ items_of copy
 items_of_all-push [] copy = append-end (items_of copy)
   where
     append-end : {X : Type 0} (xs : List X) → xs ++ [] ≡ xs
@@ -47,9 +48,9 @@ drop-append_within zero xs ys within = refl
 drop-append_within (suc n) [] ys within = absurd (omega arith)
 drop-append_within (suc n) (x ∷ xs) ys within = drop-append_within n xs ys (omega arith)
 
-module _ {last answered : ℕ} {held : List HeldRequest} {creation : RequestCopy} {processed : List RequestCopy} {answers : List Answered} where
-  pub run-push : (copy : RequestCopy) → HoldsRun last answered held creation processed answers → id_of copy ≡ last + 1
-      → HoldsRun (id_of copy) answered (held ++ held_of copy ∷ []) creation (processed ++ copy ∷ []) answers
+module _ {last answered : ℕ} {held : List HeldRequest} {creation : RequestCopy} {processed : List Processed} {answers : List Answered} where
+  pub run-push : (copy : Processed) → HoldsRun last answered held creation processed answers → id_of copy.copy ≡ last + 1
+      → HoldsRun (id_of copy.copy) answered (held ++ held_of copy ∷ []) creation (processed ++ copy ∷ []) answers
   run-push copy h next = record {
     last_is = omega (arith, next, h.last_is, length-push processed copy);
     answered_is = h.answered_is;
@@ -58,22 +59,23 @@ module _ {last answered : ℕ} {held : List HeldRequest} {creation : RequestCopy
         ap (λ requests. requests ++ held_of copy ∷ []) h.held_is
         ∙ sym (map-push held_of (drop (length answers) processed) copy)
         ∙ ap (map held_of) (sym (drop-push (length answers) processed copy h.within));
-    ids = AreFrom-push id_of (id_of creation + 1) processed copy h.ids (omega (arith, next, h.last_is));
+    ids = AreFrom-push (λ one. id_of one.copy) (id_of creation + 1) processed copy h.ids (omega (arith, next, h.last_is));
   }
 
-pub latest-push : {latest : Mark} {last_given : ℕ} {bare : Bool} {creation : RequestCopy} {processed : List RequestCopy} {created : Answered} {answers : List Answered} (copy : RequestCopy)
+pub latest-push : {latest : Mark} {last_given : ℕ} {bare : Bool} {creation : RequestCopy} {processed : List Processed} {created : Answered} {answers : List Answered} (copy : Processed)
     → HoldsLast latest last_given bare creation processed created answers
-    → HoldsLast (mark_of copy) last_given bare creation (processed ++ copy ∷ []) created answers
+    → HoldsLast (mark_of copy.copy) last_given bare creation (processed ++ copy ∷ []) created answers
 latest-push {creation = creation} {processed = processed} copy h = record {
   latest_is =
-      let same : last_from creation (processed ++ copy ∷ []) ≡ copy = last_from-push creation processed copy in
+      let same : last_from creation (copies_of (processed ++ copy ∷ [])) ≡ copy.copy =
+      ap (last_from creation) (map-push (λ one. one.copy) processed copy) ∙ last_from-push creation (copies_of processed) copy.copy in
       let some : (length (processed ++ copy ∷ []) == 0) ≡ false = grind (arith, nat_tests, length-push processed copy) in
-      ap₂ (λ (c : RequestCopy) (b : Bool). record { arrived = c.arrived; empty = is_empty c; creation = b; bare = false }) (sym same) (sym some);
+      ap₂ (λ (c : RequestCopy) (b : Bool). record { arrived = c.arrived; empty = is_poll c; creation = b; bare = false }) (sym same) (sym some);
   given_is = h.given_is;
   bare_is = h.bare_is;
 }
 
-pub inward-push : {queue : List _} {passed : ℕ} {run : List RequestCopy} (copy : RequestCopy) → HoldsInward queue passed run
+pub inward-push : {queue : List _} {passed : ℕ} {run : List Processed} (copy : Processed) → HoldsInward queue passed run
     → HoldsInward (queue ++ items_of copy) passed (run ++ copy ∷ [])
 inward-push {passed = passed} {run = run} copy h = record {
   queue_is =

@@ -1,24 +1,27 @@
 -- A session to which its server gave something stands for the plain one that was given it.
-use Rattle.std.proofs.Common.{◌≡◌, ℕ, ◌==◌, ◌&&◌, ◌||◌, Bool, true, false, not, List, [], ◌∷◌, ◌++◌, length, refl, sym, ◌∙◌, ap, subst, arith, length-append}
+use Rattle.std.proofs.Common.{◌≡◌, ℕ, ◌<◌, inl, inr, ◌&&◌, ◌||◌, Bool, true, false, not, List, [], ◌∷◌, ◌++◌, length, refl, sym, ◌∙◌, ap, subst, arith, length-append}
 use Rattle.std.specs.Prelude.{IfOk, Result, is_some, if◌then◌else◌}
 use Rattle.std.specs.List.{list_any}
-use Rattle.std.proofs.lemmas.List.Folds.{list_any-append}
 use Rattle.bosh_types.specs.declared.ending.Closing.{Closing}
 use Rattle.session_core.specs.declared.outward.Outward.{Outward}
 use Rattle.session_core.specs.declared.outward.Outward.TheVariants.{Stanza, Close}
 use Rattle.session_core.specs.declared.replies.Taken.{Taken}
 use Rattle.session_core.specs.declared.replies.Taken.TheVariants as takings
 use Rattle.session_core.specs.declared.session.Session.{Session}
-use Rattle.session_core.specs.Copy.{unnamed}
+use Rattle.std.proofs.lemmas.Bool.{cases_lt}
+use Rattle.bosh_types.specs.Limits.{most_streams}
+use Rattle.stream_names.specs.Streams.{is_among, those, with_stream}
+use Rattle.stream_names.proofs.Numbers.{among, those_same, with_is}
 use Rattle.session_core.specs.Machine.{back, back_closed, back_in_time, closed_in_time, full_with, has_room, is_full, plain_cost, stanza_cost, takes_items, with_cost, with_item}
-use Rattle.session_core.specs.Outward.{is_close}
+use Rattle.session_core.specs.Outward.{is_close_of}
 use Rattle.session_core.specs.Queue.{Queue, has_room_for}
-use Rattle.session_core.specs.StandsFor.{Holds}
-use Rattle.session_core.specs.State.{PlainSession, answers, is_over, taken_by_answers}
+use Rattle.session_core.specs.StandsFor.{Holds, HoldsStreams}
+use Rattle.session_core.specs.State.{PlainSession, answers, is_over, opened_in, running, taken_by_answers}
 use Rattle.session_core.specs.Steps.{Does}
 use Rattle.session_core.specs.Time.{time_applied}
 use Rattle.session_core.proofs.RunningLemmas.{drop-append_within}
 use Rattle.session_core.proofs.StandingLemmas.{over_is}
+use Rattle.session_core.proofs.StreamLemmas.{any_push, any_same, closing_streams, not_running, stanza_streams, turned}
 
 -- Which way a call goes.
 
@@ -92,25 +95,36 @@ pub did_same : {X E : Type 0} (s : Session) (result : Result X E) {step same : P
     → IfOk result (λ reply. Does s reply same) → IfOk result (λ reply. Does s reply step)
 did_same s result is did = subst (λ t. IfOk result (λ reply. Does s reply t)) (sym is) did
 
-or_true : (b : Bool) → true ≡ (b || true)
-or_true true = refl
-or_true false = refl
+middle : (a b c : Bool) → ((a && b) && c) ≡ true → b ≡ true
+middle true true c is = refl
+middle true false c is = absurd (cc)
+middle false b c is = absurd (cc)
 
-or_false : (b : Bool) → b ≡ (b || false)
-or_false true = refl
-or_false false = refl
+-- a stream on which items are taken was opened
+pub taken_open : (plain : PlainSession) (stream : ℕ) → takes_items plain stream ≡ true → stream < opened_in plain.processed
+taken_open plain stream takes = elim (cases_lt stream (opened_in plain.processed)) [
+  | inl less ↦ less
+  | inr above ↦
+      absurd (let open_now : is_among (running plain) stream ≡ true = middle (not (is_over plain)) (is_among (running plain) stream) (not (list_any (is_close_of stream) plain.given)) takes in
+      let none = not_running plain.processed plain.answered stream above in cc)
+]
 
 module _ {s : Session} {plain : PlainSession} where
-  pub takes_is : Holds s plain → (stream : ℕ) → ((not (is_some s.ending) && (stream == unnamed)) && not s.outbox.closed) ≡ takes_items plain stream
-  takes_is h stream = (λ i. (not (over_is h i) && (stream == unnamed)) && not (h.items.closed_is i))
+  pub takes_is : Holds s plain → (stream : ℕ) → stream < most_streams
+      → ((not (is_some s.ending) && is_among s.streams.running stream) && not (is_among s.outbox.closed stream)) ≡ takes_items plain stream
+  takes_is h stream small =
+      let closed : is_among s.outbox.closed stream ≡ list_any (is_close_of stream) plain.given =
+      ap (λ (xs : List ℕ). is_among xs stream) h.items.closed_is ∙ among (λ m. list_any (is_close_of m) plain.given) stream small in
+      (λ i. (not (over_is h i) && is_among (h.streams.running_is i) stream) && not (closed i))
 
   pub room_is : Holds s plain → (stanza : List ℕ) → has_room_for s.outbox.items (length stanza) ≡ has_room plain stanza
   room_is h stanza = ap (λ (items : List Outward). has_room_for items (length stanza)) h.items.outbox_is
 
   -- one more item waits
-  given_holds : (item : Outward) (closed : Bool) → Holds s plain → closed ≡ (s.outbox.closed || is_close item)
+  given_holds : (item : Outward) (closed : List ℕ) → Holds s plain → closed ≡ those (λ stream. list_any (is_close_of stream) (plain.given ++ item ∷ []))
+      → HoldsStreams s.streams plain.processed plain.answered (plain.given ++ item ∷ [])
       → Holds (record s { outbox = record { items = s.outbox.items ++ item ∷ []; closed = closed } }) (record plain { given = plain.given ++ item ∷ [] })
-  given_holds item closed h is = record {
+  given_holds item closed h is streams = record {
     alike = h.alike;
     run = h.run;
     latest = h.latest;
@@ -121,11 +135,9 @@ module _ {s : Session} {plain : PlainSession} where
           ap (λ (items : List Outward). items ++ item ∷ []) h.items.outbox_is
           ∙ sym (drop-append_within (taken_by_answers (answers plain)) plain.given (item ∷ []) h.items.within);
       within = omega (arith, h.items.within, length-append plain.given (item ∷ []));
-      closed_is =
-          is ∙ ap (λ (b : Bool). b || is_close item) h.items.closed_is
-          ∙ ap (λ (b : Bool). list_any is_close plain.given || b) (or_false (is_close item))
-          ∙ sym (list_any-append is_close plain.given (item ∷ []));
+      closed_is = is;
     };
+    streams = streams;
     tickets = h.tickets;
     window = h.window;
   }
@@ -133,9 +145,18 @@ module _ {s : Session} {plain : PlainSession} where
   pub stanza_given : {outbox : Queue} {bytes : List ℕ} (stream : ℕ) (stanza : List ℕ) → Holds s plain → bytes ≡ stanza
       → outbox ≡ record s.outbox { items = s.outbox.items ++ Stanza stream bytes ∷ [] }
       → Holds (record s { outbox = outbox }) (record plain { given = plain.given ++ Stanza stream stanza ∷ [] })
-  stanza_given stream stanza h same is = rw (is, same) (given_holds (Stanza stream stanza) s.outbox.closed h (or_false s.outbox.closed))
+  stanza_given stream stanza h same is =
+      rw (is, same)
+      (given_holds (Stanza stream stanza) s.outbox.closed h
+      (h.items.closed_is ∙ those_same _ _ (λ m small. sym (any_same (is_close_of m) plain.given (Stanza stream stanza) refl)))
+      (stanza_streams h.streams stream stanza))
 
-  pub closing_given : {outbox : Queue} (stream : ℕ) (closing : Closing) → Holds s plain
-      → outbox ≡ record { items = s.outbox.items ++ Close stream closing ∷ []; closed = true }
+  pub closing_given : {outbox : Queue} (stream : ℕ) (closing : Closing) → Holds s plain → takes_items plain stream ≡ true
+      → outbox ≡ record { items = s.outbox.items ++ Close stream closing ∷ []; closed = with_stream s.outbox.closed stream }
       → Holds (record s { outbox = outbox }) (record plain { given = plain.given ++ Close stream closing ∷ [] })
-  closing_given stream closing h is = rw is (given_holds (Close stream closing) true h (or_true s.outbox.closed))
+  closing_given stream closing h takes is =
+      rw is
+      (given_holds (Close stream closing) (with_stream s.outbox.closed stream) h
+      (ap (λ (xs : List ℕ). with_stream xs stream) h.items.closed_is ∙ with_is (λ m. list_any (is_close_of m) plain.given) stream
+      ∙ those_same _ _ (λ m small. ap (λ (b : Bool). list_any (is_close_of m) plain.given || b) (turned m stream) ∙ sym (any_push (is_close_of m) plain.given (Close stream closing))))
+      (closing_streams h.streams stream closing (taken_open plain stream takes)))

@@ -14,7 +14,7 @@ use Rattle.session_core.specs.declared.outward.Outward.TheVariants.{Stanza}
 use Rattle.session_core.proofs.RowTools.{usual, opening, opening_with, empty, carrying, plain, outcome, empty_body, ack_body, payload_body, terminal_body, error_body, short, bodies_compute, keys_compute}
 
 -- the answer to a creation
-creation : answer_text (created_parts opening) ≡ codes "<body xmlns='http://jabber.org/protocol/httpbind' xmlns:xmpp='urn:xmpp:xbosh' xmlns:stream='http://etherx.jabber.org/streams' sid='s1' wait='60' requests='2' inactivity='30' polling='5' maxpause='120' hold='1' ver='1.6' from='example.org' ack='1000' xmpp:version='1.0' xmpp:restartlogic='true'><stream:features/></body>"
+creation : answer_text (created_parts opening) ≡ codes "<body xmlns='http://jabber.org/protocol/httpbind' xmlns:xmpp='urn:xmpp:xbosh' xmlns:stream='http://etherx.jabber.org/streams' sid='s1' wait='60' requests='2' inactivity='30' polling='5' maxpause='120' hold='1' ver='1.6' from='example.org' stream='t0' ack='1000' xmpp:version='1.0' xmpp:restartlogic='true'><stream:features/></body>"
 unfolding bodies_compute
 creation = refl
 

@@ -10,8 +10,9 @@ use Rattle.session_core.specs.declared.copy.RequestCopy.{RequestCopy}
 use Rattle.session_core.specs.declared.held.HeldRequest.{HeldRequest}
 use Rattle.session_core.specs.declared.session.Session.{Session}
 use Rattle.session_core.specs.Answers.{has_reason, has_reason_for}
-use Rattle.session_core.specs.Copy.{with_id, is_pause}
+use Rattle.session_core.specs.Copy.{with_id, is_prompt}
 use Rattle.session_core.specs.Machine.{next_copy}
+use Rattle.session_core.specs.Processed.{Processed}
 use Rattle.session_core.specs.StandsFor.{Alike, Holds, held_of}
 use Rattle.session_core.specs.State.{PlainSession, beyond, held, last_of, is_over, standing, waiting}
 use Rattle.session_core.specs.Steps.{wants, wants_answer}
@@ -34,9 +35,9 @@ module _ {s : Session} {plain : PlainSession} where
   pub held_length : Holds s plain → length s.held ≡ length (held plain)
   held_length h = ap length h.run.held_is ∙ length-map (held plain)
     where
-      length-map : (copies : List RequestCopy) → length (map held_of copies) ≡ length copies
+      length-map : (copies : List Processed) → length (map held_of copies) ≡ length copies
       length-map [] = refl
-      length-map (copy ∷ copies) = ap suc (length-map copies)
+      length-map (one ∷ copies) = ap suc (length-map copies)
 
   -- no copy is next in a session that has ended
   pub next_over : Holds s plain → is_some s.ending ≡ true → None ≡ next_copy plain
@@ -85,9 +86,9 @@ module _ {s : Session} {plain : PlainSession} where
       let arrival : s.last_arrival ≡ plain.last_arrival = ap (λ (a : Alike). a.last_arrival) h.alike in
       (λ i. if empty i then told_is h i else max (told_is h i) (arrival i))
 
-any_map : (p : HeldRequest → Bool) (copies : List RequestCopy) → list_any p (map held_of copies) ≡ list_any (λ copy. p (held_of copy)) copies
+any_map : (p : HeldRequest → Bool) (copies : List Processed) → list_any p (map held_of copies) ≡ list_any (λ one. p (held_of one)) copies
 any_map p [] = refl
-any_map p (copy ∷ copies) = ap (λ (b : Bool). p (held_of copy) || b) (any_map p copies)
+any_map p (one ∷ copies) = ap (λ (b : Bool). p (held_of one) || b) (any_map p copies)
 
 chain : (over a h w p r q : Bool) → (if over then false else if a then true else if h then true else if w then true else if p then true else r || q)
     ≡ (not over && (a || (h || (w || (p || (r || (q || false)))))))
@@ -105,25 +106,25 @@ over_or_not true = refl
 over_or_not false = refl
 
 -- a reason by the copies that are held is one by what is remembered of them
-reason_for : (plain : PlainSession) (copies : List RequestCopy) → held plain ≡ copies
+reason_for : (plain : PlainSession) (copies : List Processed) → held plain ≡ copies
     → wants plain.terms (is_over plain) (waiting plain) (map held_of copies) plain.now plain.reporting.due ≡ has_reason_for plain copies
 reason_for plain [] is = over_or_not (is_over plain)
 reason_for plain (oldest ∷ later) is =
-    let items : Bool = not (length (waiting plain) == 0) && not (is_pause oldest) in
-    let test : List RequestCopy → Bool = λ copies.
-    not (is_over plain) && (items || (nat_lt plain.terms.hold (length copies) || (list_any (λ copy. is_wait_due plain.terms copy.arrived plain.now) copies
-    || (list_any is_pause copies || (is_some plain.reporting.due || (plain.terms.polled || false)))))) in
+    let items : Bool = not (length (waiting plain) == 0) && not (is_prompt oldest.copy) in
+    let test : List Processed → Bool = λ copies.
+    not (is_over plain) && (items || (nat_lt plain.terms.hold (length copies) || (list_any (λ one. is_wait_due plain.terms one.copy.arrived plain.now) copies
+    || (list_any (λ one. is_prompt one.copy) copies || (is_some plain.reporting.due || (plain.terms.polled || false)))))) in
     chain (is_over plain) items (nat_lt plain.terms.hold (length (map held_of (oldest ∷ later))))
     (list_any (λ request. is_wait_due plain.terms request.arrived plain.now) (map held_of (oldest ∷ later)))
-    (list_any (λ request. request.pause) (map held_of (oldest ∷ later))) (is_some plain.reporting.due) plain.terms.polled
+    (list_any (λ request. request.prompt) (map held_of (oldest ∷ later))) (is_some plain.reporting.due) plain.terms.polled
     ∙ (λ i. not (is_over plain) && (items || (nat_lt plain.terms.hold (length_map (oldest ∷ later) i)
     || (any_map (λ request. is_wait_due plain.terms request.arrived plain.now) (oldest ∷ later) i
-    || (any_map (λ request. request.pause) (oldest ∷ later) i || (is_some plain.reporting.due || (plain.terms.polled || false)))))))
+    || (any_map (λ request. request.prompt) (oldest ∷ later) i || (is_some plain.reporting.due || (plain.terms.polled || false)))))))
     ∙ ap test (sym is)
   where
-    length_map : (copies : List RequestCopy) → length (map held_of copies) ≡ length copies
+    length_map : (copies : List Processed) → length (map held_of copies) ≡ length copies
     length_map [] = refl
-    length_map (copy ∷ copies) = ap suc (length_map copies)
+    length_map (one ∷ copies) = ap suc (length_map copies)
 
 pub wants_is : {s : Session} {plain : PlainSession} → Holds s plain → wants_answer s ≡ has_reason plain
 wants_is {s = s} {plain = plain} h =
@@ -140,6 +141,7 @@ moved moment h = record {
   kept = h.kept;
   inward = h.inward;
   items = h.items;
+  streams = h.streams;
   tickets = h.tickets;
   window = h.window;
 }

@@ -167,6 +167,7 @@ struck_holds {s = s} {plain = plain} rid error window book h is text strikes out
       kept = h.kept;
       inward = h.inward;
       items = h.items;
+      streams = h.streams;
       tickets =
           rw out
           (subst (λ (e : List ℕ). AreOut (record s.tickets { out = map (strike_in rid e) s.tickets.out }) (map (strike_ticket rid) plain.tickets) (bytes_for plain)) (sym text)

@@ -1,6 +1,7 @@
 -- A session that takes up the next copy stands for the plain one that has processed it.
-use Rattle.std.proofs.Common.{◌≡◌, ℕ, ◌+◌, ◌<◌, ◌≤◌, ◌==◌, inl, inr, Bool, true, false, cond, List, [], ◌∷◌, ◌++◌, map, Option, Some, None, All, refl, sym, ◌∙◌, ap, subst, arith}
-use Rattle.std.specs.Prelude.{IfSome, if◌then◌else◌}
+use Rattle.std.proofs.Common.{◌≡◌, ℕ, ◌+◌, ◌<◌, ◌≤◌, ◌==◌, ◌&&◌, inl, inr, Bool, true, false, cond, List, [], ◌∷◌, ◌++◌, map, Option, Some, None, All, refl, sym, ◌∙◌, ap, subst, arith}
+use Rattle.std.specs.Prelude.{IfSome, nat_lt, if◌then◌else◌}
+use Rattle.bosh_types.specs.Limits.{most_streams}
 use Rattle.std.proofs.lemmas.Bool.{cases_lt}
 use Rattle.std.proofs.lemmas.Bool.Decides.{nat_tests}
 use Rattle.std.proofs.lemmas.List.Elements.{All-head, All-tail}
@@ -20,14 +21,16 @@ use Rattle.rid_window.specs.StandsFor as windows
 use Rattle.session_core.specs.declared.held.HeldRequest.{HeldRequest}
 use Rattle.session_core.specs.declared.copy.RequestCopy.{RequestCopy}
 use Rattle.session_core.specs.declared.session.Session.{Session}
-use Rattle.session_core.specs.Copy.{id_of, with_id, items_of}
+use Rattle.session_core.specs.Copy.{id_of, is_add, is_prompt, with_id}
 use Rattle.session_core.specs.Kept.{keep_of}
-use Rattle.session_core.specs.Machine.{next_copy, with_copy}
+use Rattle.session_core.specs.Machine.{as_processed, next_copy, with_copy}
+use Rattle.session_core.specs.Processed.{Processed, items_by, items_of, targets_among}
 use Rattle.session_core.specs.Rules.{mark_of}
 use Rattle.session_core.specs.StandsFor.{Alike, Holds, IsLater, alike_of, held_of}
 use Rattle.session_core.specs.State.{PlainSession, last_of, answered_of, standing, standing_at, is_over}
 use Rattle.session_core.specs.Steps.{period_of}
 use Rattle.session_core.proofs.RunningLemmas.{run-push, latest-push, inward-push}
+use Rattle.session_core.proofs.StreamLemmas.{opened_for, processed_streams, streams_after}
 use Rattle.session_core.proofs.WindowLemmas.{after_some, later_at, none_beyond}
 
 at_first : (first copy : RequestCopy) (rid : ℕ) (rest : Option RequestCopy) (b : Bool) → (id_of first == rid) ≡ b → cond b (Some first) rest ≡ Some copy
@@ -122,13 +125,22 @@ pub taken_up : (s : Session) (plain : PlainSession) (copy : RequestCopy) (deadli
     → ((k : PlainKeep) → keeps.StandsFor s.keep k → acks ≡ after_request s.acks k copy.request.ack s.answered s.moment)
     → ((k : PlainKeep) → keeps.StandsFor s.keep k → keeps.StandsFor keep (keep_after s.acks k copy.request.ack))
     → ((w : PlainWindow RequestCopy) → windows.StandsFor s.window w → windows.StandsFor window (after_ready w))
-    → held ≡ s.held ++ held_of copy ∷ [] → queue ≡ s.inward ++ items_of copy
+    → held ≡ s.held ++ record { rid = id_of copy; arrived = copy.arrived; prompt = is_prompt copy; opened = opened_for s.streams copy } ∷ []
+    → queue ≡ s.inward ++ items_by copy (targets_among s.streams.running copy.request.stream) (opened_for s.streams copy)
+    → after.streams ≡ streams_after s.streams copy
     → alike_of after ≡ record (alike_of s) { pace = deadlines; key = key; reporting = acks }
     → after.keep ≡ keep → after.window ≡ window → after.held ≡ held → after.inward ≡ queue → after.last ≡ id_of copy
     → after.outbox ≡ s.outbox → after.tickets ≡ s.tickets → after.answered ≡ s.answered → after.latest ≡ mark_of copy → after.last_given ≡ s.last_given → after.last_bare ≡ s.last_bare
     → Holds after (with_copy plain copy)
-taken_up s plain copy deadlines key acks keep window held queue after h is dl ky ak kp wn hd qu al e_keep e_window e_held e_inward e_last e_outbox e_tickets e_answered e_latest e_given e_bare =
+taken_up s plain copy deadlines key acks keep window held queue after h is dl ky ak kp wn hd qu e_streams al e_keep e_window e_held e_inward e_last e_outbox e_tickets e_answered e_latest e_given e_bare =
     let next = next_stands plain copy is in
+    let one : Processed = as_processed plain copy in
+    let opened : opened_for s.streams copy ≡ one.opened =
+    (λ i. if is_add copy && nat_lt (h.streams.opened_is i) most_streams then Some (h.streams.opened_is i) else None) in
+    let holds : held ≡ s.held ++ held_of one ∷ [] =
+    hd ∙ (λ i. s.held ++ record { rid = id_of copy; arrived = copy.arrived; prompt = is_prompt copy; opened = opened i } ∷ []) in
+    let passes : queue ≡ s.inward ++ items_of one =
+    qu ∙ (λ i. s.inward ++ items_by copy (targets_among (h.streams.running_is i) copy.request.stream) (opened i)) in
     let at : at_id (map with_id (standing plain)) (s.last + 1) ≡ Some copy =
     ap (λ (last : ℕ). at_id (map with_id (standing plain)) (last + 1)) h.run.last_is ∙ next.1 in
     let id : id_of copy ≡ s.last + 1 = id_at (standing plain) (s.last + 1) copy at in
@@ -142,8 +154,8 @@ taken_up s plain copy deadlines key acks keep window held queue after h is dl ky
       alike =
           al ∙ (λ i. record (alike_of s) { pace = dl i; key = ky i; reporting = reporting i })
           ∙ ap (alike_after copy (keep_of plain) (answered_of plain)) h.alike;
-      run = rw (e_last, e_answered, e_held, hd) (run-push copy h.run id);
-      latest = rw (e_latest, e_given, e_bare) (latest-push copy h.latest);
+      run = rw (e_last, e_answered, e_held, holds) (run-push one h.run id);
+      latest = rw (e_latest, e_given, e_bare) (latest-push one h.latest);
       kept = record {
         keeps =
             let held_back = kp (keep_of plain) h.kept.keeps in
@@ -153,8 +165,9 @@ taken_up s plain copy deadlines key acks keep window held queue after h is dl ky
         ids = h.kept.ids;
         acked = acked_after plain.reporting (keep_of plain) copy.request.ack (id_of copy) h.kept.acked own.ack own.within;
       };
-      inward = rw (e_inward, qu) (inward-push copy h.inward);
+      inward = rw (e_inward, passes) (inward-push one h.inward);
       items = rw e_outbox h.items;
+      streams = rw e_streams (processed_streams h.streams copy);
       tickets = rw e_tickets h.tickets;
       window = record {
         stands =

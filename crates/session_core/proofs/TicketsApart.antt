@@ -1,16 +1,18 @@
 -- Processing, answering and ending a session neither ask for its tickets nor change them.
-use Rattle.std.proofs.Common.{◌≡◌, ℕ, zero, suc, ◌-◌, Bool, true, false, List, [], ◌∷◌, Option, Some, None, length, refl, ◌∙◌, ap}
+use Rattle.std.proofs.Common.{◌≡◌, ℕ, zero, suc, ◌-◌, ◌==◌, Bool, true, false, List, [], ◌∷◌, Option, Some, None, length, refl, ◌∙◌, ap}
 use Rattle.std.specs.Prelude.{if◌then◌else◌}
 use Rattle.bosh_types.specs.Rid.{greatest_rid}
 use Rattle.bosh_types.specs.declared.ending.Ending.{Ending}
+use Rattle.bosh_types.specs.declared.ending.Ending.TheVariants.{Closed}
 use Rattle.session_core.specs.declared.copy.RequestCopy.{RequestCopy}
 use Rattle.session_core.specs.Answers.{has_reason, has_reason_for, closed_by, with_answer, front_for, answer_oldest, settled_in, settled}
 use Rattle.session_core.specs.Copy.{id_of}
 use Rattle.session_core.specs.Endings.{ended}
-use Rattle.session_core.specs.Machine.{unless_terminate, with_copy, process, next_copy, advanced_in, advanced}
+use Rattle.session_core.specs.Machine.{as_processed, unless_terminate, with_copy, process, next_copy, advanced_in, advanced}
 use Rattle.session_core.specs.Outward.{Front, OfStanzas, OfClosing}
+use Rattle.session_core.specs.Processed.{Processed, ends}
 use Rattle.session_core.specs.Rules.{asked_of, broken_rule}
-use Rattle.session_core.specs.State.{PlainSession, Issued, held, last_of}
+use Rattle.session_core.specs.State.{PlainSession, Issued, held, last_of, running}
 
 -- the session with these tickets
 abbrev pub with_tickets : List Issued → PlainSession → PlainSession
@@ -23,10 +25,10 @@ module _ (tickets : List Issued) where
   terminate_apart false ending s = refl
 
   rule_apart : (o : Option Ending) (s : PlainSession) (copy : RequestCopy)
-      → (elim o as (λ x. PlainSession) [ Some ending ↦ ended ending (with_tickets tickets s) | None ↦ unless_terminate (with_copy (with_tickets tickets s) copy) copy ])
-      ≡ with_tickets tickets (elim o as (λ x. PlainSession) [ Some ending ↦ ended ending s | None ↦ unless_terminate (with_copy s copy) copy ])
+      → (elim o as (λ x. PlainSession) [ Some ending ↦ ended ending (with_tickets tickets s) | None ↦ unless_terminate (with_copy (with_tickets tickets s) copy) (as_processed s copy) ])
+      ≡ with_tickets tickets (elim o as (λ x. PlainSession) [ Some ending ↦ ended ending s | None ↦ unless_terminate (with_copy s copy) (as_processed s copy) ])
   rule_apart (Some ending) s copy = refl
-  rule_apart None s copy = terminate_apart copy.request.terminate _ (with_copy s copy)
+  rule_apart None s copy = terminate_apart (ends (as_processed s copy)) _ (with_copy s copy)
 
   pub process_apart : (s : PlainSession) (copy : RequestCopy) → process (with_tickets tickets s) copy ≡ with_tickets tickets (process s copy)
   process_apart s copy = rule_apart (broken_rule (asked_of s) copy) s copy
@@ -48,13 +50,13 @@ module _ (tickets : List Issued) where
 
   closed_apart : (rid : ℕ) (front : Front) (s : PlainSession) → closed_by rid front (with_tickets tickets s) ≡ with_tickets tickets (closed_by rid front s)
   closed_apart rid (OfStanzas items) s = refl
-  closed_apart rid (OfClosing stream closing) s = refl
+  closed_apart rid (OfClosing stream closing) s = terminate_apart (length (running s) == 0) (Closed closing rid) s
 
-  answer_apart : (s : PlainSession) (copies : List RequestCopy) → answer_oldest (with_tickets tickets s) copies ≡ with_tickets tickets (answer_oldest s copies)
+  answer_apart : (s : PlainSession) (copies : List Processed) → answer_oldest (with_tickets tickets s) copies ≡ with_tickets tickets (answer_oldest s copies)
   answer_apart s [] = refl
-  answer_apart s (oldest ∷ later) = closed_apart (id_of oldest) (front_for s oldest) (with_answer s (id_of oldest) (front_for s oldest))
+  answer_apart s (oldest ∷ later) = closed_apart (id_of oldest.copy) (front_for s oldest) (with_answer s oldest (front_for s oldest))
 
-  reason_apart : (s : PlainSession) (copies : List RequestCopy) → has_reason_for (with_tickets tickets s) copies ≡ has_reason_for s copies
+  reason_apart : (s : PlainSession) (copies : List Processed) → has_reason_for (with_tickets tickets s) copies ≡ has_reason_for s copies
   reason_apart s [] = refl
   reason_apart s (oldest ∷ later) = refl
 

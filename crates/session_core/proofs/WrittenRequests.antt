@@ -13,10 +13,11 @@ use Rattle.body_cutter.specs.BodyText.{IsBody}
 use Rattle.body_cutter.specs.Built.{Written}
 use Rattle.body_cutter.specs.Pieces.{IsNamed, bytes_at}
 use Rattle.body_cutter.proofs.NamePieces.{attributes_are_named}
+use Rattle.stream_names.specs.Streams.{name_of}
 use Rattle.body_writer.specs.declared.request.RequestParts.{RequestParts}
 use Rattle.body_writer.specs.Request.{request_text}
-use Rattle.body_writer.specs.RequestRows.{request_attributes, xmpp_rows, sid_rows, creation_rows, number_rows, key_rows, terminate_rows, version_rows, restart_rows}
-use Rattle.body_writer.specs.Rows.{httpbind_row, number_row}
+use Rattle.body_writer.specs.RequestRows.{request_attributes, xmpp_rows, sid_rows, creation_rows, host_rows, number_rows, key_rows, terminate_rows, version_rows, restart_rows}
+use Rattle.body_writer.specs.Rows.{httpbind_row, named_rows, number_row}
 use Rattle.body_writer.specs.ReadBack.{IsRequest}
 use Rattle.body_writer.proofs.RequestBlocks.{request_reads}
 use Rattle.session_attrs.specs.Forms.{number_of, pause_of, version_of, wish_of, ack_of, terminate_of, flag_of, is_httpbind}
@@ -75,17 +76,24 @@ unfolding version_rows
 looks_version None = looks_none (codes "xmpp:version")
 looks_version (Some creation) = looks_one _
 
-abbrev look_creation : Option (List ℕ × ℕ × ℕ) → List ℕ → Option (List ℕ) → Option (List ℕ)
-look_creation None name rest = rest
-look_creation (Some (to, wait, hold)) name rest =
+looks_named : (stream : Option ℕ) → Looks (named_rows stream) (look_for (codes "stream") (option_map name_of stream))
+unfolding named_rows
+looks_named None = looks_none (codes "stream")
+looks_named (Some stream) = looks_one _
+
+-- the host of a creation with what it asks for besides, or that of another request
+abbrev look_host : Option (List ℕ × ℕ × ℕ) → Option (List ℕ) → List ℕ → Option (List ℕ) → Option (List ℕ)
+look_host None to name rest = look_for (codes "to") to name rest
+look_host (Some (to, wait, hold)) other name rest =
     look_for (codes "to") (Some to) name (look_for (codes "xml:lang") (Some (codes "en")) name
     (look_for (codes "wait") (Some (decimal wait)) name (look_for (codes "hold") (Some (decimal hold)) name
     (look_for (codes "ver") (Some (codes "1.11")) name (look_for (codes "content") (Some (codes "text/xml; charset=utf-8")) name rest)))))
 
-looks_creation : (creation : Option (List ℕ × ℕ × ℕ)) → Looks (creation_rows creation) (look_creation creation)
-unfolding creation_rows
-looks_creation None = looks_nothing
-looks_creation (Some (to, wait, hold)) = record { gives = λ rest name. refl }
+looks_host : (creation : Option (List ℕ × ℕ × ℕ)) (to : Option (List ℕ)) → Looks (host_rows creation to) (look_host creation to)
+unfolding host_rows creation_rows
+looks_host None None = looks_none (codes "to")
+looks_host None (Some to) = looks_one _
+looks_host (Some (to, wait, hold)) other = record { gives = λ rest name. refl }
 
 -- each value of a request, by its name
 abbrev look_by : RequestParts → Option (List ℕ × ℕ × ℕ) → List ℕ → Option (List ℕ)
@@ -94,25 +102,27 @@ look_by parts creation name =
     (look_for (codes "xmlns:xmpp") (xmpp_value creation parts.restart) name
     (look_for (codes "rid") (Some (decimal parts.rid)) name
     (look_for (codes "sid") parts.sid name
-    (look_creation creation name
+    (look_for (codes "stream") (option_map name_of parts.stream) name
+    (look_host creation parts.to name
     (look_for (codes "ack") (option_map decimal parts.ack) name
     (look_for (codes "key") parts.key name
     (look_for (codes "newkey") parts.newkey name
     (look_for (codes "pause") (option_map decimal parts.pause) name
     (look_for (codes "type") (flag parts.terminate (codes "terminate")) name
     (look_for (codes "xmpp:version") (option_map (λ c. codes "1.0") creation) name
-    (look_for (codes "xmpp:restart") (flag parts.restart (codes "true")) name None)))))))))))
+    (look_for (codes "xmpp:restart") (flag parts.restart (codes "true")) name None))))))))))))
 
 looks_request : (parts : RequestParts) (name : List ℕ) → value_in (request_attributes parts) name ≡ look_by parts parts.creation name
 unfolding request_attributes
 looks_request parts name =
     let all =
-    looks_both (looks_both (looks_both (looks_both (looks_both (looks_both (looks_both (looks_both (looks_both (looks_both (looks_both
+    looks_both (looks_both (looks_both (looks_both (looks_both (looks_both (looks_both (looks_both (looks_both (looks_both (looks_both (looks_both
     (looks_one httpbind_row)
     (looks_xmpp parts.creation parts.restart))
     (looks_one (number_row (codes "rid") parts.rid)))
     (looks_sid parts.sid))
-    (looks_creation parts.creation))
+    (looks_named parts.stream))
+    (looks_host parts.creation parts.to))
     (looks_number (codes "ack") parts.ack))
     (looks_key (codes "key") parts.key))
     (looks_key (codes "newkey") parts.newkey))
@@ -160,13 +170,13 @@ later_means parts children rid later = record {
       ack = says_first (told (ack_of parts.rid)) None (option_map decimal parts.ack) parts.ack (says_ack parts.rid parts.ack rid later.ack);
       key = sym (first-none parts.key);
       pause = says_first (told pause_of) None (option_map decimal parts.pause) parts.pause (says_pause parts.pause later.pause);
-      stream = refl;
+      stream = sym (first-none (option_map name_of parts.stream));
       restart = says_first flag_of false (flag parts.restart (codes "true")) parts.restart (says_restart parts.restart);
       terminate = says_first terminate_of false (flag parts.terminate (codes "terminate")) parts.terminate (says_terminate parts.terminate);
     },
   );
   newkey = sym (first-none parts.newkey);
-  to = refl;
+  to = sym (first-none parts.to);
   stanzas = refl;
 }
 

@@ -1,7 +1,5 @@
 -- A copy: a request as it arrives at its session.
-use Rattle.std.specs.Prelude.{ℕ, Bool, ◌&&◌, ◌||◌, ◌==◌, not, is_some, List, [], ◌∷◌, ◌++◌, map, length, if◌then◌else◌}
-use Rattle.bosh_types.specs.declared.inward.Inward.{Inward}
-use Rattle.bosh_types.specs.declared.inward.Inward.TheVariants.{Item, Restart}
+use Rattle.std.specs.Prelude.{ℕ, Bool, ◌&&◌, ◌||◌, ◌==◌, not, is_some, List, map, length}
 use Rattle.body_cutter.specs.Pieces.{bytes_at}
 use Rattle.session_core.specs.declared.copy.RequestCopy.{RequestCopy}
 
@@ -29,14 +27,22 @@ abbrev pub is_empty : RequestCopy → Bool
 is_empty copy =
     ((length copy.request.stanzas == 0) && not (is_pause copy)) && not (copy.request.terminate || copy.request.restart)
 
--- the one stream of a session is the unnamed one
+-- it names a host and no stream
+abbrev pub names_host : RequestCopy → Bool
+names_host copy = is_some copy.request.to && not (is_some copy.request.stream)
+
+-- it carries nothing and names a host: it adds a stream to the session, XEP-0124 section 16
+abbrev pub is_add : RequestCopy → Bool
+is_add copy = is_empty copy && names_host copy
+
+-- it carries nothing and asks for nothing but an answer, XEP-0124 sections 11 and 12
+abbrev pub is_poll : RequestCopy → Bool
+is_poll copy = is_empty copy && not (names_host copy)
+
+-- it is answered at once, and its answer takes nothing: a pause or an add
+abbrev pub is_prompt : RequestCopy → Bool
+is_prompt copy = is_pause copy || is_add copy
+
+-- the stream with which a session begins
 abbrev pub unnamed : ℕ
 unnamed = 0
-
--- a restart of the stream, XEP-0206 section 5
-abbrev pub restart_item : Bool → List Inward
-restart_item restart = if restart then Restart unnamed ∷ [] else []
-
--- what it passes on towards the server: its stanzas in order, and then a restart if it asks for one
-abbrev pub items_of : RequestCopy → List Inward
-items_of copy = map (Item unnamed) (stanzas_of copy) ++ restart_item copy.request.restart

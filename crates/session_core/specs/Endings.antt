@@ -13,15 +13,15 @@ use Rattle.session_core.specs.State.{PlainSession}
 
 -- a terminal body, with its condition if there is one
 abbrev pub terminal : Option Condition → AnswerParts
-terminal condition = record { created = None; kind = Terminate; condition = condition; ack = None; report = None; payloads = [] }
+terminal condition = record { created = None; kind = Terminate; condition = condition; stream = None; ack = None; report = None; payloads = [] }
 
 -- a body that says nothing
 abbrev pub nothing : AnswerParts
-nothing = record { created = None; kind = Usual; condition = None; ack = None; report = None; payloads = [] }
+nothing = record { created = None; kind = Usual; condition = None; stream = None; ack = None; report = None; payloads = [] }
 
 -- the request counts as not received, and the client repeats it with all earlier ones that have no answer, XEP-0124 section 17.3
 abbrev pub error_parts : AnswerParts
-error_parts = record { created = None; kind = Error; condition = None; ack = None; report = None; payloads = [] }
+error_parts = record { created = None; kind = Error; condition = None; stream = None; ack = None; report = None; payloads = [] }
 
 abbrev pub error_text : List ℕ
 error_text = answer_text error_parts

@@ -1,3 +1,4 @@
+pub mod Added
 pub mod Answers
 pub mod Arriving
 pub mod Copy
@@ -12,6 +13,7 @@ pub mod Outward
 pub mod Passed
 pub mod Placed
 pub mod Points
+pub mod Processed
 pub mod Queue
 pub mod ReadBack
 pub mod Rules

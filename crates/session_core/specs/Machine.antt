@@ -2,7 +2,7 @@
 use Rattle.std.specs.Prelude.{ℕ, zero, suc, ◌+◌, ◌-◌, ◌*◌, ◌==◌, ◌&&◌, Bool, false, not, nat_lt, nat_le, List, [], ◌∷◌, ◌++◌, map, length, slice_get, slice_set, Option, Some, None, unwrap_or, if◌then◌else◌}
 use Rattle.std.specs.List.{list_any}
 use Rattle.std.specs.Option.{option_map, option_or}
-use Rattle.bosh_types.specs.Limits.{most_waiting, waiting_bytes}
+use Rattle.bosh_types.specs.Limits.{most_streams, most_waiting, waiting_bytes}
 use Rattle.bosh_types.specs.Rid.{greatest_rid}
 use Rattle.bosh_types.specs.declared.condition.Condition.{Condition}
 use Rattle.bosh_types.specs.declared.condition.Condition.TheVariants.{ItemNotFound, UndefinedCondition}
@@ -19,6 +19,7 @@ use Rattle.session_attrs.specs.declared.request.Kind.TheVariants as kinds
 use Rattle.session_attrs.specs.declared.request.Request.{Request}
 use Rattle.ack_report.specs.Report.{after_request, keep_after}
 use Rattle.key_sequence.specs.Current.{current_after}
+use Rattle.stream_names.specs.Streams.{is_among}
 use Rattle.session_core.specs.declared.copy.RequestCopy.{RequestCopy}
 use Rattle.session_core.specs.declared.opening.Opening.{Opening}
 use Rattle.session_core.specs.declared.outward.Outward.{Outward}
@@ -34,12 +35,13 @@ use Rattle.session_core.specs.declared.replies.Taken.TheVariants as takings
 use Rattle.session_core.specs.declared.replies.Ticked.{Ticked}
 use Rattle.session_core.specs.declared.replies.Ticked.TheVariants.{Changed, Quiet}
 use Rattle.session_core.specs.Answers.{settled}
-use Rattle.session_core.specs.Copy.{id_of, is_pause, unnamed}
+use Rattle.session_core.specs.Copy.{id_of, is_add, is_pause, unnamed}
 use Rattle.session_core.specs.Endings.{terminal, error_text, last_word, ended}
 use Rattle.session_core.specs.Kept.{answer_at, keep_of, kept_of, lowest_kept}
-use Rattle.session_core.specs.Outward.{OfStanzas, is_close, size_of_all}
+use Rattle.session_core.specs.Outward.{OfStanzas, is_close_of, size_of_all}
+use Rattle.session_core.specs.Processed.{Processed, ends}
 use Rattle.session_core.specs.Rules.{broken_rule, asked_of}
-use Rattle.session_core.specs.State.{PlainSession, Answered, Issued, TicketState, Waits, Replaced, Struck, UsedUp, Stands, last_of, answered_of, standing_at, waiting, inward, is_over}
+use Rattle.session_core.specs.State.{PlainSession, Answered, Issued, TicketState, Waits, Replaced, Struck, UsedUp, Stands, last_of, answered_of, standing_at, waiting, inward, is_over, opened_in, running}
 use Rattle.session_core.specs.Time.{time_applied, is_due}
 use Rattle.session_core.specs.Window.{place_of}
 
@@ -72,12 +74,13 @@ abbrev pub asks_ack : Kind → Bool
 asks_ack (kinds.Creation creation) = creation.asks_ack
 asks_ack (kinds.Later sid) = false
 
--- the creation's answer takes the whole greeting, and always carries `ack`
+-- the creation's answer takes the whole greeting, names the first stream, and always carries `ack`
 abbrev pub created_parts : Opening → AnswerParts
 created_parts o = record {
   created = Some (record { sid = o.sid; terms = o.terms; from = o.host });
   kind = Usual;
   condition = None;
+  stream = Some unnamed;
   ack = Some o.request.rid;
   report = None;
   payloads = o.greeting;
@@ -122,24 +125,32 @@ opened o = record {
 abbrev pub period_after : PlainSession → RequestCopy → ℕ
 period_after s copy = if is_pause copy then unwrap_or copy.request.pause s.terms.inactivity else s.terms.inactivity
 
+-- an add opens the next stream, where fewer than eight were opened, XEP-0124 section 16
+abbrev pub opened_by : PlainSession → RequestCopy → Option ℕ
+opened_by s copy =
+    if is_add copy && nat_lt (opened_in s.processed) most_streams then Some (opened_in s.processed) else None
+
+abbrev pub as_processed : PlainSession → RequestCopy → Processed
+as_processed s copy = record { copy = copy; running = running s; opened = opened_by s copy }
+
 -- a copy that breaks no rule is processed
 abbrev pub with_copy : PlainSession → RequestCopy → PlainSession
 with_copy s copy = record s {
-  processed = s.processed ++ copy ∷ [];
+  processed = s.processed ++ as_processed s copy ∷ [];
   key = current_after s.key copy.request.key copy.request.newkey;
   period = period_after s copy;
   acknowledged = (keep_after s.reporting (keep_of s) copy.request.ack).acknowledged;
   reporting = after_request s.reporting (keep_of s) copy.request.ack (answered_of s) s.now;
 }
 
--- a terminate ends the session after its stanzas, XEP-0124 section 13
-abbrev pub unless_terminate : PlainSession → RequestCopy → PlainSession
-unless_terminate s copy = if copy.request.terminate then ended (Terminated (id_of copy)) s else s
+-- a terminate after which no stream is open ends the session, XEP-0124 sections 13 and 16
+abbrev pub unless_terminate : PlainSession → Processed → PlainSession
+unless_terminate s one = if ends one then ended (Terminated (id_of one.copy)) s else s
 
 -- the copy is processed, or ends the session by the first rule that it breaks
 abbrev pub process : PlainSession → RequestCopy → PlainSession
 process s copy =
-    elim (broken_rule (asked_of s) copy) [ Some ending ↦ ended ending s | None ↦ unless_terminate (with_copy s copy) copy ]
+    elim (broken_rule (asked_of s) copy) [ Some ending ↦ ended ending s | None ↦ unless_terminate (with_copy s copy) (as_processed s copy) ]
 
 -- the copy that follows the last one processed
 abbrev pub next_copy : PlainSession → Option RequestCopy
@@ -246,9 +257,9 @@ collect s (suc index) = collected_from s index (slice_get s.tickets index)
 
 -- The server's side.
 
--- the stream is the session's, and the server didn't close it
+-- the stream is open, and the server didn't close it
 abbrev pub takes_items : PlainSession → ℕ → Bool
-takes_items s stream = (not (is_over s) && (stream == unnamed)) && not (list_any is_close s.given)
+takes_items s stream = (not (is_over s) && is_among (running s) stream) && not (list_any (is_close_of stream) s.given)
 
 -- 1024 items or 4,194,304 bytes may wait
 abbrev pub has_room : PlainSession → List ℕ → Bool

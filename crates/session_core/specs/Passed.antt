@@ -6,14 +6,13 @@ use Rattle.bosh_types.specs.declared.inward.Inward.TheVariants as inwards
 use Rattle.session_core.specs.declared.replies.Taken.{Taken}
 use Rattle.session_core.specs.declared.replies.Taken.TheVariants as takings
 use Rattle.session_core.specs.Copy.{unnamed}
-use Rattle.session_core.specs.Journal.{Arrive, Collect, Back, BackClosed, Tick, TakeInward, Entered, Made, Limit, Journal}
+use Rattle.session_core.specs.Journal.{Arrive, Collect, Back, BackClosed, Tick, TakeInward, Entered, Made, Limit, Journal, state_of}
 use Rattle.session_core.specs.Machine.{back, back_closed}
 use Rattle.session_core.specs.declared.outward.Outward.{Outward}
 use Rattle.session_core.specs.declared.outward.Outward.TheVariants.{Stanza, Close}
 use Rattle.session_core.specs.Outward.{items_in}
 use Rattle.session_core.specs.Points.{points_of}
-use Rattle.session_core.specs.Run.{run_of}
-use Rattle.session_core.specs.State.{PlainSession, Answered, items_of_all}
+use Rattle.session_core.specs.State.{PlainSession, Answered, inward}
 
 abbrev pub stream_of : Inward → ℕ
 stream_of (inwards.Item stream stanza) = stream
@@ -23,7 +22,7 @@ stream_of (inwards.Close stream) = stream
 
 -- what goes inward on a stream: the items of the run's copies, those of the creation first
 abbrev pub inward_of : Journal → ℕ → List Inward
-inward_of journal stream = filter (λ item. stream_of item == stream) (items_of_all (run_of journal))
+inward_of journal stream = filter (λ item. stream_of item == stream) (inward (state_of journal))
 
 -- whether an inward item is passed on
 abbrev pub passes : Entered → ℕ
@@ -37,7 +36,7 @@ passes (Limit kind cost now) = 0
 
 -- what was passed on to the server: one inward item from the front with each entry that took one
 abbrev pub passed_of : Journal → List Inward
-passed_of journal = take (sum_by (λ entry. passes entry.entered) journal.entries) (items_of_all (run_of journal))
+passed_of journal = take (sum_by (λ entry. passes entry.entered) journal.entries) (inward (state_of journal))
 
 abbrev pub if_done : Outward → Taken → Option Outward
 if_done item takings.Done = Some item

@@ -1,6 +1,7 @@
 -- What the text of a request means to the one who reads it.
 use Rattle.std.specs.Prelude.{◌≡◌, ℕ, ◌<◌, ◌≤◌, false, List, [], Option, None, Some, is_some, IsSome, IfSome}
-use Rattle.std.specs.Option.{unwrap_or}
+use Rattle.std.specs.Option.{option_map, unwrap_or}
+use Rattle.stream_names.specs.Streams.{name_of}
 use Rattle.body_cutter.specs.declared.parts.Span.{Span}
 use Rattle.body_writer.specs.declared.request.RequestParts.{RequestParts}
 use Rattle.session_attrs.specs.declared.request.Kind.TheVariants as kinds
@@ -40,8 +41,8 @@ asked_for parts children None = record {
   key = parts.key;
   newkey = parts.newkey;
   pause = parts.pause;
-  stream = None;
-  to = None;
+  stream = option_map name_of parts.stream;
+  to = parts.to;
   restart = parts.restart;
   terminate = parts.terminate;
   stanzas = children;

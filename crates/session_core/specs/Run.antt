@@ -85,11 +85,11 @@ abbrev pub key_after : Option (List ℕ) → List RequestCopy → Option (List �
 key_after key [] = key
 key_after key (copy ∷ copies) = key_after (current_after key copy.request.key copy.request.newkey) copies
 
--- with this entry copies of every id of these copies and of the next one first stood together: before it one of them lacked
-pub record Completes (o : Opening) (before : List Entry) (entry : Entry) (lower : List RequestCopy) : Type 0 where
-  pub together : (k : ℕ) → k ≤ length lower
+-- with this entry copies of so many ids after the creation's and of the next one first stood together: before it one of them lacked
+pub record Completes (o : Opening) (before : List Entry) (entry : Entry) (count : ℕ) : Type 0 where
+  pub together : (k : ℕ) → k ≤ count
       → (copy : RequestCopy) × IsReceived (placings_with o (before ++ entry ∷ [])) (o.request.rid + 1 + k) copy
-  pub not_yet : (k : ℕ) × (k ≤ length lower) × Lacks (placings_with o before) (o.request.rid + 1 + k)
+  pub not_yet : (k : ℕ) × (k ≤ count) × Lacks (placings_with o before) (o.request.rid + 1 + k)
 
 -- the state at which an entry's call is tested
 abbrev pub state_testing : Opening → List Entry → Entry → PlainSession

@@ -16,13 +16,16 @@ use Rattle.session_core.specs.declared.held.HeldRequest.{HeldRequest}
 use Rattle.session_core.specs.declared.copy.RequestCopy.{RequestCopy}
 use Rattle.session_core.specs.declared.outward.Outward.{Outward}
 use Rattle.session_core.specs.declared.session.Session.{Session}
-use Rattle.session_core.specs.Copy.{id_of, with_id, is_empty, is_pause}
+use Rattle.stream_names.specs.PlainStreams.{PlainStreams}
+use Rattle.stream_names.specs.Streams.{those}
+use Rattle.session_core.specs.Copy.{id_of, with_id, is_poll, is_prompt}
 use Rattle.session_core.specs.Kept.{kept_answer}
 use Rattle.session_core.specs.Machine.{bytes_for}
-use Rattle.session_core.specs.Outward.{is_close}
+use Rattle.session_core.specs.Outward.{is_close_of, takes_closing}
+use Rattle.session_core.specs.Processed.{Processed, as_creation, closes, copies_of, items_of_all}
 use Rattle.session_core.specs.Queue.{Queue}
 use Rattle.session_core.specs.Rules.{Asks, is_bare}
-use Rattle.session_core.specs.State.{PlainSession, Answered, last_error, last_from, standing, taken_by_answers, items_of_all}
+use Rattle.session_core.specs.State.{PlainSession, Answered, last_error, last_from, opened_in, running_in, standing, taken_by_answers}
 use Rattle.session_core.specs.TicketsOut.{AreOut}
 
 -- what a session keeps just as the plain one does
@@ -71,12 +74,13 @@ abbrev pub asks_of : Session → Asks
 asks_of s = record {
   key = s.keys;
   terms = s.deadlines.terms;
+  running = s.streams.running;
   held = length s.held;
   prior = record s.latest { bare = (length s.held == 0) && s.last_bare };
 }
 
-abbrev pub held_of : RequestCopy → HeldRequest
-held_of copy = record { rid = id_of copy; arrived = copy.arrived; pause = is_pause copy }
+abbrev pub held_of : Processed → HeldRequest
+held_of one = record { rid = id_of one.copy; arrived = one.copy.arrived; prompt = is_prompt one.copy; opened = one.opened }
 
 -- these are for the ids from this one on
 abbrev pub AreFrom : {X : Type 0} → (X → ℕ) → ℕ → List X → Type 0
@@ -84,34 +88,42 @@ AreFrom id rid [] = Unit {0}
 AreFrom id rid (x ∷ xs) = (id x ≡ rid) × AreFrom id (rid + 1) xs
 
 -- the highest ids, and what is held of the copies between them
-pub record HoldsRun (last answered : ℕ) (held : List HeldRequest) (creation : RequestCopy) (processed : List RequestCopy) (answers : List Answered) : Type 0 where
+pub record HoldsRun (last answered : ℕ) (held : List HeldRequest) (creation : RequestCopy) (processed : List Processed) (answers : List Answered) : Type 0 where
   pub last_is : last ≡ id_of creation + length processed
   pub answered_is : answered ≡ id_of creation + length answers
   pub within : length answers ≤ length processed
   pub held_is : held ≡ map held_of (drop (length answers) processed)
-  pub ids : AreFrom id_of (id_of creation + 1) processed
+  pub ids : AreFrom (λ one. id_of one.copy) (id_of creation + 1) processed
 
 -- what was not passed on of all that may go inward
-pub record HoldsInward (queue : List Inward) (passed : ℕ) (run : List RequestCopy) : Type 0 where
+pub record HoldsInward (queue : List Inward) (passed : ℕ) (run : List Processed) : Type 0 where
   pub queue_is : queue ≡ drop passed (items_of_all run)
   pub within : passed ≤ length (items_of_all run)
 
 -- what is known of the last copy and of the last answer
-pub record HoldsLast (latest : Mark) (last_given : ℕ) (last_bare : Bool) (creation : RequestCopy) (processed : List RequestCopy) (created : Answered) (answers : List Answered) : Type 0 where
+pub record HoldsLast (latest : Mark) (last_given : ℕ) (last_bare : Bool) (creation : RequestCopy) (processed : List Processed) (created : Answered) (answers : List Answered) : Type 0 where
   pub latest_is : latest ≡ record {
-    arrived = (last_from creation processed).arrived;
-    empty = is_empty (last_from creation processed);
+    arrived = (last_from creation (copies_of processed)).arrived;
+    empty = is_poll (last_from creation (copies_of processed));
     creation = length processed == 0;
     bare = false;
   }
   pub given_is : last_given ≡ (last_from created answers).moment
   pub bare_is : last_bare ≡ is_bare (last_from created answers)
 
--- what waits of all that the server gave, and whether it closed the stream
+-- what waits of all that the server gave, and which streams it closed
 pub record HoldsItems (outbox : Queue) (given : List Outward) (answers : List Answered) : Type 0 where
   pub outbox_is : outbox.items ≡ drop (taken_by_answers answers) given
   pub within : taken_by_answers answers ≤ length given
-  pub closed_is : outbox.closed ≡ list_any is_close given
+  pub closed_is : outbox.closed ≡ those (λ stream. list_any (is_close_of stream) given)
+
+-- how many streams were opened and which are open; of one that wasn't opened nothing is a closing
+pub record HoldsStreams (streams : PlainStreams) (processed : List Processed) (answers : List Answered) (given : List Outward) : Type 0 where
+  pub opened_is : streams.opened ≡ opened_in processed
+  pub running_is : streams.running ≡ running_in processed answers
+  pub later : (stream : ℕ) → opened_in processed ≤ stream →
+      (list_any (closes stream) processed ≡ false) × (list_any (λ answer. takes_closing stream answer.front) answers ≡ false)
+      × (list_any (is_close_of stream) given ≡ false)
 
 -- the kept answers of all that were given, which are for consecutive ids
 pub record HoldsKept (keep : Keep) (first requests acknowledged : ℕ) (created : Answered) (answers : List Answered) : Type 0 where
@@ -136,8 +148,9 @@ pub record Holds (s : Session) (plain : PlainSession) : Type 0 where
   pub run : HoldsRun s.last s.answered s.held plain.creation plain.processed plain.answered
   pub latest : HoldsLast s.latest s.last_given s.last_bare plain.creation plain.processed plain.created plain.answered
   pub kept : HoldsKept s.keep (id_of plain.creation) plain.terms.requests plain.acknowledged plain.created plain.answered
-  pub inward : HoldsInward s.inward plain.passed (plain.creation ∷ plain.processed)
+  pub inward : HoldsInward s.inward plain.passed (as_creation plain.creation ∷ plain.processed)
   pub items : HoldsItems s.outbox plain.given (plain.created ∷ plain.answered)
+  pub streams : HoldsStreams s.streams plain.processed plain.answered plain.given
   pub tickets : AreOut s.tickets plain.tickets (bytes_for plain)
   pub window : HoldsWindow s.window plain.terms.requests s.last plain.creation (standing plain)
 

@@ -1,15 +1,18 @@
 -- The plain state of a session: full lists, from which nothing is ever taken.
-use Rattle.std.specs.Prelude.{ℕ, ◌+◌, Bool, nat_lt, List, [], ◌∷◌, ◌++◌, ◌==◌, not, map, length, drop, sum_by, Option, filter, is_some}
+use Rattle.std.specs.Prelude.{ℕ, ◌+◌, ◌&&◌, Bool, nat_lt, List, [], ◌∷◌, ◌++◌, ◌==◌, not, map, length, drop, sum_by, Option, filter, is_some, if◌then◌else◌}
+use Rattle.std.specs.List.{list_any}
 use Rattle.bosh_types.specs.ById.{at_id}
 use Rattle.bosh_types.specs.declared.ending.Ending.{Ending}
 use Rattle.bosh_types.specs.declared.inward.Inward.{Inward}
 use Rattle.bosh_types.specs.declared.terms.Terms.{Terms}
 use Rattle.ack_report.specs.Reporting.{Reporting}
+use Rattle.stream_names.specs.Streams.{is_among, those}
 use Rattle.session_core.specs.declared.copy.RequestCopy.{RequestCopy}
 use Rattle.session_core.specs.declared.outward.Outward.{Outward}
 use Rattle.session_core.specs.declared.replies.Waiting.{Waiting}
-use Rattle.session_core.specs.Copy.{id_of, with_id, items_of}
-use Rattle.session_core.specs.Outward.{Front, items_in, size_of_all}
+use Rattle.session_core.specs.Copy.{id_of, with_id}
+use Rattle.session_core.specs.Outward.{Front, items_in, size_of_all, takes_closing}
+use Rattle.session_core.specs.Processed.{Processed, as_creation, closes, copies_of, items_of_all}
 
 -- an answer that was given: its id and bytes, when it was given, and what it took of the server's items
 pub record Answered : Type 0 where
@@ -42,7 +45,7 @@ pub record PlainSession : Type 0 where
   pub terms : Terms
   -- what came to the places of later ids, and the copies that were processed, in the order of ids
   pub placings : List Placing
-  pub processed : List RequestCopy
+  pub processed : List Processed
   -- what the next key has to lead to, and the seconds of silence that are allowed now
   pub key : Option (List ℕ)
   pub period : ℕ
@@ -76,14 +79,14 @@ first_of s = id_of s.creation
 
 -- what was processed, the creation first, and the answers, that of the creation first
 abbrev pub run : PlainSession → List RequestCopy
-run s = s.creation ∷ s.processed
+run s = s.creation ∷ copies_of s.processed
 
 abbrev pub answers : PlainSession → List Answered
 answers s = s.created ∷ s.answered
 
 -- the copy that was processed last, and the answer that was given last
 abbrev pub last_copy : PlainSession → RequestCopy
-last_copy s = last_from s.creation s.processed
+last_copy s = last_from s.creation (copies_of s.processed)
 
 abbrev pub last_answer : PlainSession → Answered
 last_answer s = last_from s.created s.answered
@@ -97,7 +100,7 @@ abbrev pub answered_of : PlainSession → ℕ
 answered_of s = first_of s + length s.answered
 
 -- processed and not answered, the oldest first
-abbrev pub held : PlainSession → List RequestCopy
+abbrev pub held : PlainSession → List Processed
 held s = drop (length s.answered) s.processed
 
 -- the copies of all other ids
@@ -146,10 +149,26 @@ waiting_counts s = record { items = length (waiting s); bytes = size_of_all (wai
 abbrev pub is_over : PlainSession → Bool
 is_over s = is_some s.ending
 
-abbrev pub items_of_all : List RequestCopy → List Inward
-items_of_all [] = []
-items_of_all (copy ∷ copies) = items_of copy ++ items_of_all copies
-
 -- what may go inward: the items of the run
 abbrev pub inward : PlainSession → List Inward
-inward s = items_of_all (run s)
+inward s = items_of_all (as_creation s.creation ∷ s.processed)
+
+-- how many streams were opened, the creation's among them
+abbrev pub opened_in : List Processed → ℕ
+opened_in processed = 1 + sum_by (λ one. if is_some one.opened then 1 else 0) processed
+
+-- a stream is open where it was opened, and neither a terminate nor an answer that took its closing closed it
+abbrev pub is_open_in : List Processed → List Answered → ℕ → Bool
+is_open_in processed answers stream =
+    nat_lt stream (opened_in processed)
+    && (not (list_any (closes stream) processed) && not (list_any (λ answer. takes_closing stream answer.front) answers))
+
+-- the open streams, in the order of their numbers
+abbrev pub running_in : List Processed → List Answered → List ℕ
+running_in processed answers = those (is_open_in processed answers)
+
+abbrev pub running : PlainSession → List ℕ
+running s = running_in s.processed s.answered
+
+abbrev pub is_running : PlainSession → ℕ → Bool
+is_running s stream = is_among (running s) stream

@@ -2,11 +2,11 @@
 ghost use Rattle.std.specs.Prelude.{◌≡◌, is_some, length};
 ghost use Rattle.session_core.specs.Machine.{collect, take_inward};
 ghost use Rattle.session_core.specs.StandsFor.{StandsFor};
-ghost use Rattle.session_core.specs.State.{PlainSession, waiting_counts};
+ghost use Rattle.session_core.specs.State.{PlainSession, is_running, waiting_counts};
 
 use crate::replies::{Collected, Waiting};
 use crate::session::Session;
-use bosh_types::{Ending, Inward, Ticket};
+use bosh_types::{Ending, Inward, StreamNo, Ticket};
 
 impl Session {
     /// What there is for a ticket (XEP-0124). `Answer` comes once, with the answer that its request was given, or its last word where
@@ -53,6 +53,14 @@ impl Session {
         ensures { (plain : PlainSession) → StandsFor self.now plain → result ≡ plain.ending }
     {
         self.ending
+    }
+
+    /// Whether this stream is open (XEP-0124, section 16).
+    #[tactic(auto, unfolding(crate::specs::StandsFor::StandsFor))]
+    pub fn is_running(&self, stream: StreamNo) -> bool
+        ensures { (plain : PlainSession) → StandsFor self.now plain → result ≡ is_running plain stream }
+    {
+        self.streams.running().contains(stream)
     }
 
     /// What waits for the client: what the server gave and no answer took yet.

@@ -1,5 +1,5 @@
 ghost use Rattle.std.specs.Prelude.{◌≡◌, IfOk};
-ghost use Rattle.session_core.specs.Copy.{is_empty, is_extra, is_pause};
+ghost use Rattle.session_core.specs.Copy.{is_add, is_empty, is_extra, is_pause, is_poll, is_prompt, names_host};
 ghost use Rattle.session_core.specs.Rules.{mark_of};
 
 use body_cutter::Spans;
@@ -45,13 +45,41 @@ impl RequestCopy {
             && !(self.request.terminate || self.request.restart)
     }
 
+    // Whether it names a host and no stream.
+    fn names_host(&self) -> bool
+        ensures { result ≡ names_host self.now }
+    {
+        self.request.to.is_some() && self.request.stream.is_none()
+    }
+
+    /// Whether it adds a stream to its session (XEP-0124, section 16).
+    pub(crate) fn is_add(&self) -> bool
+        ensures { result ≡ is_add self.now }
+    {
+        self.is_empty() && self.names_host()
+    }
+
+    /// Whether it carries nothing and asks for nothing but an answer (XEP-0124, sections 11 and 12).
+    pub(crate) fn is_poll(&self) -> bool
+        ensures { result ≡ is_poll self.now }
+    {
+        self.is_empty() && !self.names_host()
+    }
+
+    /// Whether it is answered at once, and its answer takes nothing.
+    pub(crate) fn is_prompt(&self) -> bool
+        ensures { result ≡ is_prompt self.now }
+    {
+        self.is_pause() || self.is_add()
+    }
+
     /// What the rule on activity asks of it.
     pub(crate) fn mark(&self) -> Mark
         ensures { result ≡ mark_of self.now }
     {
         Mark {
             arrived: self.arrived,
-            empty: self.is_empty(),
+            empty: self.is_poll(),
             creation: false,
             bare: false,
         }

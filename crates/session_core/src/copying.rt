@@ -19,6 +19,7 @@ impl Session {
         let inward = self.inward.copied(alloc)?;
         let outbox = self.outbox.copied(alloc)?;
         let tickets = self.tickets.copied(alloc)?;
+        let streams = self.streams.copied();
         Ok(Session {
             deadlines: self.deadlines,
             keys,
@@ -31,6 +32,7 @@ impl Session {
             latest: self.latest,
             last_given: self.last_given,
             last_bare: self.last_bare,
+            streams,
             inward,
             outbox,
             tickets,

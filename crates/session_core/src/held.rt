@@ -3,6 +3,7 @@ ghost use Rattle.std.specs.List.{list_any};
 ghost use Rattle.pause_rules.specs.Due.{IsFirstMoment, is_wait_due};
 ghost use Rattle.session_core.specs.Due.{earlier};
 
+use crate::added::AddedStream;
 use bosh_types::{CopyIn, Moment, Rid, copy_queue};
 use pause_rules::Deadlines;
 use std::alloc::{AllocError, Global};
@@ -15,8 +16,11 @@ pub struct HeldRequest {
     pub rid: Rid,
     /// When it arrived.
     pub arrived: Moment,
-    /// Whether it asks for a pause (XEP-0124, section 10).
-    pub pause: bool,
+    /// Whether it is answered at once, and its answer takes nothing: it asks for a pause or adds a stream (XEP-0124, sections 10
+    /// and 16).
+    pub prompt: bool,
+    /// The stream that it opened.
+    pub opened: AddedStream,
 }
 
 impl CopyIn for HeldRequest {
@@ -88,11 +92,11 @@ impl HeldRequests {
         first
     }
 
-    /// Whether one of them is a pause.
-    pub fn any_pause(&self) -> bool
-        ensures { result ≡ list_any (λ held. held.pause) self.now }
+    /// Whether one of them is answered at once.
+    pub fn any_prompt(&self) -> bool
+        ensures { result ≡ list_any (λ held. held.prompt) self.now }
     {
-        self.requests.iter().any(|request| request.pause)
+        self.requests.iter().any(|request| request.prompt)
     }
 
     /// It is held, as the youngest.

@@ -2,6 +2,7 @@
 // request is answered, and when the session ends. `Session` is a session as a manager holds it.
 #![tactic(auto)]
 
+mod added;
 mod answering;
 mod arriving;
 mod collecting;
@@ -28,6 +29,7 @@ mod timing;
 mod words;
 mod written;
 
+pub use added::AddedStream;
 pub use copy::{RequestCopy, copied_request};
 pub use counting::{PLAIN_COST, cost_of_body, cost_of_stanza};
 pub use held::{HeldRequest, HeldRequests};

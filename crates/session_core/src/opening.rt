@@ -15,18 +15,21 @@ use crate::counting::cost_of_body;
 use crate::held::HeldRequests;
 use crate::inbox::Inbox;
 use crate::outbox::Outbox;
-use crate::processing::pass_inward;
+use crate::processing::{pass_inward, targets_among};
 use crate::session::Session;
 use crate::tickets::Tickets;
 use ack_report::Acks;
 use body_writer::{AnswerKind, AnswerParts, Created, write_answer};
-use bosh_types::{CopyIn, KeptAnswer, Moment, Rid, SharedText, Stanzas, Terms, Text, copy_items};
+use bosh_types::{
+    CopyIn, KeptAnswer, Moment, Rid, SharedText, Stanzas, StreamNo, Terms, Text, copy_items,
+};
 use key_sequence::KeyCheck;
 use pause_rules::{Deadlines, Mark};
 use reply_keep::Keep;
 use rid_window::Window;
 use session_attrs::{Kind, Request};
 use std::alloc::{AllocError, Global};
+use stream_names::Streams;
 
 /// What opens a session: the request that creates it and what the manager has for it (XEP-0124, section 7).
 #[derive(Debug, Drop)]
@@ -53,7 +56,7 @@ pub struct Opening {
 
 impl Session {
     /// Opens a session and gives the body that answers its creation (XEP-0124, section 7; XEP-0206): with the terms, the
-    /// whole greeting, and an `ack`. The only error is want of memory.
+    /// whole greeting, the name of the first stream, and an `ack`. The only error is want of memory.
     pub fn open(alloc: Global, opening: &Opening) -> Result<(Session, SharedText), AllocError>
         requires { IsOpening opening.now }
         ensures session { IfOk result (λ made. StandsFor made.0 (opened opening.now)) }
@@ -83,6 +86,7 @@ fn first_text(alloc: Global, opening: &Opening) -> Result<SharedText, AllocError
         created: Some(created),
         kind: AnswerKind::Usual,
         condition: None,
+        stream: Some(StreamNo::unnamed()),
         ack: Some(opening.request.rid),
         report: None,
         payloads: Stanzas::from_vec(copy_items(alloc, opening.greeting.as_slice())?),
@@ -117,12 +121,14 @@ fn first_session(
     };
     let latest = Mark {
         arrived: now,
-        empty: copy.is_empty(),
+        empty: copy.is_poll(),
         creation: true,
         bare: false,
     };
     let mut inward = Inbox::new(alloc);
-    pass_inward(alloc, &mut inward, &copy)?;
+    let streams = Streams::new();
+    let targets = targets_among(&streams, copy.request.stream.as_ref());
+    pass_inward(alloc, &mut inward, &copy, &targets, &None)?;
     let window = first_window(alloc, rid, terms.requests, SharedCopy::new(alloc, copy)?)?;
     let keep = first_keep(alloc, rid, terms.requests + 1, answer)?;
     Ok(Session {
@@ -137,6 +143,7 @@ fn first_session(
         latest,
         last_given: now,
         last_bare,
+        streams,
         inward,
         outbox: Outbox::new(alloc),
         tickets: Tickets::new(alloc),

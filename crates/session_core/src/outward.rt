@@ -1,3 +1,6 @@
+ghost use Rattle.std.specs.Prelude.{◌≡◌};
+ghost use Rattle.session_core.specs.Outward.{stream_in};
+
 use bosh_types::{Closing, CopyIn, Row, SharedText, StreamNo};
 use std::alloc::{AllocError, Global};
 
@@ -8,6 +11,18 @@ pub enum Outward {
     Stanza(StreamNo, SharedText),
     /// It closed the stream.
     Close(StreamNo, Closing),
+}
+
+impl Outward {
+    /// The stream that it lies on.
+    pub fn stream(&self) -> StreamNo
+        ensures { result ≡ stream_in self.now }
+    {
+        match self {
+            Outward::Stanza(stream, _) => *stream,
+            Outward::Close(stream, _) => *stream,
+        }
+    }
 }
 
 impl CopyIn for Outward {

@@ -1,4 +1,4 @@
-// When the oldest held request is answered (XEP-0124, sections 7.1, 9, 10, 11 and 12).
+// When the oldest held request is answered (XEP-0124, sections 7.1, 9, 10, 11, 12 and 16).
 ghost use Rattle.std.specs.Prelude.{◌≡◌, is_some};
 ghost use Rattle.session_core.specs.Answers.{has_reason};
 ghost use Rattle.session_core.specs.StandsFor.{StandsFor};
@@ -33,7 +33,7 @@ impl Session {
         let Some(oldest) = self.held.oldest() else {
             return false;
         };
-        if !self.outbox.is_empty() && !oldest.pause {
+        if !self.outbox.is_empty() && !oldest.prompt {
             return true;
         }
         self.is_pressed(moment)
@@ -50,7 +50,7 @@ impl Session {
         if self.held.any_wait_due(&self.deadlines, moment) {
             return true;
         }
-        if self.held.any_pause() {
+        if self.held.any_prompt() {
             return true;
         }
         self.acks.report_due().is_some() || terms.polled

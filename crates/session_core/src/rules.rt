@@ -1,14 +1,15 @@
 // What a copy breaks when it is processed.
 ghost use Rattle.std.specs.Prelude.{◌≡◌, ◌≤◌, ◌&&◌, ◌==◌, length, min, IsTrue};
-ghost use Rattle.std.specs.Option.{SomeIff};
+ghost use Rattle.std.specs.Option.{SomeIff, option_copied};
 ghost use Rattle.pause_rules.specs.Overactive.{apart, is_overactive};
-ghost use Rattle.session_core.specs.Rules.{Pauses, Activity, breaks, broken_rule};
+ghost use Rattle.session_core.specs.Rules.{Pauses, Activity, breaks, broken_rule, names_none};
 ghost use Rattle.session_core.specs.StandsFor.{asks_of};
 
 use crate::copy::RequestCopy;
 use crate::session::Session;
-use bosh_types::Ending;
+use bosh_types::{Ending, Text};
 use pause_rules::{Deadlines, Mark};
+use stream_names::Streams;
 
 impl Session {
     /// How the copy ends the session by the first rule that it breaks. It changes nothing.
@@ -19,7 +20,7 @@ impl Session {
         if !self.keys.fits(copy.request.key.as_ref()) {
             return Some(Ending::WrongKey { rid });
         }
-        if copy.request.stream.is_some() {
+        if names_none(&self.streams, copy.request.stream.as_ref()) {
             return Some(Ending::UnknownStream { rid });
         }
         let too_long = self.pause_too_long(copy);
@@ -66,6 +67,16 @@ impl Session {
             creation: self.latest.creation,
             bare: self.held.len() == 0 && self.last_bare,
         }
+    }
+}
+
+// Whether this names a stream that isn't open.
+fn names_none(streams: &Streams, name: Option<&Text>) -> bool
+    ensures { result ≡ names_none streams.now.running (option_copied name.entry) }
+{
+    match name {
+        None => false,
+        Some(name) => streams.running().find(name.as_slice()).is_none(),
     }
 }
 

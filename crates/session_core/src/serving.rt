@@ -1,7 +1,8 @@
-// The server's side of a session: it gives stanzas for the client, and closes the stream.
-ghost use Rattle.std.specs.Prelude.{◌≡◌, IfOk, IsTrue, OnErr, false, true};
+// The server's side of a session: it gives stanzas for the client, and closes streams.
+ghost use Rattle.std.specs.Prelude.{◌≡◌, ◌&&◌, IfOk, IsTrue, OnErr, false, not, true};
 ghost use Rattle.body_cutter.specs.Cutting.{is_stanza};
 ghost use Rattle.session_core.specs.Machine.{back, back_closed, back_in_time, closed_in_time, plain_cost, takes_items};
+ghost use Rattle.stream_names.specs.Streams.{is_among};
 ghost use Rattle.session_core.specs.StandsFor.{StandsFor};
 ghost use Rattle.session_core.specs.State.{PlainSession, is_over};
 ghost use Rattle.session_core.specs.Steps.{Does};
@@ -40,7 +41,7 @@ impl Session {
     }
 
     /// The server closes the stream: what it gave before goes to the client, then that it closed (XEP-0206, section 8),
-    /// and the session ends with the answer that says so. The answers are those of `back`; a closing is never `Full`.
+    /// and the session ends with the answer that says so of the last open stream. The answers are those of `back`; a closing is never `Full`.
     #[tactic(auto, unfolding(crate::specs::StandsFor::StandsFor))]
     pub fn back_closed(
         &mut self,
@@ -140,12 +141,23 @@ impl Session {
         Ok(Taken::Done)
     }
 
-    // Whether the session goes on, and the stream is its own, which the server didn't close.
+    // Whether the session goes on, and the stream is open, which the server didn't close.
     #[tactic(auto, unfolding(crate::specs::StandsFor::StandsFor))]
     fn takes_items(&self, stream: StreamNo) -> bool
-        ensures open { result ≡ true → self.now.outbox.closed ≡ false }
+        ensures unclosed { result ≡ true → is_among self.now.outbox.closed stream ≡ false }
         ensures of_plain { (plain : PlainSession) → StandsFor self.now plain → result ≡ takes_items plain stream }
     {
-        self.ending.is_none() && stream == StreamNo::unnamed() && !self.outbox.is_closed()
+        // The proof learns here that it is below 8.
+        let _number = stream.number();
+        let runs = self.streams.running().contains(stream);
+        let closed = self.outbox.is_closed(stream);
+        takes(self.ending.is_some(), runs, closed)
     }
+}
+
+// Whether a session that is over or not takes items on a stream that is open or not, and that the server closed or not.
+fn takes(over: bool, runs: bool, closed: bool) -> bool
+    ensures { result ≡ ((not over && runs) && not closed) }
+{
+    !over && runs && !closed
 }

@@ -9,6 +9,7 @@ use key_sequence::KeyCheck;
 use pause_rules::{Deadlines, Mark};
 use reply_keep::Keep;
 use rid_window::Window;
+use stream_names::Streams;
 
 /// One session of a client with a server, apart from every connection, clock and thread (XEP-0124, XEP-0206). It keeps what
 /// its next calls need and forgets the rest.
@@ -29,6 +30,8 @@ pub struct Session {
     pub(crate) latest: Mark,
     pub(crate) last_given: Moment,
     pub(crate) last_bare: bool,
+    // How many streams were opened, and which are open.
+    pub(crate) streams: Streams,
     // What goes inward and was not taken yet.
     pub(crate) inward: Inbox,
     // What the server gave and no answer took yet.

@@ -124,6 +124,7 @@ impl LastWord {
             created: None,
             kind,
             condition,
+            stream: None,
             ack: None,
             report: None,
             payloads: Stanzas::from_vec(Vec::new(alloc)),

@@ -9,7 +9,7 @@ use Rattle.session_core.specs.declared.replies.Collected.TheVariants as collecti
 use Rattle.session_core.specs.declared.session.Session.{Session}
 use Rattle.session_core.specs.Journal as plain
 use Rattle.session_core.specs.Journal.{Journal, IsJournal, IsAllowed, MayEnter, state_of, reply_of, step, entered_by, collected_entry}
-use Rattle.session_core.specs.Machine.{collect, full_with, is_full, take_inward}
+use Rattle.session_core.specs.Machine.{collect, full_with, is_full, plain_cost, take_inward}
 use Rattle.session_core.specs.StandsFor.{StandsFor}
 use Rattle.session_core.specs.State.{PlainSession, is_over}
 use Rattle.session_core.specs.Tickets.{uses_up}
@@ -34,6 +34,17 @@ use Rattle.session_journal.proofs.SeenLemmas.{journal_later, map_there, one_ther
 use Rattle.session_laws.specs.Growing.{with_later}
 use Rattle.session_laws.proofs.OneMore.{last_may, one_entry_more, state_one_more}
 use Rattle.session_laws.proofs.Tests.{both_true, none_some, not_true, some_is, true_false}
+
+-- a tick is entered as itself exactly where something is due and its entry fits
+
+tick_by : (now : ℕ) (due full : Bool) → (due && not full) ≡ is_itself (if due then Some (if full then plain.Limit plain.Time plain_cost now else plain.Made (plain.Tick now)) else None)
+tick_by now true true = refl
+tick_by now true false = refl
+tick_by now false true = refl
+tick_by now false false = refl
+
+pub tick_enters : (s : PlainSession) (now : ℕ) → ticks s now ≡ is_itself (entered_by s (plain.Tick now))
+tick_enters s now = tick_by now (is_due s now) (is_full s plain_cost)
 
 -- what is stored is determined by what it tells
 

@@ -3,6 +3,7 @@ ghost use Rattle.body_writer.specs.Answer.{answer_text};
 ghost use Rattle.session_core.specs.Journal.{Collect, IsAllowed, IsOpening, ToCollect};
 ghost use Rattle.session_core.specs.Machine.{created_parts};
 ghost use Rattle.pause_rules.specs.Due.{IsFirstMoment};
+ghost use Rattle.session_core.specs.State.{is_running};
 ghost use Rattle.session_core.specs.Time.{is_due};
 ghost use Rattle.session_journal.specs.Calls.{IsReplyTo, call_in, reply_in};
 ghost use Rattle.session_journal.specs.declared.entry.Entered.TheVariants as stored;
@@ -15,7 +16,7 @@ use crate::entry::{Entry, Limited};
 use crate::recorded::Recorded;
 use crate::redoing::{Again, Redone, asked_again};
 use crate::storing::{make_room, store, uses_up};
-use bosh_types::{Ending, Moment, SharedText, Ticket};
+use bosh_types::{Ending, Moment, SharedText, StreamNo, Ticket};
 use session_core::{Collected, Opening};
 use std::alloc::{AllocError, Global};
 use std::marker::Model;
@@ -195,6 +196,13 @@ impl Journalled {
         ensures { After self.now (λ plain. IsFirstMoment (is_due plain) result) }
     {
         self.recorded.due()
+    }
+
+    /// Whether this stream is open (XEP-0124, section 16).
+    pub fn is_running(&self, stream: StreamNo) -> bool
+        ensures { After self.now (λ plain. result ≡ is_running plain stream) }
+    {
+        self.recorded.is_running(stream)
     }
 
     /// Why the session ended: `None` while it goes on.

@@ -3,7 +3,7 @@ ghost use Rattle.parked_gate.specs.Histories.{Appends};
 ghost use Rattle.body_writer.specs.Answer.{answer_text};
 ghost use Rattle.session_core.specs.Journal.{Arrive, Back, BackClosed, Collect, IsAllowed, IsOpening, TakeInward, Tick, ToArrive, ToBack, ToCollect, ToTakeInward, ToTick};
 ghost use Rattle.session_core.specs.Machine.{created_parts};
-ghost use Rattle.session_core.specs.State.{waiting_counts};
+ghost use Rattle.session_core.specs.State.{is_running, waiting_counts};
 ghost use Rattle.pause_rules.specs.Due.{IsFirstMoment};
 ghost use Rattle.session_core.specs.Time.{is_due};
 ghost use Rattle.session_journal.specs.Calls.{IsReplyTo, call_in, reply_in};
@@ -348,6 +348,13 @@ impl Recorded {
             is_inward: self.session.has_inward(),
             ending: self.session.ending(),
         }
+    }
+
+    /// Whether this stream is open (XEP-0124, section 16).
+    pub fn is_running(&self, stream: StreamNo) -> bool
+        ensures { After self.now.log (λ plain. result ≡ is_running plain stream) }
+    {
+        self.session.is_running(stream)
     }
 
     /// Why the session ended: `None` while it goes on.

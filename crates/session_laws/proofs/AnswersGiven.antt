@@ -13,7 +13,7 @@ use Rattle.session_core.specs.Answers.{front_of, longest_front, fit_one_answer, 
 use Rattle.session_core.specs.Copy.{id_of}
 use Rattle.session_core.specs.Endings.{ended}
 use Rattle.session_core.specs.Journal.{Journal, IsJournal, state_of}
-use Rattle.session_core.specs.Machine.{opened, with_copy}
+use Rattle.session_core.specs.Machine.{as_processed, opened, with_copy}
 use Rattle.session_core.specs.State.{Stands, Strikes, PlainSession, Answered}
 use Rattle.session_laws.specs.Answering.{WasGiven, IsLongestFront}
 use Rattle.session_laws.specs.Growing.{Begins}
@@ -53,11 +53,11 @@ all_given = record {
   ends = λ t ending on p k answer is. moved t (ended ending t) k answer refl refl refl refl (begins_same t.processed) (begins_same t.given) (p k answer is);
   aside = λ t tickets now last_arrival passed counted p k answer is. moved t (record t { tickets = tickets; now = now; last_arrival = last_arrival; passed = passed; counted = counted }) k answer refl refl refl refl (begins_same t.processed) (begins_same t.given) (p k answer is);
   answers = λ t oldest later front is on reason taken p k answer at.
-      let new : Answered = record { rid = id_of oldest; bytes = answer_text (answer_parts t (id_of oldest) front); moment = t.now; front = front } in
+      let new : Answered = record { rid = id_of oldest.copy; bytes = answer_text (answer_parts t oldest front); moment = t.now; front = front } in
       elim (get_push t.answered new k answer at) [
         | inl there ↦
             let within : k < length t.answered = get_within t.answered k answer there in
-            moved t (with_answer t (id_of oldest) front) k answer refl refl refl (sym (take-append-le k t.answered (new ∷ []) (omega arith))) (begins_same t.processed) (begins_same t.given) (p k answer there)
+            moved t (with_answer t oldest front) k answer refl refl refl (sym (take-append-le k t.answered (new ∷ []) (omega arith))) (begins_same t.processed) (begins_same t.given) (p k answer there)
         | inr last ↦ record {
           earlier = t;
           oldest = oldest;
@@ -69,10 +69,10 @@ all_given = record {
           held_is = is;
           goes_on = on;
           reason = reason;
-          answer_is = sym last.1 ∙ ap (λ (f : Front). record { rid = id_of oldest; bytes = answer_text (answer_parts t (id_of oldest) f); moment = t.now; front = f }) (sym taken);
+          answer_is = sym last.1 ∙ ap (λ (f : Front). record { rid = id_of oldest.copy; bytes = answer_text (answer_parts t oldest f); moment = t.now; front = f }) (sym taken);
         }
       ];
-  processes = λ t copy on stands broken p k answer is. moved t (with_copy t copy) k answer refl refl refl refl (copy ∷ [], refl) (begins_same t.given) (p k answer is);
+  processes = λ t copy on stands broken p k answer is. moved t (with_copy t copy) k answer refl refl refl refl (as_processed t copy ∷ [], refl) (begins_same t.given) (p k answer is);
   stands = λ t copy above none small p k answer is. moved t (record t { placings = t.placings ++ Stands copy ∷ [] }) k answer refl refl refl refl (begins_same t.processed) (begins_same t.given) (p k answer is);
   strikes = λ t rid on is_due p k answer is. moved t (record t { placings = t.placings ++ Strikes rid t.now ∷ [] }) k answer refl refl refl refl (begins_same t.processed) (begins_same t.given) (p k answer is);
   gives = λ t item p k answer is. moved t (record t { given = t.given ++ item ∷ [] }) k answer refl refl refl refl (begins_same t.processed) (item ∷ [], refl) (p k answer is);

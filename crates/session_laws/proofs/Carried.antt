@@ -1,5 +1,6 @@
 -- A client that sends one body for each id: what goes inward is what its bodies carry, in order, each once.
-use Rattle.std.proofs.Common.{◌≡◌, ℕ, suc, ◌+◌, ◌<◌, All, List, [], ◌∷◌, ◌++◌, Some, Ok, Result, length, slice_get, get_or, refl, sym, ◌∙◌, ap, ap₂, arith, subst, length-append}
+use Rattle.std.proofs.Common.{◌≡◌, ℕ, zero, suc, ◌+◌, ◌<◌, All, List, [], ◌∷◌, ◌++◌, Option, Some, Ok, Result, length, slice_get, get_or, refl, sym, ◌∙◌, ap, ap₂, arith, subst, length-append}
+use Rattle.std.specs.Option.{option_map}
 use Rattle.std.proofs.lemmas.Option.{get_or_from_slice_get}
 use Rattle.std.proofs.lemmas.List.Elements.{All-cons, All-nil, All-append}
 use Rattle.bosh_types.specs.declared.inward.Inward.{Inward}
@@ -9,15 +10,16 @@ use Rattle.session_attrs.specs.declared.request.Request.{Request}
 use Rattle.session_attrs.specs.Reading.{request_of}
 use Rattle.session_attrs.specs.Values.{values_of}
 use Rattle.session_core.specs.declared.copy.RequestCopy.{RequestCopy}
-use Rattle.session_core.specs.Copy.{id_of, items_of}
+use Rattle.session_core.specs.Copy.{id_of}
 use Rattle.session_core.specs.Journal.{Entered, Entry, Journal, IsJournal, IsReadFrom, IsMade, MayEnter, none, more, state_of}
 use Rattle.session_core.specs.Machine.{creation_of}
+use Rattle.session_core.specs.Processed.{Processed, as_creation, items_by, items_of, items_of_all, targets_among}
 use Rattle.session_core.specs.Run.{moment_after, arrival_in, arrivals_from, arrivals_of, placings_of, run_of, IsRun}
-use Rattle.session_core.specs.State.{PlainSession, inward, items_of_all}
-use Rattle.session_laws.specs.OneBody.{Carries, carried, SendsOneBody, RunCarries}
+use Rattle.session_core.specs.State.{PlainSession, inward, run}
+use Rattle.session_laws.specs.OneBody.{Carries, all_processed, carried, SendsOneBody, RunCarries}
 use Rattle.session_laws.proofs.Arrivals.{every_arrived}
 use Rattle.session_laws.proofs.Steps.{entry-by}
-use Rattle.session_laws.proofs.Lists.{get_within}
+use Rattle.session_laws.proofs.Lists.{copies_length, get_copies, get_within}
 
 IsRead : RequestCopy → Type 0
 IsRead copy = IsReadFrom copy.body copy.request
@@ -57,15 +59,15 @@ one_reading body q r first second =
     let cut : first.0 ≡ second.0 = ok_is (body_cut_of body) (body_cut_of body) first.0 second.0 refl first.1 second.1 in
     ok_is (request_of (values_of body first.0.attrs) first.0.children) (request_of (values_of body second.0.attrs) second.0.children) q r (ap (λ (c : Cut). request_of (values_of body c.attrs) c.children) cut) first.2 second.2
 
-carries_items : (copy : RequestCopy) (body : List ℕ) (items : List Inward) → copy.body ≡ body → IsReadFrom copy.body copy.request → Carries body items → items_of copy ≡ items
-carries_items copy body items is read carries =
-    let same : copy.request ≡ carries.request = one_reading body copy.request carries.request (subst (λ b. IsReadFrom b copy.request) is read) carries.read in
-    ap₂ (λ r b. items_of (record { request = r; body = b; arrived = 0 })) same is ∙ sym carries.are
+carries_items : (one : Processed) (body : List ℕ) (items : List Inward) → one.copy.body ≡ body → IsReadFrom one.copy.body one.copy.request → Carries body one.running one.opened items → items_of one ≡ items
+carries_items one body items is read carries =
+    let same : one.copy.request ≡ carries.request = one_reading body one.copy.request carries.request (subst (λ b. IsReadFrom b one.copy.request) is read) carries.read in
+    ap₂ (λ (r : Request) (b : List ℕ). items_by (record { request = r; body = b; arrived = 0 }) (targets_among one.running r.stream) one.opened) same is ∙ sym carries.are
 
-run_carried : (items : ℕ → List Inward) (first : ℕ) (run : List RequestCopy) → ((k : ℕ) (copy : RequestCopy) → slice_get run k ≡ Some copy → items_of copy ≡ items (first + k)) → items_of_all run ≡ carried items first (length run)
+run_carried : (items : ℕ → List Inward) (first : ℕ) (run : List Processed) → ((k : ℕ) (one : Processed) → slice_get run k ≡ Some one → items_of one ≡ items (first + k)) → items_of_all run ≡ carried items first (length run)
 run_carried items first [] each = refl
-run_carried items first (copy ∷ run) each =
-    ap₂ (λ here later. here ++ later) (each 0 copy refl ∙ ap items zero_more) (run_carried items (first + 1) run (λ k c is. each (suc k) c is ∙ ap items (next k)))
+run_carried items first (one ∷ run) each =
+    ap₂ (λ here later. here ++ later) (each 0 one refl ∙ ap items zero_more) (run_carried items (first + 1) run (λ k c is. each (suc k) c is ∙ ap items (next k)))
   where
     zero_more : first + 0 ≡ first
     zero_more = omega arith
@@ -75,10 +77,17 @@ run_carried items first (copy ∷ run) each =
 
 pub every_one_body : (journal : Journal) → IsJournal journal → IsRun journal.opening.request.rid (placings_of journal) (run_of journal) → (bodies : ℕ → List ℕ) (items : ℕ → List Inward) → SendsOneBody bodies journal → RunCarries bodies items journal
     → inward (state_of journal) ≡ carried items journal.opening.request.rid (length (run_of journal))
-every_one_body journal made run bodies items sends carries = run_carried items journal.opening.request.rid (run_of journal)
-    (λ k copy is.
+every_one_body journal made is_run bodies items sends carries =
+    let s : PlainSession = state_of journal in
+    run_carried items journal.opening.request.rid (all_processed s)
+    (λ k one is.
     let rid : ℕ = journal.opening.request.rid + k in
-    let received = run k copy is in
-    let came = every_arrived journal made rid copy received in
-    let body : copy.body ≡ bodies rid = all_get (λ (c : RequestCopy). c.body ≡ bodies (id_of c)) (arrivals_of journal) came.0 copy came.1 sends ∙ ap bodies received.0 in
-    carries_items copy (bodies rid) (items rid) body (all_get (λ (c : RequestCopy). IsReadFrom c.body c.request) (arrivals_of journal) came.0 copy came.1 (all_read journal made)) (carries k (get_within (run_of journal) k copy is)))
+    let received = is_run k one.copy (all_copies s k one is) in
+    let came = every_arrived journal made rid one.copy received in
+    let body : one.copy.body ≡ bodies rid = all_get (λ (c : RequestCopy). c.body ≡ bodies (id_of c)) (arrivals_of journal) came.0 one.copy came.1 sends ∙ ap bodies received.0 in
+    carries_items one (bodies rid) (items rid) body (all_get (λ (c : RequestCopy). IsReadFrom c.body c.request) (arrivals_of journal) came.0 one.copy came.1 (all_read journal made)) (carries k one is))
+    ∙ ap (carried items journal.opening.request.rid) (ap suc (sym (copies_length s.processed)))
+  where
+    all_copies : (s : PlainSession) (k : ℕ) (one : Processed) → slice_get (all_processed s) k ≡ Some one → slice_get (run s) k ≡ Some one.copy
+    all_copies s zero one is = ap (λ (o : Option Processed). option_map (λ (p : Processed). p.copy) o) is
+    all_copies s (suc k) one is = get_copies s.processed k one is

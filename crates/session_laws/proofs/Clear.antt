@@ -13,7 +13,8 @@ use Rattle.session_core.specs.Answers.{settled}
 use Rattle.session_core.specs.Endings.{ended}
 use Rattle.session_core.specs.Journal.{Entered, Entry, Journal, IsJournal, IsMade, after_entry, after_entries, state_of, MayEnter}
 use Rattle.session_core.specs.declared.opening.Opening.{Opening}
-use Rattle.session_core.specs.Machine.{opened, next_copy, process, advanced_in, advanced, placed, bytes_for, wait_at, copy_now, arrived_in_time, with_cost, body_cost, stanza_cost, plain_cost, takes_items, has_room, with_copy, unless_terminate}
+use Rattle.session_core.specs.Machine.{as_processed, opened, next_copy, process, advanced_in, advanced, placed, bytes_for, wait_at, copy_now, arrived_in_time, with_cost, body_cost, stanza_cost, plain_cost, takes_items, has_room, with_copy, unless_terminate}
+use Rattle.session_core.specs.Processed.{Processed, ends}
 use Rattle.session_core.specs.Rules.{broken_rule, asked_of}
 use Rattle.session_core.specs.State.{PlainSession, first_of, last_of, standing_at, is_over}
 use Rattle.session_core.specs.Time.{time_applied}
@@ -35,8 +36,8 @@ over_clear s over on =
 
 clear_answering : Answering IsClear
 clear_answering = record {
-  stanzas = λ s oldest later items is on reason front p. p;
-  closes = λ s oldest later stream closing is on reason front p over. absurd (true_false over);
+  gives = λ s oldest later front is on reason due other p. p;
+  closes = λ s oldest later stream closing is on reason due last p over. absurd (true_false over);
 }
 
 clear_waiting : Waiting IsClear
@@ -54,12 +55,12 @@ IsEnough count s = IsSound s × (is_over s ≡ false → greatest_rid ≤ last_o
 abbrev IsFurther : PlainSession → PlainSession → Type 0
 IsFurther s u = is_over u ≡ false → last_of u ≡ last_of s + 1
 
-further_by : (s : PlainSession) (copy : RequestCopy) (o : Option Ending) → IsFurther s (elim o [ Some ending ↦ ended ending s | None ↦ unless_terminate (with_copy s copy) copy ])
+further_by : (s : PlainSession) (copy : RequestCopy) (o : Option Ending) → IsFurther s (elim o [ Some ending ↦ ended ending s | None ↦ unless_terminate (with_copy s copy) (as_processed s copy) ])
 further_by s copy (Some ending) = λ over. absurd (true_false over)
-further_by s copy None = split (IsFurther s) (copy.request.terminate) _ (with_copy s copy) (λ last over. absurd (true_false over)) (λ further on. count_push (first_of s) s.processed copy)
+further_by s copy None = split (IsFurther s) (ends (as_processed s copy)) _ (with_copy s copy) (λ last over. absurd (true_false over)) (λ further on. count_push (first_of s) s.processed (as_processed s copy))
   where
-    count_push : (first : ℕ) (processed : List RequestCopy) (copy : RequestCopy) → first + length (processed ++ copy ∷ []) ≡ first + length processed + 1
-    count_push first processed copy = omega (arith, length_push processed copy)
+    count_push : (first : ℕ) (processed : List Processed) (one : Processed) → first + length (processed ++ one ∷ []) ≡ first + length processed + 1
+    count_push first processed one = omega (arith, length_push processed one)
 
 next_enough : (count : ℕ) (s : PlainSession) (copy : RequestCopy) → is_over s ≡ false → standing_at s (last_of s + 1) ≡ Some copy → IsEnough (suc count) s → IsEnough count (process s copy)
 next_enough count s copy on stands enough = (

@@ -1,5 +1,5 @@
 -- Where the state says that a session has to have ended, it has: a terminate, a closing, a broken rule, silence.
-use Rattle.std.proofs.Common.{◌≡◌, ℕ, ◌+◌, ◌*◌, ◌<◌, ◌≤◌, ◌==◌, ◌&&◌, ◌||◌, Bool, true, false, not, List, [], ◌∷◌, ◌++◌, Some, nat_lt, nat_le, is_some, length, max, refl, sym, ◌∙◌, ap, subst, arith, if◌then◌else◌, length-drop, inl, inr}
+use Rattle.std.proofs.Common.{◌≡◌, ℕ, ◌+◌, ◌*◌, ◌<◌, ◌≤◌, ◌==◌, ◌&&◌, ◌||◌, Bool, true, false, not, List, [], ◌∷◌, ◌++◌, Option, Some, nat_lt, nat_le, is_some, length, max, slice_get, refl, sym, ◌∙◌, ap, subst, arith, if◌then◌else◌, length-drop, inl, inr}
 use Rattle.std.specs.List.{list_any, filter}
 use Rattle.std.proofs.lemmas.Bool.{leb-false}
 use Rattle.std.proofs.lemmas.Bool.Decides.{nat_tests}
@@ -11,18 +11,19 @@ use Rattle.bosh_types.specs.declared.ending.Ending.{Ending}
 use Rattle.bosh_types.specs.declared.ending.Ending.TheVariants as endings
 use Rattle.session_core.specs.declared.copy.RequestCopy.{RequestCopy}
 use Rattle.session_core.specs.declared.outward.Front.{Front}
-use Rattle.session_core.specs.declared.outward.Front.TheVariants.{OfStanzas, OfClosing}
+use Rattle.session_core.specs.declared.outward.Front.TheVariants.{OfClosing}
 use Rattle.session_core.specs.Answers.{with_answer, answer_parts, settled}
 use Rattle.session_core.specs.Copy.{id_of}
+use Rattle.session_core.specs.Endings.{ended}
 use Rattle.session_core.specs.Facts.{TookClosing}
 use Rattle.session_core.specs.Journal.{Entered, Journal, IsJournal, after_entry, state_of, MayEnter}
 use Rattle.body_writer.specs.Answer.{answer_text}
-use Rattle.session_core.specs.declared.outward.Outward.{Outward}
 use Rattle.session_core.specs.Gap.{struck}
-use Rattle.session_core.specs.Machine.{opened, greeting_of, with_copy, advanced, placed}
+use Rattle.session_core.specs.Machine.{as_processed, opened, with_copy, advanced, placed}
 use Rattle.session_core.specs.declared.opening.Opening.{Opening}
+use Rattle.session_core.specs.Processed.{Processed, ends}
 use Rattle.session_core.specs.Rules.{broken_rule, asked_of}
-use Rattle.session_core.specs.State.{PlainSession, Answered, Issued, last_from, last_of, last_answer, held, beyond, standing, standing_at, is_over}
+use Rattle.session_core.specs.State.{PlainSession, Answered, Issued, last_from, last_of, last_answer, held, beyond, running, running_in, standing, standing_at, is_over}
 use Rattle.session_core.specs.Time.{time_applied, at_moment, last_told, owes_nothing_beyond, quiet_of, is_silent}
 use Rattle.pause_rules.specs.Due.{is_silent_due}
 use Rattle.session_core.specs.Window.{is_open}
@@ -33,26 +34,47 @@ use Rattle.session_laws.proofs.Clear.{IsClear, advanced_clear}
 use Rattle.session_laws.proofs.SoundLemmas.{IsSound, sound_steady, opened_sound}
 use Rattle.session_laws.proofs.Moves.{answering, processing, waits}
 use Rattle.session_laws.proofs.Steadily.{steady-placed}
+use Rattle.session_laws.proofs.OpenStreams.{answer_leaves_some, copy_leaves_some, opened_some}
+use Rattle.session_laws.proofs.Lists.{get_push}
 use Rattle.session_laws.proofs.Phases.{Phases, phase-entry}
 use Rattle.session_laws.proofs.Steps.{along}
 
--- a copy that terminates
-abbrev pub ends_it : RequestCopy → Bool
-ends_it copy = copy.request.terminate
-
--- while the session goes on, no terminate was processed
+-- while the session goes on, no terminate was processed that ends it
 abbrev pub NoTerminate : PlainSession → Type 0
-NoTerminate s = is_over s ≡ false → list_any (λ copy. copy.request.terminate) s.processed ≡ false
+NoTerminate s = is_over s ≡ false → list_any ends s.processed ≡ false
 
 abbrev pub TerminateEnds : PlainSession → Type 0
-TerminateEnds s = (before : List RequestCopy) (copy : RequestCopy) → s.processed ≡ before ++ copy ∷ [] → copy.request.terminate ≡ true → s.ending ≡ Some (endings.Terminated (id_of copy))
+TerminateEnds s = (before : List Processed) (one : Processed) → s.processed ≡ before ++ one ∷ [] → ends one ≡ true → s.ending ≡ Some (endings.Terminated (id_of one.copy))
+
+-- while it goes on, a stream is open, as one was at each copy that was processed; where none is and no terminate ended the session, the
+-- closing that was taken last did
+pub record ClosingLists (ending : Option Ending) (processed : List Processed) (created : Answered) (answered : List Answered) : Type 0 where
+  pub some : is_some ending ≡ false → (length (running_in processed answered) == 0) ≡ false
+  pub each : (k : ℕ) (one : Processed) → slice_get processed k ≡ Some one → (length one.running == 0) ≡ false
+  pub told : list_any ends processed ≡ false → running_in processed answered ≡ [] → (rid : ℕ) (closing : Closing)
+      → TookClosing (last_from created answered) rid closing → ending ≡ Some (endings.Closed closing rid)
 
 abbrev pub ClosingEnds : PlainSession → Type 0
-ClosingEnds s = (rid : ℕ) (closing : Closing) → TookClosing (last_answer s) rid closing → s.ending ≡ Some (endings.Closed closing rid)
+ClosingEnds s = ClosingLists s.ending s.processed s.created s.answered
+
+-- one is open
+open_tells : (s : PlainSession) → (length (running s) == 0) ≡ false → ((k : ℕ) (one : Processed) → slice_get s.processed k ≡ Some one → (length one.running == 0) ≡ false) → ClosingEnds s
+open_tells s some each = record {
+  some = λ on. some;
+  each = each;
+  told = λ none empty rid closing took. absurd (true_false (sym (ap (λ (xs : List ℕ). length xs == 0) empty) ∙ some));
+}
+
+-- one was open when a terminate was processed
+push_each : (s : PlainSession) (copy : RequestCopy) → is_over s ≡ false → ClosingEnds s → (k : ℕ) (one : Processed) → slice_get (s.processed ++ as_processed s copy ∷ []) k ≡ Some one → (length one.running == 0) ≡ false
+push_each s copy on p k one at = elim (get_push s.processed (as_processed s copy) k one at) [
+  | inl there ↦ p.each k one there
+  | inr last ↦ sym (ap (λ (x : Processed). length x.running == 0) last.1) ∙ p.some on
+]
 
 -- the copy that follows broke a rule, if no terminate was processed
 abbrev pub BreakerEnds : PlainSession → Type 0
-BreakerEnds s = is_over s ≡ true → (copy : RequestCopy) → standing_at s (last_of s + 1) ≡ Some copy → list_any (λ copy. copy.request.terminate) s.processed ≡ false → s.ending ≡ broken_rule (asked_of s) copy
+BreakerEnds s = is_over s ≡ true → (copy : RequestCopy) → standing_at s (last_of s + 1) ≡ Some copy → list_any ends s.processed ≡ false → s.ending ≡ broken_rule (asked_of s) copy
 
 abbrev pub SilenceEnds : PlainSession → Type 0
 SilenceEnds s = length (held s) ≡ 0 → owes_nothing_beyond s ≡ true → quiet_of s + s.period * 1000 < s.now → s.ending ≡ Some (endings.Silent (quiet_of s) s.now)
@@ -82,18 +104,15 @@ quiet_beyond s gap = split (λ quiet. s.last_arrival ≤ quiet) (length (beyond 
 answered_now : (s : PlainSession) → s.now ≤ (last_answer s).moment → quiet_of s + s.period * 1000 < s.now → ⊥
 answered_now s later silent = omega (arith, quiet_after s)
 
-no_stanzas : (items : List Outward) (stream : ℕ) (closing : Closing) → OfStanzas items ≡ OfClosing stream closing → ⊥
-no_stanzas items stream closing is = cc
-
 same_closing : (stream other : ℕ) (closing taken : Closing) → OfClosing stream closing ≡ OfClosing other taken → closing ≡ taken
 same_closing stream other closing taken is = cc
 
 -- the answer that was given last
-module _ (s : PlainSession) (rid : ℕ) (front : Front) where
-  pub answer_last : last_answer (with_answer s rid front) ≡ record { rid = rid; bytes = answer_text (answer_parts s rid front); moment = s.now; front = front }
+module _ (s : PlainSession) (one : Processed) (front : Front) where
+  pub answer_last : last_answer (with_answer s one front) ≡ record { rid = id_of one.copy; bytes = answer_text (answer_parts s one front); moment = s.now; front = front }
   answer_last = last_push s.created s.answered _
 
-  answer_moment : s.now ≤ (last_answer (with_answer s rid front)).moment
+  answer_moment : s.now ≤ (last_answer (with_answer s one front)).moment
   answer_moment = omega (arith, ap (λ (a : Answered). a.moment) answer_last)
 
 -- what is kept but for the time
@@ -106,38 +125,42 @@ EndedNow s = is_over s ≡ true → s.now ≤ (last_answer s).moment
 
 timeless_answering : Answering Timeless
 timeless_answering = record {
-  stanzas = λ s oldest later items is on reason front p. (
-    (answering IsSound sound_steady).stanzas s oldest later items is on reason front p.0,
+  gives = λ s oldest later front is on reason due other p. (
+    (answering IsSound sound_steady).gives s oldest later front is on reason due other p.0,
     p.1,
     p.2,
     p.3,
-    λ rid closing took. absurd (no_stanzas items took.1.0 closing (sym (ap (λ (a : Answered). a.front) (answer_last s (id_of oldest) (OfStanzas items))) ∙ took.1.1)),
+    open_tells (with_answer s oldest front) (answer_leaves_some s oldest front (p.4.some on) other) p.4.each,
     λ over. absurd (over_or_on s over on),
   );
-  closes = λ s oldest later stream closing is on reason front p. (
-    (answering IsSound sound_steady).closes s oldest later stream closing is on reason front p.0,
+  closes = λ s oldest later stream closing is on reason due last p. (
+    (answering IsSound sound_steady).closes s oldest later stream closing is on reason due last p.0,
     λ goes. absurd (true_false goes),
     λ goes. absurd (true_false goes),
-    λ before copy same last. absurd (no_ending s _ on (p.3 before copy same last)),
-    λ rid taken took.
-        let a = answer_last s (id_of oldest) (OfClosing stream closing) in
-        let id : id_of oldest ≡ rid = sym (ap (λ (x : Answered). x.rid) a) ∙ took.0 in
-        let same : closing ≡ taken = same_closing stream took.1.0 closing taken (sym (ap (λ (x : Answered). x.front) a) ∙ took.1.1) in
-        ap (λ c. Some (endings.Closed c (id_of oldest))) same ∙ ap (λ r. Some (endings.Closed taken r)) id,
+    λ before one same ends_so. absurd (no_ending s _ on (p.3 before one same ends_so)),
+    record {
+      some = λ goes. absurd (true_false goes);
+      each = p.4.each;
+      told = λ none empty rid taken took.
+          let a = answer_last s oldest (OfClosing stream closing) in
+          let id : id_of oldest.copy ≡ rid = sym (ap (λ (x : Answered). x.rid) a) ∙ took.0 in
+          let same : closing ≡ taken = same_closing stream took.1.0 closing taken (sym (ap (λ (x : Answered). x.front) a) ∙ took.1.1) in
+          ap (λ c. Some (endings.Closed c (id_of oldest.copy))) same ∙ ap (λ r. Some (endings.Closed taken r)) id;
+    },
     λ over copy stands none. absurd (none_some (standing_at s (last_of s + 1)) copy (p.1 on) stands),
   );
 }
 
 now_answering : Answering EndedNow
 now_answering = record {
-  stanzas = λ s oldest later items is on reason front p over. answer_moment s (id_of oldest) (OfStanzas items);
-  closes = λ s oldest later stream closing is on reason front p over. answer_moment s (id_of oldest) (OfClosing stream closing);
+  gives = λ s oldest later front is on reason due other p over. answer_moment s oldest front;
+  closes = λ s oldest later stream closing is on reason due last p over. answer_moment s oldest (OfClosing stream closing);
 }
 
 silence_answering : Answering SilenceEnds
 silence_answering = record {
-  stanzas = λ s oldest later items is on reason front p none nothing silent. absurd (answered_now (with_answer s (id_of oldest) (OfStanzas items)) (answer_moment s (id_of oldest) (OfStanzas items)) silent);
-  closes = λ s oldest later stream closing is on reason front p none nothing silent. absurd (answered_now (with_answer s (id_of oldest) (OfClosing stream closing)) (answer_moment s (id_of oldest) (OfClosing stream closing)) silent);
+  gives = λ s oldest later front is on reason due other p none nothing silent. absurd (answered_now (with_answer s oldest front) (answer_moment s oldest front) silent);
+  closes = λ s oldest later stream closing is on reason due last p none nothing silent. absurd (answered_now (with_answer s oldest (OfClosing stream closing)) (answer_moment s oldest (OfClosing stream closing)) silent);
 }
 
 -- what every state keeps
@@ -195,22 +218,22 @@ time_ends s now on p =
       t.0,
       λ over. absurd (true_false over),
       λ over. absurd (true_false over),
-      λ before copy same last. absurd (no_ending v _ goes (t.3 before copy same last)),
-      λ rid closing took. absurd (no_ending v _ goes (t.4 rid closing took)),
+      λ before one same ends_so. absurd (no_ending v _ goes (t.3 before one same ends_so)),
+      open_tells (ended (endings.Silent (quiet_of v) v.now) v) (t.4.some goes) t.4.each,
       λ over copy stands none. absurd (none_some (standing_at v (last_of v + 1)) copy (t.1 goes) stands),
       λ none nothing later. refl,
     ))
     (λ none. (t.0, t.1, t.2, t.3, t.4, t.5, not_silent v e none))
 
 -- what is kept while copies are processed
-abbrev pub Processed : PlainSession → Type 0
-Processed s = IsSound s × NoTerminate s × TerminateEnds s × ClosingEnds s × BreakerEnds s × SilenceEnds s
+abbrev pub Underway : PlainSession → Type 0
+Underway s = IsSound s × NoTerminate s × TerminateEnds s × ClosingEnds s × BreakerEnds s × SilenceEnds s
 
 or_false : (a b : Bool) → a ≡ false → b ≡ false → a || b || false ≡ false
 or_false a b is also = cc
 
-pub any_push : (copies : List RequestCopy) (copy : RequestCopy) (b : Bool) → copy.request.terminate ≡ b → list_any (λ copy. copy.request.terminate) (copies ++ copy ∷ []) ≡ (list_any (λ copy. copy.request.terminate) copies || (b || false))
-any_push copies copy b is = list_any-append (λ (c : RequestCopy). c.request.terminate) copies (copy ∷ []) ∙ ap (λ x. list_any (λ (c : RequestCopy). c.request.terminate) copies || (x || false)) is
+pub any_push : (processed : List Processed) (one : Processed) (b : Bool) → ends one ≡ b → list_any ends (processed ++ one ∷ []) ≡ (list_any ends processed || (b || false))
+any_push processed one b is = list_any-append ends processed (one ∷ []) ∙ ap (λ x. list_any ends processed || (x || false)) is
 
 pub or_none : (a : Bool) → a ≡ false → (a || (false || false)) ≡ false
 or_none true is = absurd (true_false is)
@@ -220,36 +243,43 @@ or_some : (a : Bool) → (a || (true || false)) ≡ true
 or_some true = refl
 or_some false = refl
 
-held_some : (s : PlainSession) (copy : RequestCopy) → IsSound s → length (held (with_copy s copy)) ≡ 0 → ⊥
-held_some s copy sound none = omega (arith, sound.few, none, length-drop (length s.answered) (s.processed ++ copy ∷ []), length_push s.processed copy)
+some_ends : (s : PlainSession) (copy : RequestCopy) → ends (as_processed s copy) ≡ true → list_any ends (s.processed ++ as_processed s copy ∷ []) ≡ true
+some_ends s copy last = any_push s.processed (as_processed s copy) true last ∙ or_some (list_any ends s.processed)
 
-pub processed_processing : Processing Processed
-processed_processing = record {
+held_some : (s : PlainSession) (copy : RequestCopy) → IsSound s → length (held (with_copy s copy)) ≡ 0 → ⊥
+held_some s copy sound none = omega (arith, sound.few, none, length-drop (length s.answered) (s.processed ++ as_processed s copy ∷ []), length_push s.processed (as_processed s copy))
+
+pub underway_processing : Processing Underway
+underway_processing = record {
   processes = λ s copy on stands broken further p. (
     (processing IsSound sound_steady).processes s copy on stands broken further p.0,
-    λ goes. any_push s.processed copy false further ∙ or_none (list_any (λ (c : RequestCopy). c.request.terminate) s.processed) (p.1 goes),
-    λ before last same terminates.
-        let is : copy ≡ last = (same_from_push s.processed before copy last same).1 in
-        absurd (true_false (sym terminates ∙ ap (λ (c : RequestCopy). c.request.terminate) (sym is) ∙ further)),
-    p.3,
+    λ goes. any_push s.processed (as_processed s copy) false further ∙ or_none (list_any ends s.processed) (p.1 goes),
+    λ before last same ends_so.
+        let is : as_processed s copy ≡ last = (same_from_push s.processed before (as_processed s copy) last same).1 in
+        absurd (true_false (sym ends_so ∙ ap ends (sym is) ∙ further)),
+    open_tells (with_copy s copy) (copy_leaves_some s copy (p.3.some on) further) (push_each s copy on p.3),
     λ over. absurd (over_or_on s over on),
     λ none nothing silent. absurd (held_some s copy p.0 none),
   );
   terminates = λ s copy on stands broken last p. (
     (processing IsSound sound_steady).terminates s copy on stands broken last p.0,
     λ goes. absurd (true_false goes),
-    λ before other same terminates.
-        let is : copy ≡ other = (same_from_push s.processed before copy other same).1 in
-        ap (λ (c : RequestCopy). Some (endings.Terminated (id_of c))) is,
-    λ rid closing took. absurd (no_ending s _ on (p.3 rid closing took)),
-    λ over next stands_next none. absurd (true_false (sym (any_push s.processed copy true last ∙ or_some (list_any (λ (c : RequestCopy). c.request.terminate) s.processed)) ∙ none)),
+    λ before other same ends_so.
+        let is : as_processed s copy ≡ other = (same_from_push s.processed before (as_processed s copy) other same).1 in
+        ap (λ (x : Processed). Some (endings.Terminated (id_of x.copy))) is,
+    record {
+      some = λ goes. absurd (true_false goes);
+      each = push_each s copy on p.3;
+      told = λ none empty rid closing took. absurd (true_false (sym (some_ends s copy last) ∙ none));
+    },
+    λ over next stands_next none. absurd (true_false (sym (some_ends s copy last) ∙ none)),
     λ none nothing silent. absurd (held_some s copy p.0 none),
   );
   breaks = λ s copy ending on stands broken p. (
     p.0,
     λ goes. absurd (true_false goes),
-    λ before other same terminates. absurd (no_ending s _ on (p.2 before other same terminates)),
-    λ rid closing took. absurd (no_ending s _ on (p.3 rid closing took)),
+    λ before other same ends_so. absurd (no_ending s _ on (p.2 before other same ends_so)),
+    open_tells (ended ending s) (p.3.some on) p.3.each,
     λ over next stands_next none.
         let is : copy ≡ next = some_is copy next (sym stands ∙ stands_next) in
         sym broken ∙ ap (broken_rule (asked_of s)) is,
@@ -275,8 +305,8 @@ beyond_push s copy above =
     (subst (λ (copies : List RequestCopy). 1 ≤ length (filter (λ (c : RequestCopy). nat_lt (last_of s) (id_of c)) copies)) (sym (standing_placed s copy))
     (kept_one (λ (c : RequestCopy). nat_lt (last_of s) (id_of c)) (standing s) copy (lt_test (last_of s) (id_of copy) above)))
 
-pub placed_processed : (t : PlainSession) (copy : RequestCopy) → is_over t ≡ false → is_open t (id_of copy) ≡ false → id_of copy ≤ greatest_rid → Ends t → Processed (placed t copy)
-placed_processed t copy on new small p =
+pub placed_underway : (t : PlainSession) (copy : RequestCopy) → is_over t ≡ false → is_open t (id_of copy) ≡ false → id_of copy ≤ greatest_rid → Ends t → Underway (placed t copy)
+placed_underway t copy on new small p =
     let apart = neither (nat_le (id_of copy) (last_of t)) (is_some (standing_at t (id_of copy))) new in (
       steady-placed IsSound sound_steady t copy new small p.0,
       p.2,
@@ -288,8 +318,8 @@ placed_processed t copy on new small p =
 
 places_ends : (t : PlainSession) (copy : RequestCopy) → is_over t ≡ false → is_open t (id_of copy) ≡ false → id_of copy ≤ greatest_rid → Ends t → Ends (advanced (placed t copy))
 places_ends t copy on new small p =
-    let q = placed_processed t copy on new small p in
-    let a = advanced-by Processed processed_processing (placed t copy) q in
+    let q = placed_underway t copy on new small p in
+    let a = advanced-by Underway underway_processing (placed t copy) q in
     (a.0, advanced_clear (placed t copy) q.0, a.1, a.2, a.3, a.4, a.5)
 
 -- another arrival makes it quiet no earlier
@@ -312,8 +342,8 @@ ends_phases = record {
     p.0,
     λ goes. absurd (true_false goes),
     λ goes. absurd (true_false goes),
-    λ before copy same last. absurd (no_ending t _ on (p.3 before copy same last)),
-    λ rid closing took. absurd (no_ending t _ on (p.4 rid closing took)),
+    λ before one same ends_so. absurd (no_ending t _ on (p.3 before one same ends_so)),
+    open_tells (ended ending t) (p.4.some on) p.4.each,
     λ over copy stands none. absurd (none_some (standing_at t (last_of t + 1)) copy (p.1 on) stands),
     λ none nothing silent. absurd (no_ending t _ on (p.6 none nothing silent)),
   );
@@ -321,16 +351,19 @@ ends_phases = record {
   aside = λ t tickets passed counted p. p;
 }
 
-no_push : (before : List RequestCopy) (copy : RequestCopy) → [] ≡ before ++ copy ∷ [] → ⊥
-no_push before copy is = absurd (omega (arith, ap length is, length_push before copy))
+no_push : (before : List Processed) (one : Processed) → [] ≡ before ++ one ∷ [] → ⊥
+no_push before one is = absurd (omega (arith, ap length is, length_push before one))
+
+none_processed : (k : ℕ) (one : Processed) → slice_get [] k ≡ Some one → ⊥
+none_processed k one at = cc
 
 pub opened_ends : (o : Opening) → Ends (opened o)
 opened_ends o = (
   opened_sound o,
   λ on. refl,
   λ on. refl,
-  λ before copy same last. absurd (no_push before copy same),
-  λ rid closing took. absurd (no_stanzas (greeting_of o) took.1.0 closing took.1.1),
+  λ before one same ends_so. absurd (no_push before one same),
+  open_tells (opened o) (opened_some o) (λ k one at. absurd (none_processed k one at)),
   λ over. absurd (true_false (sym over)),
   λ none nothing silent. absurd (omega (arith, quiet_after (opened o), silent)),
 )

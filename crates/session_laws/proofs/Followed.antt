@@ -8,13 +8,14 @@ use Rattle.session_core.specs.Copy.{id_of, with_id}
 use Rattle.session_core.specs.Journal.{Journal, IsJournal, state_of}
 use Rattle.session_core.specs.Machine.{opened, creation_of}
 use Rattle.session_core.specs.declared.opening.Opening.{Opening}
+use Rattle.session_core.specs.Processed.{copies_of}
 use Rattle.session_core.specs.Run.{IsLongestRun, IsReceived, IsRun, Lacks, id_in, placings_of, run_of}
 use Rattle.session_core.specs.State.{PlainSession, Placing, Stands, Strikes, run, first_of, last_of, standing, standing_at, is_over, without}
 use Rattle.session_core.specs.Window.{is_open}
 use Rattle.session_core.proofs.StruckLemmas.{standing_more, standing_none, standing_other, strike_later}
 use Rattle.session_laws.proofs.Clear.{every_clear}
 use Rattle.session_laws.proofs.Grows.{steady-all, told_stays}
-use Rattle.session_laws.proofs.Lists.{standing_now, standing_other as push_other, get_some}
+use Rattle.session_laws.proofs.Lists.{copies_length, copy_at, standing_now, standing_other as push_other, get_some}
 use Rattle.session_laws.proofs.Moves.{Steady}
 use Rattle.session_laws.proofs.Received.{received_after, received_first, received_last, received_later, received_more, received_push, received_strike}
 use Rattle.session_laws.proofs.SoundLemmas.{IsSound}
@@ -121,8 +122,8 @@ pub processed_stands : (s : PlainSession) (rid : ℕ) → IsSound s → first_of
 processed_stands s rid sound later within none =
     let place : first_of s + 1 + (rid - (first_of s + 1)) ≡ rid = omega arith in
     let c = get_some s.processed (rid - (first_of s + 1)) (omega arith) in
-    let stands : standing_at s rid ≡ Some c.0 = ap (standing_at s) (sym place) ∙ sound.stand (rid - (first_of s + 1)) c.0 c.1 in
-    none_some (standing_at s rid) c.0 none stands
+    let stands : standing_at s rid ≡ Some c.0.copy = ap (standing_at s) (sym place) ∙ sound.stand (rid - (first_of s + 1)) c.0 c.1 in
+    none_some (standing_at s rid) c.0.copy none stands
 
 some_none : {X : Type 0} (o : Option X) → is_some o ≡ true → o ≡ None → ⊥
 some_none None is none = cc
@@ -147,8 +148,10 @@ run_each o s same sound follows later zero copy is =
     (subst (λ n. IsReceived (Stands (creation_of o) ∷ s.placings) n (creation_of o)) rid (received_first (creation_of o) s.placings all))
 run_each o s same sound follows later (suc k) copy is =
     let place : first_of s + 1 + k ≡ o.request.rid + suc k = omega (arith, ap id_of same) in
+    let one = copy_at s.processed k copy is in
     received_after (Stands (creation_of o)) s.placings (o.request.rid + suc k) copy
-    (subst (λ rid. IsReceived s.placings rid copy) place (follows.each (first_of s + 1 + k) copy (sound.stand k copy is)))
+    (subst (λ rid. IsReceived s.placings rid copy) place
+    (follows.each (first_of s + 1 + k) copy (sound.stand k one.0 one.1 ∙ ap Some one.2)))
 
 -- the run: each is the one that was received with its id
 pub every_run : (journal : Journal) → IsJournal journal → IsRun journal.opening.request.rid (placings_of journal) (run_of journal)
@@ -164,7 +167,7 @@ pub every_longest : (journal : Journal) → IsJournal journal → is_over (state
 every_longest journal made on =
     let s : PlainSession = state_of journal in
     let same : first_of s ≡ journal.opening.request.rid = ap id_of (every_creation journal made) in
-    let place : last_of s + 1 ≡ journal.opening.request.rid + suc (length s.processed) = omega (arith, same) in
+    let place : last_of s + 1 ≡ journal.opening.request.rid + suc (length (copies_of s.processed)) = omega (arith, same, copies_length s.processed) in
     record {
       each = every_run journal made;
       ends = subst (Lacks (placings_of journal)) place

@@ -5,9 +5,9 @@ use Rattle.bosh_types.specs.declared.ending.Ending.TheVariants as endings
 use Rattle.session_core.specs.Answers.{with_answer, settled}
 use Rattle.session_core.specs.Gap.{strike, struck}
 use Rattle.session_core.specs.Machine.{with_copy, advanced}
-use Rattle.session_core.specs.declared.copy.RequestCopy.{RequestCopy}
-use Rattle.session_core.specs.declared.outward.Front.TheVariants.{OfStanzas, OfClosing}
+use Rattle.session_core.specs.declared.outward.Front.TheVariants.{OfClosing}
 use Rattle.session_core.specs.Copy.{id_of}
+use Rattle.session_core.specs.Processed.{Processed}
 use Rattle.session_core.specs.State.{PlainSession, Answered, Issued, Placing}
 use Rattle.session_core.specs.Time.{time_applied, quiet_of}
 use Rattle.session_laws.proofs.Moves.{settled-by, struck-by, advanced-by, time_applied-by}
@@ -39,7 +39,7 @@ module _ (s t : PlainSession) where
   ended_anew : (ending : Option Ending) → t ≡ s → record t { ending = ending } ≡ record s { ending = ending }
   ended_anew ending same = ap (λ (u : PlainSession). record u { ending = ending }) same
 
-  processed_anew : (processed : List RequestCopy) (key : Option (List ℕ)) (period acknowledged : ℕ) (due : Option (ℕ × ℕ)) (ending : Option Ending) → t ≡ s
+  processed_anew : (processed : List Processed) (key : Option (List ℕ)) (period acknowledged : ℕ) (due : Option (ℕ × ℕ)) (ending : Option Ending) → t ≡ s
       → record t { processed = processed; key = key; period = period; acknowledged = acknowledged; reporting = record t.reporting { due = due }; ending = ending }
       ≡ record s { processed = processed; key = key; period = period; acknowledged = acknowledged; reporting = record s.reporting { due = due }; ending = ending }
   processed_anew processed key period acknowledged due ending same =
@@ -57,9 +57,9 @@ is_processed s t = record s { processed = t.processed; key = t.key; period = t.p
 
 pub settled_leaves : (s : PlainSession) → IsAnswered s (settled s)
 settled_leaves s = settled-by (IsAnswered s) (record {
-  stanzas = λ t oldest later items is on reason front same. answered_anew (is_answered s t) t (with_answer t (id_of oldest) (OfStanzas items)).answered t.ending same;
-  closes = λ t oldest later stream closing is on reason front same.
-      answered_anew (is_answered s t) t (with_answer t (id_of oldest) (OfClosing stream closing)).answered (Some (endings.Closed closing (id_of oldest))) same;
+  gives = λ t oldest later front is on reason due other same. answered_anew (is_answered s t) t (with_answer t oldest front).answered t.ending same;
+  closes = λ t oldest later stream closing is on reason due last same.
+      answered_anew (is_answered s t) t (with_answer t oldest (OfClosing stream closing)).answered (Some (endings.Closed closing (id_of oldest.copy))) same;
 }) s refl
 
 pub time_leaves : (s : PlainSession) (now : ℕ) → InTime s (time_applied s now)
@@ -68,9 +68,9 @@ time_leaves s now = time_applied-by (InTime s) (record {
   strikes = λ t rid on holds is same. struck_anew (in_time s t) t (strike t rid).placings (strike t rid).tickets same;
   silences = λ t on silent same. ended_anew (in_time s t) t (Some (endings.Silent (quiet_of t) t.now)) same;
 }) (record {
-  stanzas = λ t oldest later items is on reason front same. answered_anew (in_time s t) t (with_answer t (id_of oldest) (OfStanzas items)).answered t.ending same;
-  closes = λ t oldest later stream closing is on reason front same.
-      answered_anew (in_time s t) t (with_answer t (id_of oldest) (OfClosing stream closing)).answered (Some (endings.Closed closing (id_of oldest))) same;
+  gives = λ t oldest later front is on reason due other same. answered_anew (in_time s t) t (with_answer t oldest front).answered t.ending same;
+  closes = λ t oldest later stream closing is on reason due last same.
+      answered_anew (in_time s t) t (with_answer t oldest (OfClosing stream closing)).answered (Some (endings.Closed closing (id_of oldest.copy))) same;
 }) s now refl
 
 -- but for what was struck

@@ -4,21 +4,21 @@ use Rattle.std.specs.List.{sum_by}
 use Rattle.std.proofs.lemmas.List.{append-nil, drop_at, take-append-drop}
 use Rattle.std.proofs.lemmas.List.Sums.{sum_by-append}
 use Rattle.bosh_types.specs.Limits.{most_waiting}
-use Rattle.session_core.specs.declared.copy.RequestCopy.{RequestCopy}
 use Rattle.session_core.specs.declared.outward.Front.TheVariants.{OfStanzas}
 use Rattle.session_core.specs.declared.outward.Outward.{Outward}
 use Rattle.session_core.specs.declared.outward.Outward.TheVariants.{Stanza, Close}
 use Rattle.session_core.specs.Answers.{front_for, front_of, longest_front, fit_one_answer}
-use Rattle.session_core.specs.Copy.{is_pause}
+use Rattle.session_core.specs.Copy.{is_prompt}
 use Rattle.session_core.specs.Machine.{opened, greeting_of}
 use Rattle.session_core.specs.declared.opening.Opening.{Opening}
 use Rattle.session_core.specs.Outward.{items_in}
+use Rattle.session_core.specs.Processed.{Processed}
 use Rattle.session_core.specs.State.{PlainSession, Answered, answers, taken_by_answers, waiting}
 use Rattle.session_core.specs.Passed.{items_taken}
 use Rattle.session_laws.proofs.Tests.{split}
 use Rattle.session_laws.proofs.Moves.{Steady}
 
-sum_by_cons : {X : Type 0} (f : X → ℕ) (x : X) (xs : List X) → sum_by f (x ∷ xs) ≡ f x + sum_by f xs
+pub sum_by_cons : {X : Type 0} (f : X → ℕ) (x : X) (xs : List X) → sum_by f (x ∷ xs) ≡ f x + sum_by f xs
 sum_by_cons f x xs = omega (arith, sum_by-append f (x ∷ []) xs)
 
 -- they are as many as the answers count
@@ -55,13 +55,13 @@ front_begins (Stanza stream bytes ∷ items) =
     let l = longest_begins (min most_waiting (length items + 1)) (Stanza stream bytes ∷ items) in
     (drop l.0 (Stanza stream bytes ∷ items), ap (λ front. front ++ drop l.0 (Stanza stream bytes ∷ items)) l.1 ∙ take-append-drop l.0 (Stanza stream bytes ∷ items))
 
-pub front_for_begins : (s : PlainSession) (copy : RequestCopy) → (rest : List Outward) × (items_in (front_for s copy) ++ rest ≡ waiting s)
-front_for_begins s copy = split (λ front. (rest : List Outward) × (items_in front ++ rest ≡ waiting s)) (is_pause copy) (OfStanzas []) (front_of (waiting s)) (λ pause. (waiting s, refl)) (λ other. front_begins (waiting s))
+pub front_for_begins : (s : PlainSession) (one : Processed) → (rest : List Outward) × (items_in (front_for s one) ++ rest ≡ waiting s)
+front_for_begins s one = split (λ front. (rest : List Outward) × (items_in front ++ rest ≡ waiting s)) (is_prompt one.copy) (OfStanzas []) (front_of (waiting s)) (λ prompt. (waiting s, refl)) (λ other. front_begins (waiting s))
 
 abbrev pub IsGiven : PlainSession → Type 0
 IsGiven s = Rest (answers s) s.given
 
-given_answers : (s : PlainSession) (oldest : RequestCopy) (answer : Answered) → front_for s oldest ≡ answer.front → IsGiven s → Rest (answers s ++ answer ∷ []) s.given
+given_answers : (s : PlainSession) (oldest : Processed) (answer : Answered) → front_for s oldest ≡ answer.front → IsGiven s → Rest (answers s ++ answer ∷ []) s.given
 given_answers s oldest answer front given =
     let f = front_for_begins s oldest in (
       f.0,

@@ -3,10 +3,10 @@ use Rattle.std.proofs.Common.{◌≡◌, true, false, List, [], ◌∷◌, ◌++
 use Rattle.std.proofs.lemmas.List.{append-nil}
 use Rattle.bosh_types.specs.declared.ending.Ending.{Ending}
 use Rattle.session_core.specs.declared.copy.RequestCopy.{RequestCopy}
-use Rattle.session_core.specs.Copy.{items_of}
 use Rattle.session_core.specs.Journal.{Entry, Journal, IsJournal, IsMade, MayEnter, more, after_entry, after_entries, state_of}
-use Rattle.session_core.specs.Machine.{opened}
-use Rattle.session_core.specs.State.{PlainSession, Stands, Strikes, is_over, inward, items_of_all}
+use Rattle.session_core.specs.Machine.{as_processed, opened}
+use Rattle.session_core.specs.Processed.{Processed, as_creation, items_of, items_of_all}
+use Rattle.session_core.specs.State.{PlainSession, Stands, Strikes, is_over, inward}
 use Rattle.session_laws.specs.Growing.{Begins, Grows, with_later}
 use Rattle.session_laws.proofs.Moves.{Steady}
 use Rattle.session_laws.proofs.Steadily.{steady-entry}
@@ -71,7 +71,7 @@ module _ (s : PlainSession) where
     ends = λ t ending on p. p;
     aside = λ t tickets now last_arrival passed counted p. p;
     answers = λ t oldest later front is on reason taken p. p;
-    processes = λ t copy on stands broken p. begins_push s.processed t.processed copy p;
+    processes = λ t copy on stands broken p. begins_push s.processed t.processed (as_processed t copy) p;
     stands = λ t copy above none small p. p;
     strikes = λ t rid on is p. p;
     gives = λ t item p. p;
@@ -135,15 +135,16 @@ pub after_append : (s : PlainSession) (past later : List Entry) → after_entrie
 after_append s [] later = refl
 after_append s (entry ∷ past) later = after_append (after_entry s entry.entered) past later
 
-pub items_append : (copies later : List RequestCopy) → items_of_all (copies ++ later) ≡ items_of_all copies ++ items_of_all later
+pub items_append : (copies later : List Processed) → items_of_all (copies ++ later) ≡ items_of_all copies ++ items_of_all later
 items_append [] later = refl
 items_append (copy ∷ copies) later = ap (λ items. items_of copy ++ items) (items_append copies later) ∙ sym (append_assoc (items_of copy) (items_of_all copies) (items_of_all later))
 
 inward_grows : (s t : PlainSession) → t.creation ≡ s.creation → Begins s.processed t.processed → Begins (inward s) (inward t)
 inward_grows s t same b = (
   items_of_all b.0,
-  ap (λ copy. items_of copy ++ items_of_all t.processed) same ∙ ap (λ copies. items_of s.creation ++ items_of_all copies) b.1
-      ∙ ap (λ items. items_of s.creation ++ items) (items_append s.processed b.0) ∙ sym (append_assoc (items_of s.creation) (items_of_all s.processed) (items_of_all b.0)),
+  ap (λ (copy : RequestCopy). items_of (as_creation copy) ++ items_of_all t.processed) same ∙ ap (λ copies. items_of (as_creation s.creation) ++ items_of_all copies) b.1
+      ∙ ap (λ items. items_of (as_creation s.creation) ++ items) (items_append s.processed b.0)
+      ∙ sym (append_assoc (items_of (as_creation s.creation)) (items_of_all s.processed) (items_of_all b.0)),
 )
 
 pub grows_all : (s : PlainSession) (entries : List Entry) → IsMade s entries → Grows s (after_entries s entries)

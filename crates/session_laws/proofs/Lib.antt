@@ -26,6 +26,7 @@ pub mod TicketLemmas
 pub mod LawsOf
 pub mod Carried
 pub mod Phases
+pub mod OpenStreams
 pub mod RuleLemmas
 pub mod EndsBack
 pub mod EndsForth
@@ -43,3 +44,8 @@ pub mod OneEndedRun
 pub mod TicketSteps
 pub mod UnaskedRow
 pub mod OneMore
+pub mod AloneLemmas
+pub mod OpenedLemmas
+pub mod NamedLemmas
+pub mod GivenStreams
+pub mod UnnamedLemmas

@@ -1,11 +1,13 @@
 -- Lists that grow at their end, and what stands at an id.
 use Rattle.std.proofs.Common.{◌≡◌, ◌≢◌, ℕ, zero, suc, ◌<◌, ◌==◌, Bool, true, false, List, [], ◌∷◌, ◌++◌, Option, Some, None, length, drop, map, slice_get, refl, sym, ◌∙◌, ap, cond, arith, ◌⊎◌, inl, inr}
+use Rattle.std.specs.Option.{option_map}
 use Rattle.std.proofs.lemmas.Bool.{eqb-true}
-use Rattle.std.proofs.lemmas.List.{map-append}
+use Rattle.std.proofs.lemmas.List.{length-map, map-append}
 use Rattle.bosh_types.specs.ById.{at_id}
 use Rattle.bosh_types.proofs.ById.{at_id-push_same, at_id-push_other}
 use Rattle.session_core.specs.declared.copy.RequestCopy.{RequestCopy}
 use Rattle.session_core.specs.Copy.{id_of, with_id}
+use Rattle.session_core.specs.Processed.{Processed, copies_of}
 
 module _ {X : Type 0} where
   -- an element of a list with one more
@@ -87,3 +89,21 @@ standing_now copies copy none = ap (λ pairs. at_id pairs (id_of copy)) (standin
 
 pub standing_other : (copies : List RequestCopy) (copy : RequestCopy) (rid : ℕ) → rid ≢ id_of copy → at_id (map with_id (copies ++ copy ∷ [])) rid ≡ at_id (map with_id copies) rid
 standing_other copies copy rid other = ap (λ pairs. at_id pairs rid) (standing_push copies copy) ∙ at_id-push_other (map with_id copies) (id_of copy) rid copy other
+
+-- The copies of what was processed.
+
+pub get_copies : (processed : List Processed) (k : ℕ) (one : Processed) → slice_get processed k ≡ Some one → slice_get (copies_of processed) k ≡ Some one.copy
+get_copies [] k one is = absurd (cc)
+get_copies (first ∷ processed) zero one is = ap (λ (o : Option Processed). option_map (λ (p : Processed). p.copy) o) is
+get_copies (first ∷ processed) (suc k) one is = get_copies processed k one is
+
+pub copy_at : (processed : List Processed) (k : ℕ) (copy : RequestCopy) → slice_get (copies_of processed) k ≡ Some copy → (one : Processed) × (slice_get processed k ≡ Some one) × (one.copy ≡ copy)
+copy_at [] k copy is = absurd (cc)
+copy_at (first ∷ processed) zero copy is = (first, refl, cc)
+copy_at (first ∷ processed) (suc k) copy is = copy_at processed k copy is
+
+pub copies_length : (processed : List Processed) → length (copies_of processed) ≡ length processed
+copies_length processed = length-map processed (λ one. one.copy)
+
+pub copies_push : (processed : List Processed) (one : Processed) → copies_of (processed ++ one ∷ []) ≡ copies_of processed ++ one.copy ∷ []
+copies_push processed one = map-append (λ one. one.copy) processed (one ∷ [])

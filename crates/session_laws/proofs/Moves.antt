@@ -1,5 +1,5 @@
 -- What the moves of a session keep: each recursion of the machine is opened here, once.
-use Rattle.std.proofs.Common.{◌≡◌, ℕ, zero, suc, ◌+◌, ◌-◌, ◌<◌, ◌≤◌, true, false, not, ◌&&◌, ◌||◌, List, [], ◌∷◌, ◌++◌, map, filter, Option, Some, None, length, refl, ◌∙◌, arith, max}
+use Rattle.std.proofs.Common.{◌≡◌, ℕ, zero, suc, ◌+◌, ◌-◌, ◌<◌, ◌≤◌, true, false, not, ◌&&◌, ◌||◌, ◌==◌, Bool, List, [], ◌∷◌, ◌++◌, map, filter, Option, Some, None, length, refl, ◌∙◌, arith, max}
 use Rattle.bosh_types.specs.Rid.{greatest_rid}
 use Rattle.bosh_types.specs.declared.ending.Closing.{Closing}
 use Rattle.bosh_types.specs.declared.ending.Ending.{Ending}
@@ -11,30 +11,37 @@ use Rattle.std.specs.List.{list_any}
 use Rattle.session_core.specs.Copy.{id_of}
 use Rattle.session_core.specs.Endings.{ended}
 use Rattle.session_core.specs.Gap.{ids_ahead, ids_from, is_to_strike, strike, strike_each, strike_ticket, struck}
-use Rattle.session_core.specs.Machine.{with_copy, unless_terminate, process, next_copy, advanced_in, advanced}
+use Rattle.session_core.specs.Machine.{as_processed, with_copy, unless_terminate, process, next_copy, advanced_in, advanced}
 use Rattle.session_core.specs.declared.outward.Front.{Front}
 use Rattle.session_core.specs.declared.outward.Front.TheVariants.{OfStanzas, OfClosing}
+use Rattle.session_core.specs.Processed.{Processed, ends}
 use Rattle.session_core.specs.Rules.{broken_rule, asked_of}
-use Rattle.session_core.specs.State.{PlainSession, Issued, Stands, Strikes, last_of, held, standing_at, is_over}
+use Rattle.session_core.specs.State.{PlainSession, Issued, Stands, Strikes, last_of, held, running, standing_at, is_over}
 use Rattle.session_core.specs.Time.{at_moment, quiet_of, is_silent, silenced, time_applied}
 use Rattle.session_core.proofs.StruckLemmas.{test_other}
 use Rattle.session_laws.proofs.Tests.{split, neither, none_or, both_true, not_true}
 
+-- an answer took a closing after which no stream is open
+abbrev pub takes_last : PlainSession → Front → Bool
+takes_last s (OfStanzas items) = false
+takes_last s (OfClosing stream closing) = length (running s) == 0
+
 -- what is kept while held requests are answered
 pub record Answering (P : PlainSession → Type 0) : Type 0 where
-  pub stanzas : (s : PlainSession) (oldest : RequestCopy) (later : List RequestCopy) (items : List Outward)
-      → held s ≡ oldest ∷ later → is_over s ≡ false → has_reason s ≡ true → front_for s oldest ≡ OfStanzas items
-      → P s → P (with_answer s (id_of oldest) (OfStanzas items))
-  pub closes : (s : PlainSession) (oldest : RequestCopy) (later : List RequestCopy) (stream : ℕ) (closing : Closing)
+  pub gives : (s : PlainSession) (oldest : Processed) (later : List Processed) (front : Front)
+      → held s ≡ oldest ∷ later → is_over s ≡ false → has_reason s ≡ true → front_for s oldest ≡ front
+      → takes_last (with_answer s oldest front) front ≡ false → P s → P (with_answer s oldest front)
+  pub closes : (s : PlainSession) (oldest : Processed) (later : List Processed) (stream : ℕ) (closing : Closing)
       → held s ≡ oldest ∷ later → is_over s ≡ false → has_reason s ≡ true → front_for s oldest ≡ OfClosing stream closing
-      → P s → P (ended (endings.Closed closing (id_of oldest)) (with_answer s (id_of oldest) (OfClosing stream closing)))
+      → takes_last (with_answer s oldest (OfClosing stream closing)) (OfClosing stream closing) ≡ true
+      → P s → P (ended (endings.Closed closing (id_of oldest.copy)) (with_answer s oldest (OfClosing stream closing)))
 
 -- what is kept while copies are processed
 pub record Processing (P : PlainSession → Type 0) : Type 0 where
   pub processes : (s : PlainSession) (copy : RequestCopy) → is_over s ≡ false → standing_at s (last_of s + 1) ≡ Some copy
-      → broken_rule (asked_of s) copy ≡ None → copy.request.terminate ≡ false → P s → P (with_copy s copy)
+      → broken_rule (asked_of s) copy ≡ None → ends (as_processed s copy) ≡ false → P s → P (with_copy s copy)
   pub terminates : (s : PlainSession) (copy : RequestCopy) → is_over s ≡ false → standing_at s (last_of s + 1) ≡ Some copy
-      → broken_rule (asked_of s) copy ≡ None → copy.request.terminate ≡ true → P s → P (ended (endings.Terminated (id_of copy)) (with_copy s copy))
+      → broken_rule (asked_of s) copy ≡ None → ends (as_processed s copy) ≡ true → P s → P (ended (endings.Terminated (id_of copy)) (with_copy s copy))
   pub breaks : (s : PlainSession) (copy : RequestCopy) (ending : Ending) → is_over s ≡ false → standing_at s (last_of s + 1) ≡ Some copy
       → broken_rule (asked_of s) copy ≡ Some ending → P s → P (ended ending s)
 
@@ -49,17 +56,21 @@ pub record Waiting (P : PlainSession → Type 0) : Type 0 where
   pub silences : (s : PlainSession) → is_over s ≡ false → is_silent s ≡ true → P s → P (ended (endings.Silent (quiet_of s) s.now) s)
 
 -- a session that has a reason goes on, and holds a request
-pub goes_on : (s : PlainSession) (copies : List RequestCopy) → has_reason_for s copies ≡ true → is_over s ≡ false
+pub goes_on : (s : PlainSession) (copies : List Processed) → has_reason_for s copies ≡ true → is_over s ≡ false
 goes_on s [] is = absurd (cc)
 goes_on s (oldest ∷ later) is = not_true (is_over s) (both_true (not (is_over s)) (list_any (gives_reason s oldest) reasons) is).0
 
 module _ (P : PlainSession → Type 0) where
-  closed-by : Answering P → (s : PlainSession) (oldest : RequestCopy) (later : List RequestCopy) → held s ≡ oldest ∷ later → is_over s ≡ false → has_reason s ≡ true
-      → P s → (front : Front) → front_for s oldest ≡ front → P (closed_by (id_of oldest) front (with_answer s (id_of oldest) front))
-  closed-by keeps s oldest later is on reason p (OfStanzas items) front = keeps.stanzas s oldest later items is on reason front p
-  closed-by keeps s oldest later is on reason p (OfClosing stream closing) front = keeps.closes s oldest later stream closing is on reason front p
+  closed-by : Answering P → (s : PlainSession) (oldest : Processed) (later : List Processed) → held s ≡ oldest ∷ later → is_over s ≡ false → has_reason s ≡ true
+      → P s → (front : Front) → front_for s oldest ≡ front → P (closed_by (id_of oldest.copy) front (with_answer s oldest front))
+  closed-by keeps s oldest later is on reason p (OfStanzas items) front = keeps.gives s oldest later (OfStanzas items) is on reason front refl p
+  closed-by keeps s oldest later is on reason p (OfClosing stream closing) front =
+      let u : PlainSession = with_answer s oldest (OfClosing stream closing) in
+      split P (length (running u) == 0) (ended (endings.Closed closing (id_of oldest.copy)) u) u
+      (λ last. keeps.closes s oldest later stream closing is on reason front last p)
+      (λ other. keeps.gives s oldest later (OfClosing stream closing) is on reason front other p)
 
-  answered-by : Answering P → (s : PlainSession) → is_over s ≡ false → has_reason s ≡ true → P s → (copies : List RequestCopy) → held s ≡ copies → P (answer_oldest s copies)
+  answered-by : Answering P → (s : PlainSession) → is_over s ≡ false → has_reason s ≡ true → P s → (copies : List Processed) → held s ≡ copies → P (answer_oldest s copies)
   answered-by keeps s on reason p [] is = p
   answered-by keeps s on reason p (oldest ∷ later) is = closed-by keeps s oldest later is on reason p (front_for s oldest) refl
 
@@ -73,9 +84,9 @@ module _ (P : PlainSession → Type 0) where
   settled-by keeps s p = settled_in-by keeps (length (held s)) s p
 
   processed-by : Processing P → (s : PlainSession) (copy : RequestCopy) → is_over s ≡ false → standing_at s (last_of s + 1) ≡ Some copy → P s
-      → (o : Option Ending) → broken_rule (asked_of s) copy ≡ o → P (elim o [ Some ending ↦ ended ending s | None ↦ unless_terminate (with_copy s copy) copy ])
+      → (o : Option Ending) → broken_rule (asked_of s) copy ≡ o → P (elim o [ Some ending ↦ ended ending s | None ↦ unless_terminate (with_copy s copy) (as_processed s copy) ])
   processed-by keeps s copy on stands p (Some ending) broken = keeps.breaks s copy ending on stands broken p
-  processed-by keeps s copy on stands p None broken = split P (copy.request.terminate) (ended (endings.Terminated (id_of copy)) (with_copy s copy)) (with_copy s copy)
+  processed-by keeps s copy on stands p None broken = split P (ends (as_processed s copy)) (ended (endings.Terminated (id_of copy)) (with_copy s copy)) (with_copy s copy)
       (λ last. keeps.terminates s copy on stands broken last p)
       (λ further. keeps.processes s copy on stands broken further p)
 
@@ -139,8 +150,8 @@ pub record Steady (P : PlainSession → Type 0) : Type 0 where
   pub ends : (s : PlainSession) (ending : Ending) → is_over s ≡ false → P s → P (ended ending s)
   pub aside : (s : PlainSession) (tickets : List Issued) (now last_arrival passed counted : ℕ) → P s
       → P (record s { tickets = tickets; now = now; last_arrival = last_arrival; passed = passed; counted = counted })
-  pub answers : (s : PlainSession) (oldest : RequestCopy) (later : List RequestCopy) (front : Front)
-      → held s ≡ oldest ∷ later → is_over s ≡ false → has_reason s ≡ true → front_for s oldest ≡ front → P s → P (with_answer s (id_of oldest) front)
+  pub answers : (s : PlainSession) (oldest : Processed) (later : List Processed) (front : Front)
+      → held s ≡ oldest ∷ later → is_over s ≡ false → has_reason s ≡ true → front_for s oldest ≡ front → P s → P (with_answer s oldest front)
   pub processes : (s : PlainSession) (copy : RequestCopy) → is_over s ≡ false → standing_at s (last_of s + 1) ≡ Some copy
       → broken_rule (asked_of s) copy ≡ None → P s → P (with_copy s copy)
   pub stands : (s : PlainSession) (copy : RequestCopy) → last_of s < id_of copy → standing_at s (id_of copy) ≡ None → id_of copy ≤ greatest_rid
@@ -151,8 +162,9 @@ pub record Steady (P : PlainSession → Type 0) : Type 0 where
 module _ (P : PlainSession → Type 0) (steady : Steady P) where
   pub answering : Answering P
   answering = record {
-    stanzas = λ s oldest later items is on reason front p. steady.answers s oldest later (OfStanzas items) is on reason front p;
-    closes = λ s oldest later stream closing is on reason front p. steady.ends (with_answer s (id_of oldest) (OfClosing stream closing)) (endings.Closed closing (id_of oldest)) on (steady.answers s oldest later (OfClosing stream closing) is on reason front p);
+    gives = λ s oldest later front is on reason due other p. steady.answers s oldest later front is on reason due p;
+    closes = λ s oldest later stream closing is on reason due last p.
+        steady.ends (with_answer s oldest (OfClosing stream closing)) (endings.Closed closing (id_of oldest.copy)) on (steady.answers s oldest later (OfClosing stream closing) is on reason due p);
   }
 
   pub processing : Processing P

@@ -49,9 +49,9 @@ module _ (o : Opening) (past : List Entry) (made : IsMade (opened o) past) where
   processed_received k within =
       let c = get_some at.processed k within in
       let place : first_of at + 1 + k ≡ o.request.rid + 1 + k = ap (λ (copy : RequestCopy). id_of copy + 1 + k) at_creation in (
-        c.0,
-        received_after (Stands (creation_of o)) at.placings (o.request.rid + 1 + k) c.0
-            (subst (λ rid. IsReceived at.placings rid c.0) place (at_followed.each (first_of at + 1 + k) c.0 ((made_clear o past made).0.stand k c.0 c.1))),
+        c.0.copy,
+        received_after (Stands (creation_of o)) at.placings (o.request.rid + 1 + k) c.0.copy
+            (subst (λ rid. IsReceived at.placings rid c.0.copy) place (at_followed.each (first_of at + 1 + k) c.0.copy ((made_clear o past made).0.stand k c.0 c.1))),
       )
 
   -- while the session goes on, ids that were all received were processed

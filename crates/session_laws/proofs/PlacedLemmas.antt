@@ -18,7 +18,7 @@ use Rattle.session_core.specs.Answers.{settled}
 use Rattle.session_core.specs.Copy.{id_of, is_extra, with_id}
 use Rattle.session_core.specs.Gap.{has_waited, ids_ahead, ids_from, ids_to_strike, is_to_strike, owes_errors}
 use Rattle.session_core.specs.Journal.{Arrive, Back, BackClosed, Tick, Made, Limit, Entered, Journal, IsJournal, MayEnter, after_entry, state_of}
-use Rattle.session_core.specs.Machine.{opened, advanced, placed, bytes_for, wait_at, copy_now, arrived_in_time, with_cost, body_cost, stanza_cost, plain_cost, takes_items, has_room, with_item}
+use Rattle.session_core.specs.Machine.{as_processed, opened, advanced, placed, bytes_for, wait_at, copy_now, arrived_in_time, with_cost, body_cost, stanza_cost, plain_cost, takes_items, has_room, with_item}
 use Rattle.session_core.specs.Placed.{AreRising, AreStruckAt, ArePlaced, ComesToStand, IsStruckAt, MayStand}
 use Rattle.session_core.specs.Run.{arrival_in, moment_after}
 use Rattle.session_core.specs.State.{PlainSession, Placing, Stands, Strikes, last_of, answered_of, standing, standing_at, is_over}
@@ -44,14 +44,14 @@ IsWithin s = (rid : ℕ) (copy : RequestCopy) → standing_at s rid ≡ Some cop
 
 within_answering : Answering IsWithin
 within_answering = record {
-  stanzas = λ s oldest later items is on reason front p. p;
-  closes = λ s oldest later stream closing is on reason front p. p;
+  gives = λ s oldest later front is on reason due other p. p;
+  closes = λ s oldest later stream closing is on reason due last p. p;
 }
 
 within_processing : Processing IsWithin
 within_processing = record {
-  processes = λ s copy on stands broken further p rid found at. omega (arith, p rid found at, length_push s.processed copy);
-  terminates = λ s copy on stands broken last p rid found at. omega (arith, p rid found at, length_push s.processed copy);
+  processes = λ s copy on stands broken further p rid found at. omega (arith, p rid found at, length_push s.processed (as_processed s copy));
+  terminates = λ s copy on stands broken last p rid found at. omega (arith, p rid found at, length_push s.processed (as_processed s copy));
   breaks = λ s copy ending on stands broken p. p;
 }
 

@@ -1,11 +1,10 @@
 -- No request is held that has a reason to be answered.
-use Rattle.std.proofs.Common.{◌≡◌, ℕ, zero, suc, ◌+◌, ◌≤◌, true, false, not, ◌&&◌, List, [], ◌∷◌, ◌++◌, Option, Some, None, length, drop, map, slice_set, refl, ◌∙◌, ap, arith}
+use Rattle.std.proofs.Common.{◌≡◌, ℕ, zero, suc, ◌+◌, ◌≤◌, true, false, not, ◌&&◌, ◌==◌, List, [], ◌∷◌, ◌++◌, Option, Some, None, length, drop, map, slice_set, refl, ◌∙◌, ap, arith}
 use Rattle.std.specs.List.{list_any}
 use Rattle.std.proofs.lemmas.List.{length_push}
 use Rattle.bosh_types.specs.declared.ending.Ending.{Ending}
 use Rattle.bosh_types.specs.declared.ending.Ending.TheVariants as endings
 use Rattle.session_attrs.specs.declared.request.Request.{Request}
-use Rattle.session_core.specs.declared.copy.RequestCopy.{RequestCopy}
 use Rattle.session_core.specs.declared.outward.Front.{Front}
 use Rattle.session_core.specs.declared.outward.Front.TheVariants.{OfStanzas, OfClosing}
 use Rattle.session_core.specs.declared.outward.Outward.TheVariants.{Stanza, Close}
@@ -18,25 +17,26 @@ use Rattle.session_core.specs.Endings.{ended}
 use Rattle.session_core.specs.Gap.{strike, struck}
 use Rattle.session_core.specs.Journal.{Entered, Journal, IsJournal, after_entry, state_of, MayEnter}
 use Rattle.session_core.specs.Machine.{opened, advanced, placed, bytes_for, wait_at, copy_now, arrived_in_time, with_cost, body_cost, stanza_cost, plain_cost, takes_items, has_room, replace}
-use Rattle.session_core.specs.State.{PlainSession, Issued, Waits, UsedUp, held, is_over}
+use Rattle.session_core.specs.Processed.{Processed}
+use Rattle.session_core.specs.State.{PlainSession, Issued, Waits, UsedUp, held, running, is_over}
 use Rattle.session_core.specs.Time.{time_applied, is_silent, at_moment, quiet_of}
 use Rattle.session_laws.proofs.Moves.{struck-by}
 use Rattle.session_laws.proofs.Tests.{split}
 use Rattle.session_laws.proofs.Lists.{drop_next}
 use Rattle.session_laws.proofs.Steps.{arrival-by, entry-by, along}
 
-over_none : (s : PlainSession) (copies : List RequestCopy) → is_over s ≡ true → has_reason_for s copies ≡ false
+over_none : (s : PlainSession) (copies : List Processed) → is_over s ≡ true → has_reason_for s copies ≡ false
 over_none s [] over = refl
 over_none s (oldest ∷ later) over = ap (λ b. not b && list_any (gives_reason s oldest) reasons) over
 
 -- reasons don't ask for tickets, arrivals or counts
-aside_for : (s : PlainSession) (copies : List RequestCopy) (tickets : List Issued) (last_arrival passed counted : ℕ)
+aside_for : (s : PlainSession) (copies : List Processed) (tickets : List Issued) (last_arrival passed counted : ℕ)
     → has_reason_for (record s { tickets = tickets; last_arrival = last_arrival; passed = passed; counted = counted }) copies ≡ has_reason_for s copies
 aside_for s [] tickets last_arrival passed counted = refl
 aside_for s (oldest ∷ later) tickets last_arrival passed counted = refl
 
 -- nor for what stands beyond the gap
-struck_for : (s : PlainSession) (copies : List RequestCopy) (rid : ℕ) → has_reason_for (strike s rid) copies ≡ has_reason_for s copies
+struck_for : (s : PlainSession) (copies : List Processed) (rid : ℕ) → has_reason_for (strike s rid) copies ≡ has_reason_for s copies
 struck_for s [] rid = refl
 struck_for s (oldest ∷ later) rid = refl
 
@@ -49,20 +49,21 @@ aside_none s tickets last_arrival passed counted none = record { is = aside_for 
 ended_none : (ending : Ending) (s : PlainSession) → HasNoReason (ended ending s)
 ended_none ending s = record { is = over_none (ended ending s) (held s) refl }
 
-none_held : (s : PlainSession) (copies : List RequestCopy) → length copies ≤ 0 → has_reason_for s copies ≡ false
+none_held : (s : PlainSession) (copies : List Processed) → length copies ≤ 0 → has_reason_for s copies ≡ false
 none_held s [] few = refl
 none_held s (oldest ∷ later) few = absurd (omega arith)
 
 closed_held : (rid : ℕ) (front : Front) (s : PlainSession) → held (closed_by rid front s) ≡ held s
 closed_held rid (OfStanzas items) s = refl
-closed_held rid (OfClosing stream closing) s = refl
+closed_held rid (OfClosing stream closing) s =
+    split (λ (t : PlainSession). held t ≡ held s) (length (running s) == 0) (ended (endings.Closed closing rid) s) s (λ last. refl) (λ other. refl)
 
 -- each answer leaves one request less
-held_less : (s : PlainSession) (copies : List RequestCopy) (count : ℕ) → held s ≡ copies → length copies ≤ suc count → length (held (answer_oldest s copies)) ≤ count
+held_less : (s : PlainSession) (copies : List Processed) (count : ℕ) → held s ≡ copies → length copies ≤ suc count → length (held (answer_oldest s copies)) ≤ count
 held_less s [] count is few = omega (arith, ap length is)
 held_less s (oldest ∷ later) count is few =
     let next : held (answer_to s oldest) ≡ later =
-    closed_held (id_of oldest) (front_for s oldest) (with_answer s (id_of oldest) (front_for s oldest))
+    closed_held (id_of oldest.copy) (front_for s oldest) (with_answer s oldest (front_for s oldest))
     ∙ ap (λ n. drop n s.processed) (length_push s.answered _ ∙ plus_one (length s.answered)) ∙ drop_next (length s.answered) s.processed oldest later is in
     omega (arith, ap length next)
   where

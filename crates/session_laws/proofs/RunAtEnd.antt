@@ -18,6 +18,7 @@ use Rattle.session_core.specs.Kept.{lowest_kept}
 use Rattle.session_core.specs.Journal.{Arrive, Made, Entered, Entry, Journal, IsJournal, IsMade, none, after_entry, after_entries, state_of, MayEnter}
 use Rattle.session_core.specs.Machine.{opened, creation_of, advanced, placed, bytes_for, wait_at, copy_now, arrived_in_time, with_cost, body_cost, stanza_cost, plain_cost, takes_items, has_room, with_item, full_with, use_up}
 use Rattle.session_core.specs.declared.opening.Opening.{Opening}
+use Rattle.session_core.specs.Processed.{Processed, copies_of}
 use Rattle.session_core.specs.Run.{IsRun, Lacks, placings_of, placings_with}
 use Rattle.session_laws.specs.RunEnded.{BreaksNoRule, GoesNoFurther, IsRunOfEnded}
 use Rattle.session_core.specs.State.{PlainSession, Placing, Stands, Strikes, last_of, is_over}
@@ -32,7 +33,7 @@ use Rattle.session_laws.proofs.Clear.{advanced_clear}
 use Rattle.session_laws.proofs.Read.{read-rid}
 use Rattle.session_laws.proofs.Received.{lacks_strikes}
 use Rattle.session_laws.proofs.Followed.{IsFollowed, followed_steady, opened_followed, every_creation, every_run}
-use Rattle.session_laws.proofs.EndsBack.{Ends, Processed, placed_processed, time_ends, entry_ends, opened_ends, over_or_on}
+use Rattle.session_laws.proofs.EndsBack.{Ends, Underway, placed_underway, time_ends, entry_ends, opened_ends, over_or_on}
 use Rattle.session_laws.proofs.Grows.{told_stays}
 use Rattle.session_laws.proofs.JournalLemmas.{journal_with}
 use Rattle.session_laws.proofs.OneMore.{made_push}
@@ -89,13 +90,13 @@ module _ (o : Opening) (past : List Entry) (entry : Entry) (s : PlainSession) (s
 
   not_past : (u : PlainSession) → u.processed ≡ s.processed → is_over s ≡ false → Lacks (placings_with o past) (o.request.rid + 1 + length u.processed)
   not_past u is on =
-      subst (λ (copies : List RequestCopy). Lacks (placings_with o past) (o.request.rid + 1 + length copies)) (sym is)
+      subst (λ (copies : List Processed). Lacks (placings_with o past) (o.request.rid + 1 + length copies)) (sym is)
       (subst (λ l. Lacks l (o.request.rid + 1 + length s.processed)) s_placings (s_none on))
 
   -- strikes bring no copy
   not_now : (u : PlainSession) → SameAs s u → is_over s ≡ false → Lacks (placings_in o u) (o.request.rid + 1 + length u.processed)
   not_now u far on =
-      subst (λ (copies : List RequestCopy). Lacks (placings_in o u) (o.request.rid + 1 + length copies)) (sym far.processed)
+      subst (λ (copies : List Processed). Lacks (placings_in o u) (o.request.rid + 1 + length copies)) (sym far.processed)
       (subst (λ l. Lacks (Stands (creation_of o) ∷ l) (o.request.rid + 1 + length s.processed)) (sym far.placings)
       (lacks_strikes far.struck far.moment (placings_in o s) (o.request.rid + 1 + length s.processed) (s_none on)))
 
@@ -147,8 +148,8 @@ module _ (o : Opening) (past : List Entry) (entry : Entry) (s : PlainSession) (s
       abbrev p : PlainSession
       p = placed t copy
 
-      p_processed : Processed p
-      p_processed = placed_processed t copy goes new small t_ends
+      p_underway : Underway p
+      p_underway = placed_underway t copy goes new small t_ends
 
       p_follows : IsFollowed p
       p_follows = steady-placed IsFollowed followed_steady t copy new small t_follows
@@ -156,9 +157,9 @@ module _ (o : Opening) (past : List Entry) (entry : Entry) (s : PlainSession) (s
       t_none : Lacks (placings_with o past) (o.request.rid + 1 + length t.processed)
       t_none = not_past t t_processed on
 
-      start : Processed p × Walk o past entry s same request body now is p p
+      start : Underway p × Walk o past entry s same request body now is p p
       start = (
-        p_processed,
+        p_underway,
         (
           record {
             creation_is = refl;
@@ -178,9 +179,9 @@ module _ (o : Opening) (past : List Entry) (entry : Entry) (s : PlainSession) (s
       t_first : IsFirstAnswer t
       t_first = steady-time IsFirstAnswer first_answer_steady s now r.first
 
-      walked : placings_in o p ≡ placings_with o (past ++ entry ∷ []) → Processed (advanced p) × Walk o past entry s same request body now is p (advanced p)
+      walked : placings_in o p ≡ placings_with o (past ++ entry ∷ []) → Underway (advanced p) × Walk o past entry s same request body now is p (advanced p)
       walked reached =
-          advanced-by (λ u. Processed u × Walk o past entry s same request body now is p u)
+          advanced-by (λ u. Underway u × Walk o past entry s same request body now is p u)
           (walking o past entry s same request body now is p t_creation refl p_follows reached made t_none t_first goes) p start
 
       -- the new copy and those that follow were processed, and what was held was answered
@@ -202,7 +203,7 @@ module _ (o : Opening) (past : List Entry) (entry : Entry) (s : PlainSession) (s
                       let follows : IsFollowed a = steady-advanced IsFollowed followed_steady p p_follows in
                       let none : Lacks (placings_with o (past ++ entry ∷ [])) (o.request.rid + 1 + length a.processed) =
                       subst (λ l. Lacks l (o.request.rid + 1 + length a.processed)) (ap (λ l. Stands (creation_of o) ∷ l) a_placings ∙ reached)
-                      (next_not o a (w.creation_is ∙ t_creation) follows (advanced_clear p p_processed.0) a_on) in
+                      (next_not o a (w.creation_is ∙ t_creation) follows (advanced_clear p p_underway.0) a_on) in
                       at_end o past entry s same (Made (Arrive request body now)) is on (ended.0 over) a.processed (length t.processed, w.longer, t_none) (λ goes_on. none))
                 ])),
             subst (λ l. Acknowledges (journal_with o (past ++ entry ∷ [])) u.reporting.on u.acknowledged l) (sym processed)
@@ -313,14 +314,14 @@ opened_ruled o = record {
   ends = opened_ends o;
   key = refl;
   creation = refl;
-  keeps = record { tried = λ k copy at. absurd (cc); terminate = λ k copy at. absurd (cc) };
+  keeps = record { tried = λ k one at. absurd (no_one k one at); opens = λ k one at. absurd (no_one k one at); terminate = λ k one at. absurd (no_one k one at) };
   first = refl;
-  acks = record { forth = λ on rid some within. absurd (omega arith); back = λ on rid a. absurd (no_copy a.0 a.1 a.6); off = λ on. refl };
+  acks = record { forth = λ on rid some within. absurd (omega arith); back = λ on rid a. absurd (no_one a.0 a.1 a.6); off = λ on. refl };
   stops = λ over. absurd (true_false (sym over));
 }
   where
-    no_copy : (k : ℕ) (copy : RequestCopy) → slice_get [] k ≡ Some copy → ⊥
-    no_copy k copy is = cc
+    no_one : (k : ℕ) (one : Processed) → slice_get [] k ≡ Some one → ⊥
+    no_one k one is = cc
 
 pub every_ruled : (journal : Journal) → IsJournal journal → BreaksNoRule journal (state_of journal).processed × (is_over (state_of journal) ≡ true → GoesNoFurther journal (state_of journal).processed)
     × Acknowledges journal (state_of journal).reporting.on (state_of journal).acknowledged (state_of journal).processed
@@ -333,7 +334,7 @@ pub every_at_end : (journal : Journal) → IsJournal journal → is_over (state_
 every_at_end journal made over =
     let r = every_ruled journal made in
     record {
-      each = subst (λ (c : RequestCopy). IsRun journal.opening.request.rid (placings_of journal) (c ∷ (state_of journal).processed)) (every_creation journal made) (every_run journal made);
+      each = subst (λ (c : RequestCopy). IsRun journal.opening.request.rid (placings_of journal) (c ∷ copies_of (state_of journal).processed)) (every_creation journal made) (every_run journal made);
       rules = r.0;
       stops = r.1 over;
     }

@@ -1,4 +1,4 @@
--- What answers take: a pause nothing, and another one item at least where one waits.
+-- What answers take: a pause and an add nothing, and another one item at least where one waits.
 use Rattle.std.proofs.Common.{◌≡◌, ℕ, ◌≤◌, true, false, All, IsTrue, List, [], ◌∷◌, Some, length, take, map, slice_get, get_or, refl, sym, ◌∙◌, ap, arith, subst, length-append, inl, inr}
 use Rattle.std.specs.List.{list_all}
 use Rattle.std.proofs.lemmas.Bool.{cases_lt}
@@ -9,24 +9,24 @@ use Rattle.bosh_types.specs.Limits.{longest_stanza}
 use Rattle.bosh_types.specs.declared.ending.Closing.{Closing}
 use Rattle.body_cutter.specs.Cutting.{is_stanza}
 use Rattle.body_cutter.proofs.Cuts.{stanza_is}
-use Rattle.session_core.specs.declared.copy.RequestCopy.{RequestCopy}
 use Rattle.session_core.specs.declared.outward.Front.TheVariants.{OfStanzas}
 use Rattle.session_core.specs.declared.outward.Outward.{Outward}
 use Rattle.session_core.specs.declared.outward.Outward.TheVariants.{Stanza, Close}
 use Rattle.session_core.specs.declared.replies.Taken.{Taken}
 use Rattle.session_core.specs.declared.replies.Taken.TheVariants as takings
 use Rattle.session_core.specs.Answers.{front_of, fit_one_answer}
-use Rattle.session_core.specs.Copy.{is_pause, unnamed}
+use Rattle.session_core.specs.Copy.{is_prompt, unnamed}
 use Rattle.session_core.specs.Journal.{Entered, Journal, IsJournal, state_of, MayEnter}
 use Rattle.session_core.specs.Machine.{opened, back, back_closed}
 use Rattle.session_core.specs.Outward.{items_in, size_of}
 use Rattle.session_core.specs.Passed.{given_by, if_done}
+use Rattle.session_core.specs.Processed.{Processed}
 use Rattle.session_core.specs.State.{PlainSession, Answered, waiting, answers, taken_by_answers}
 use Rattle.session_laws.specs.Answering.{WasGiven, IsLongestFront}
 use Rattle.session_laws.specs.Growing.{Begins}
 use Rattle.session_laws.proofs.Tests.{both_true, if_true, if_false, some_is}
 use Rattle.session_laws.proofs.AnswersGiven.{front_longest}
-use Rattle.session_laws.proofs.GivenIn.{one, entry_gives}
+use Rattle.session_laws.proofs.GivenIn.{one as given_one, entry_gives}
 use Rattle.session_laws.proofs.Lists.{get_drop, get_append}
 use Rattle.session_laws.proofs.Steps.{entry-by, along}
 
@@ -41,13 +41,13 @@ close_small : (stream : ℕ) (closing : Closing) → IsSmall (Close stream closi
 unfolding IsSmall
 close_small stream closing = omega arith
 
-done_small : (item : Outward) (r : Taken) → IsSmall item → All IsSmall (one (if_done item r))
+done_small : (item : Outward) (r : Taken) → IsSmall item → All IsSmall (given_one (if_done item r))
 done_small item takings.Done small = All-cons IsSmall item [] small (All-nil IsSmall)
 done_small item takings.Full small = All-nil IsSmall
 done_small item takings.Over small = All-nil IsSmall
 
-entry_small : (s : PlainSession) (entered : Entered) → MayEnter s entered → All IsSmall (one (given_by s entered))
-entry_small s entered may = entry-by s (λ e u. All IsSmall (one (given_by s e))) (record {
+entry_small : (s : PlainSession) (entered : Entered) → MayEnter s entered → All IsSmall (given_one (given_by s entered))
+entry_small s entered may = entry-by s (λ e u. All IsSmall (given_one (given_by s e))) (record {
   arrives = λ request body now allowed on room. All-nil IsSmall;
   backs = λ stream stanza now allowed on room. done_small (Stanza stream stanza) (back s stream stanza now).1 (stanza_small stream stanza allowed);
   closes = λ stream closing now on room. done_small (Close stream closing) (back_closed s stream closing now).1 (close_small stream closing);
@@ -66,7 +66,7 @@ greeting_small (stanza ∷ greeting) all =
 every_small : (journal : Journal) → IsJournal journal → All IsSmall (state_of journal).given
 every_small journal made = along (opened journal.opening) (λ past s. All IsSmall s.given)
     (λ past s entry may same small.
-    subst (All IsSmall) (sym (entry_gives s entry.entered may)) (All-append IsSmall s.given (one (given_by s entry.entered)) small (entry_small s entry.entered may)))
+    subst (All IsSmall) (sym (entry_gives s entry.entered may)) (All-append IsSmall s.given (given_one (given_by s entry.entered)) small (entry_small s entry.entered may)))
     journal.entries made.1 (greeting_small journal.opening.greeting ((made.0).greeting).0)
 
 begins_small : (xs ys : List Outward) → Begins xs ys → All IsSmall ys → All IsSmall xs
@@ -96,11 +96,11 @@ fronts_some : (items : List Outward) → All IsSmall items → 1 ≤ length item
 fronts_some [] small some = absurd (omega arith)
 fronts_some (item ∷ items) small some = front_some item items (All-head IsSmall item items small)
 
--- an answer takes one at least, where one waits and its request is no pause
-pub every_served : (journal : Journal) → IsJournal journal → (k : ℕ) (answer : Answered) (given : WasGiven (state_of journal) k answer) → is_pause given.oldest ≡ false → 1 ≤ length (waiting given.earlier) → 1 ≤ length (items_in answer.front)
+-- an answer takes one at least, where one waits and its request is neither a pause nor an add
+pub every_served : (journal : Journal) → IsJournal journal → (k : ℕ) (answer : Answered) (given : WasGiven (state_of journal) k answer) → is_prompt given.oldest.copy ≡ false → 1 ≤ length (waiting given.earlier) → 1 ≤ length (items_in answer.front)
 every_served journal made k answer given other some =
     let small : All IsSmall (given.earlier).given = begins_small (given.earlier).given (state_of journal).given given.given (every_small journal made) in
-    let front : answer.front ≡ front_of (waiting given.earlier) = ap (λ (a : Answered). a.front) given.answer_is ∙ if_false (is_pause given.oldest) (OfStanzas []) (front_of (waiting given.earlier)) other in
+    let front : answer.front ≡ front_of (waiting given.earlier) = ap (λ (a : Answered). a.front) given.answer_is ∙ if_false (is_prompt given.oldest.copy) (OfStanzas []) (front_of (waiting given.earlier)) other in
     subst (λ f. 1 ≤ length (items_in f)) (sym front) (fronts_some (waiting given.earlier) (All-drop IsSmall (taken_by_answers (answers given.earlier)) (given.earlier).given small) some)
 
 -- the request of an answer is the copy with its place
@@ -110,8 +110,8 @@ answered_copy s k answer given within =
     let here : slice_get (given.earlier).processed (length (given.earlier).answered) ≡ Some given.oldest = get_drop (length (given.earlier).answered) (given.earlier).processed given.oldest given.later given.held_is in
     ap (slice_get s.processed) (sym count) ∙ ap (λ l. slice_get l (length (given.earlier).answered)) (given.processed).1 ∙ get_append (given.earlier).processed (given.processed).0 (length (given.earlier).answered) given.oldest here
 
--- a pause takes nothing
-pub pause_takes : (s : PlainSession) (k : ℕ) (copy : RequestCopy) (answer : Answered) → WasGiven s k answer → k ≤ length s.answered → slice_get s.processed k ≡ Some copy → is_pause copy ≡ true → answer.front ≡ OfStanzas []
-pause_takes s k copy answer given within at pauses =
-    let same : given.oldest ≡ copy = some_is given.oldest copy (sym (answered_copy s k answer given within) ∙ at) in
-    ap (λ (a : Answered). a.front) given.answer_is ∙ if_true (is_pause given.oldest) (OfStanzas []) (front_of (waiting given.earlier)) (ap is_pause same ∙ pauses)
+-- a pause and an add take nothing
+pub prompt_takes : (s : PlainSession) (k : ℕ) (one : Processed) (answer : Answered) → WasGiven s k answer → k ≤ length s.answered → slice_get s.processed k ≡ Some one → is_prompt one.copy ≡ true → answer.front ≡ OfStanzas []
+prompt_takes s k one answer given within at prompt =
+    let same : given.oldest ≡ one = some_is given.oldest one (sym (answered_copy s k answer given within) ∙ at) in
+    ap (λ (a : Answered). a.front) given.answer_is ∙ if_true (is_prompt given.oldest.copy) (OfStanzas []) (front_of (waiting given.earlier)) (ap (λ (p : Processed). is_prompt p.copy) same ∙ prompt)

@@ -6,16 +6,17 @@ use Rattle.bosh_types.specs.ById.{at_id}
 use Rattle.bosh_types.specs.Rid.{greatest_rid}
 use Rattle.session_core.specs.declared.copy.RequestCopy.{RequestCopy}
 use Rattle.session_core.specs.Copy.{id_of, with_id}
-use Rattle.session_core.specs.Machine.{opened}
+use Rattle.session_core.specs.Machine.{as_processed, opened}
 use Rattle.session_core.specs.declared.opening.Opening.{Opening}
+use Rattle.session_core.specs.Processed.{Processed}
 use Rattle.session_core.specs.State.{PlainSession, Answered, Stands, first_of, last_of, standing, standing_at, held}
 use Rattle.session_core.proofs.StruckLemmas.{standing_more, standing_other, strike_later, struck_before}
 use Rattle.session_laws.proofs.Tests.{which}
 use Rattle.session_laws.proofs.Moves.{Steady}
 use Rattle.session_laws.proofs.Lists.{get_push, get_drop, get_within, at_id-has, standing_still, standing_other as push_other}
 
-pub record SoundLists (first : ℕ) (standing processed : List RequestCopy) (answered : List Answered) : Type 0 where
-  pub stand : (k : ℕ) (copy : RequestCopy) → slice_get processed k ≡ Some copy → at_id (map with_id standing) (first + 1 + k) ≡ Some copy
+pub record SoundLists (first : ℕ) (standing : List RequestCopy) (processed : List Processed) (answered : List Answered) : Type 0 where
+  pub stand : (k : ℕ) (one : Processed) → slice_get processed k ≡ Some one → at_id (map with_id standing) (first + 1 + k) ≡ Some one.copy
   pub ids : (k : ℕ) (answer : Answered) → slice_get answered k ≡ Some answer → answer.rid ≡ first + 1 + k
   pub few : length answered ≤ length processed
   pub above : (rid : ℕ) (copy : RequestCopy) → at_id (map with_id standing) rid ≡ Some copy → (first < rid) × (rid ≤ greatest_rid)
@@ -24,9 +25,9 @@ abbrev pub IsSound : PlainSession → Type 0
 IsSound s = SoundLists (first_of s) (standing s) s.processed s.answered
 
 -- the oldest held copy has the id after those that were answered
-pub oldest_id : (s : PlainSession) (oldest : RequestCopy) (later : List RequestCopy) → IsSound s → held s ≡ oldest ∷ later → id_of oldest ≡ first_of s + 1 + length s.answered
+pub oldest_id : (s : PlainSession) (oldest : Processed) (later : List Processed) → IsSound s → held s ≡ oldest ∷ later → id_of oldest.copy ≡ first_of s + 1 + length s.answered
 oldest_id s oldest later sound is =
-    at_id-has (standing s) (first_of s + 1 + length s.answered) oldest (sound.stand (length s.answered) oldest (get_drop (length s.answered) s.processed oldest later is))
+    at_id-has (standing s) (first_of s + 1 + length s.answered) oldest.copy (sound.stand (length s.answered) oldest (get_drop (length s.answered) s.processed oldest later is))
 
 pub sound_steady : Steady IsSound
 sound_steady = record {
@@ -34,7 +35,7 @@ sound_steady = record {
   aside = λ t tickets now last_arrival passed counted p. p;
   answers = λ t oldest later front is on reason taken p.
       let within : length t.answered < length t.processed = get_within t.processed (length t.answered) oldest (get_drop (length t.answered) t.processed oldest later is) in
-      let answer : Answered = record { rid = id_of oldest; bytes = _; moment = t.now; front = front } in
+      let answer : Answered = record { rid = id_of oldest.copy; bytes = _; moment = t.now; front = front } in
       record {
         stand = p.stand;
         ids = λ k given at. elim (get_push t.answered answer k given at) [
@@ -47,19 +48,19 @@ sound_steady = record {
   processes = λ t copy on stands broken p.
       let place : first_of t + length t.processed + 1 ≡ first_of t + 1 + length t.processed = omega arith in
       record {
-        stand = λ k found at. elim (get_push t.processed copy k found at) [
+        stand = λ k found at. elim (get_push t.processed (as_processed t copy) k found at) [
           | inl there ↦ p.stand k found there
-          | inr last ↦ ap (standing_at t) (ap (λ n. first_of t + 1 + n) last.0 ∙ sym place) ∙ stands ∙ ap Some last.1
+          | inr last ↦ ap (standing_at t) (ap (λ n. first_of t + 1 + n) last.0 ∙ sym place) ∙ stands ∙ ap (λ (p : Processed). Some p.copy) last.1
         ];
         ids = p.ids;
-        few = omega (arith, p.few, length_push t.processed copy);
+        few = omega (arith, p.few, length_push t.processed (as_processed t copy));
         above = p.above;
       };
   stands = λ t copy above none small p.
       let stands_now : standing (record t { placings = t.placings ++ Stands copy ∷ [] }) ≡ standing t ++ copy ∷ [] = standing_more [] t.placings (Stands copy ∷ []) in
       subst (λ (copies : List RequestCopy). SoundLists (first_of t) copies t.processed t.answered) (sym stands_now)
       (record {
-        stand = λ k found at. standing_still (standing t) copy (first_of t + 1 + k) found (p.stand k found at);
+        stand = λ k found at. standing_still (standing t) copy (first_of t + 1 + k) found.copy (p.stand k found at);
         ids = p.ids;
         few = p.few;
         above = λ rid found at. elim (which (standing_at t rid)) [

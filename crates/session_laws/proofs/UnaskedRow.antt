@@ -2,12 +2,11 @@
 use Rattle.std.proofs.Common.{◌≡◌, ℕ, true, List, [], ◌∷◌, ◌++◌, Option, Some, None, length, get_or, drop, refl, sym, ◌∙◌, ap, arith, ◌⊎◌, inl, inr}
 use Rattle.std.specs.Prelude.{codes}
 use Rattle.body_writer.specs.Answer.{answer_text}
-use Rattle.session_core.specs.declared.copy.RequestCopy.{RequestCopy}
 use Rattle.session_core.specs.declared.outward.Front.TheVariants.{OfStanzas}
 use Rattle.session_core.specs.declared.outward.Outward.{Outward}
 use Rattle.session_core.specs.Answers.{has_reason, with_answer, answer_parts, front_for}
-use Rattle.session_core.specs.Copy.{id_of}
 use Rattle.session_core.specs.Machine.{opened, copy_now}
+use Rattle.session_core.specs.Processed.{Processed}
 use Rattle.session_core.specs.State.{PlainSession, Answered, Stands}
 use Rattle.session_core.proofs.RowTools.{opening, empty, bodies_compute}
 use Rattle.session_laws.specs.Answering.{WasGiven}
@@ -15,15 +14,15 @@ use Rattle.session_laws.proofs.Steadily.{is_none}
 use Rattle.session_laws.proofs.Tests.{true_false, which}
 
 -- one request is held, and nothing asks for its answer
-abbrev asking : RequestCopy
-asking = copy_now (opened opening) (empty 1001) (codes "<body/>")
+abbrev asking : Processed
+asking = record { copy = copy_now (opened opening) (empty 1001) (codes "<body/>"); running = 0 ∷ []; opened = None }
 
 abbrev held_one : PlainSession
-held_one = record (opened opening) { placings = Stands asking ∷ []; processed = asking ∷ [] }
+held_one = record (opened opening) { placings = Stands asking.copy ∷ []; processed = asking ∷ [] }
 
 -- it is answered all the same
 abbrev unasked : PlainSession
-unasked = with_answer held_one 1001 (OfStanzas [])
+unasked = with_answer held_one asking (OfStanzas [])
 
 abbrev answer_of : List Answered → Answered
 answer_of [] = held_one.created
@@ -76,7 +75,7 @@ none_asks e given which_given reason = elim which_given [
 ]
 
 -- and with one, the answer would tell of it
-none_told : (e : PlainSession) (given : List Outward) (due : ℕ × ℕ) → (answer_of unasked.answered).bytes ≡ answer_text (answer_parts (as_it_was e given (Some due)) 1001 (OfStanzas [])) → ⊥
+none_told : (e : PlainSession) (given : List Outward) (due : ℕ × ℕ) → (answer_of unasked.answered).bytes ≡ answer_text (answer_parts (as_it_was e given (Some due)) asking (OfStanzas [])) → ⊥
 unfolding bodies_compute
 none_told e given due is =
     let differs : 47 ≡ 32 = ap (λ bytes. get_or bytes 49 0) is in
@@ -94,14 +93,14 @@ an_answer_without_a_reason w =
     let given : (e.given ≡ []) ⊎ (e.given ≡ held_one.given) = front_of_one _ e.given (w.given).0 (w.given).1 in
     let now : e.now ≡ 0 = sym (ap (λ (a : Answered). a.moment) w.answer_is) in
     let front : front_for e w.oldest ≡ OfStanzas [] = sym (ap (λ (a : Answered). a.front) w.answer_is) in
-    let bytes : (answer_of unasked.answered).bytes ≡ answer_text (answer_parts e 1001 (OfStanzas [])) =
-    ap (λ (a : Answered). a.bytes) w.answer_is ∙ ap (λ f. answer_text (answer_parts e (id_of w.oldest) f)) front ∙ ap (λ (c : RequestCopy). answer_text (answer_parts e (id_of c) (OfStanzas []))) (sym oldest) in
+    let bytes : (answer_of unasked.answered).bytes ≡ answer_text (answer_parts e asking (OfStanzas [])) =
+    ap (λ (a : Answered). a.bytes) w.answer_is ∙ ap (λ f. answer_text (answer_parts e w.oldest f)) front ∙ ap (λ (x : Processed). answer_text (answer_parts e x (OfStanzas []))) (sym oldest) in
     elim (which e.reporting.due) [
       | inl no_due ↦
           none_asks e e.given given (ap has_reason (sym (it_was e e.given None (w.told).0 (w.told).1 (w.told).2 processed w.answered refl now (is_none e.ending w.goes_on) no_due)) ∙ w.reason)
       | inr due ↦
-          none_told e e.given due.0 (bytes ∙ ap (λ (u : PlainSession). answer_text (answer_parts u 1001 (OfStanzas []))) (it_was e e.given (Some due.0) (w.told).0 (w.told).1 (w.told).2 processed w.answered refl now (is_none e.ending w.goes_on) due.1))
+          none_told e e.given due.0 (bytes ∙ ap (λ (u : PlainSession). answer_text (answer_parts u asking (OfStanzas []))) (it_was e e.given (Some due.0) (w.told).0 (w.told).1 (w.told).2 processed w.answered refl now (is_none e.ending w.goes_on) due.1))
     ]
   where
-    head_is : (x y : RequestCopy) (xs ys : List RequestCopy) → x ∷ xs ≡ y ∷ ys → x ≡ y
+    head_is : (x y : Processed) (xs ys : List Processed) → x ∷ xs ≡ y ∷ ys → x ≡ y
     head_is x y xs ys is = cc

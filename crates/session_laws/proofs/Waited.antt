@@ -13,7 +13,7 @@ use Rattle.session_core.specs.Answers.{has_reason, settled}
 use Rattle.session_core.specs.Copy.{id_of, with_id}
 use Rattle.session_core.specs.Gap.{has_waited, ids_ahead, ids_to_strike, is_to_strike, owes_errors, strike, strike_each, struck}
 use Rattle.session_core.specs.Journal.{IsJournal, IsOpening, Journal, state_of}
-use Rattle.session_core.specs.Machine.{opened, advanced, placed}
+use Rattle.session_core.specs.Machine.{as_processed, opened, advanced, placed}
 use Rattle.session_core.specs.Placed.{AreStruckAt, AreStruckBy}
 use Rattle.session_core.specs.State.{PlainSession, held, last_of, standing, standing_at, is_over}
 use Rattle.session_core.specs.Time.{at_moment, is_due, is_silent, silenced, time_applied}
@@ -130,13 +130,13 @@ over_fresh s over on = absurd (over_or_on s over on)
 
 fresh_answering : Answering IsFresh
 fresh_answering = record {
-  stanzas = λ s oldest later items is on reason front p. p;
-  closes = λ s oldest later stream closing is on reason front p goes. absurd (true_false goes);
+  gives = λ s oldest later front is on reason due other p. p;
+  closes = λ s oldest later stream closing is on reason due last p goes. absurd (true_false goes);
 }
 
 fresh_processing : Processing IsFresh
 fresh_processing = record {
-  processes = λ s copy on stands broken further p goes holds rid found later at. p goes holds rid found (omega (arith, later, length_push s.processed copy)) at;
+  processes = λ s copy on stands broken further p goes holds rid found later at. p goes holds rid found (omega (arith, later, length_push s.processed (as_processed s copy))) at;
   terminates = λ s copy on stands broken last p goes. absurd (true_false goes);
   breaks = λ s copy ending on stands broken p goes. absurd (true_false goes);
 }

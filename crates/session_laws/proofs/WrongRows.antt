@@ -1,5 +1,5 @@
 -- The laws are strong: of a machine with one line turned, the law that it breaks.
-use Rattle.std.proofs.Common.{◌≡◌, ◌≢◌, ℕ, ◌≤◌, List, [], ◌∷◌, ◌++◌, Option, Some, None, length, refl, sym, ◌∙◌, ap, arith, inl, inr}
+use Rattle.std.proofs.Common.{◌≡◌, ◌≢◌, ℕ, ◌≤◌, ◌<◌, ◌↔◌, true, List, [], ◌∷◌, ◌++◌, Option, Some, None, length, slice_get, refl, sym, ◌∙◌, ap, arith, inl, inr}
 use Rattle.std.specs.Prelude.{codes}
 use Rattle.std.proofs.lemmas.List.Elements.{All-nil}
 use Rattle.bosh_types.specs.declared.ending.Ending.TheVariants as endings
@@ -12,19 +12,25 @@ use Rattle.session_core.specs.declared.outward.Outward.TheVariants.{Stanza}
 use Rattle.session_core.specs.declared.replies.Arrived.{Arrived}
 use Rattle.session_core.specs.declared.replies.Arrived.TheVariants as arrivals
 use Rattle.session_core.specs.declared.replies.Collected.TheVariants as collections
+use Rattle.bosh_types.specs.Limits.{most_streams}
+use Rattle.stream_names.specs.Streams.{name_of}
+use Rattle.session_core.specs.Copy.{is_add}
 use Rattle.session_core.specs.Answers.{with_answer, front_of, settled}
 use Rattle.session_core.specs.Endings.{ended}
 use Rattle.session_core.specs.Facts.{Fact}
 use Rattle.session_core.specs.Journal.{Call, Back, Tick, Made, step}
 use Rattle.session_core.specs.Kept.{kept_of}
 use Rattle.session_core.specs.Machine.{opened, placed, copy_now, bytes_for}
+use Rattle.session_core.specs.Processed.{Processed}
 use Rattle.session_core.specs.Run.{IsRun, Lacks, id_in}
 use Rattle.session_core.specs.State.{PlainSession, Placing, Stands, Answered, Issued, TicketState, Waits, Replaced, Struck, UsedUp, answers, waiting}
 use Rattle.session_core.specs.Time.{at_moment}
-use Rattle.session_core.proofs.RowTools.{opening, empty, carrying, plain, empty_body, bodies_compute}
-use Rattle.session_core.specs.Outward.{items_in}
+use Rattle.session_core.proofs.RowTools.{opening, empty, adding, naming, carrying, plain, empty_body, bodies_compute}
+use Rattle.session_core.specs.Outward.{items_in, stream_in}
 use Rattle.session_core.specs.Passed.{items_taken}
+use Rattle.session_laws.specs.Streams.{opened_before, IsOpenAt, NamesStream}
 use Rattle.session_laws.specs.Tickets.{Tells}
+use Rattle.session_laws.proofs.Tests.{true_false}
 
 abbrev after : PlainSession → List Call → PlainSession
 after s [] = s
@@ -57,12 +63,19 @@ a_fresh_answer_to_a_repeat answer kept told =
     let bytes : length empty_body ≡ length answer.bytes = ap length (bytes_are empty_body answer.bytes told) in
     absurd (omega (arith, same, bytes))
 
+-- a request, as it is processed where the first stream alone is open
+abbrev asked_once : RequestCopy
+asked_once = copy_now (opened opening) (empty 1001) (codes "<body/>")
+
+abbrev alone : RequestCopy → Processed
+alone copy = record { copy = copy; running = 0 ∷ []; opened = None }
+
 -- two stanzas wait, and a request is held that takes only the second of them: the law `given`
 abbrev two_wait : PlainSession
 two_wait = record (opened opening) { given = (opened opening).given ++ Stanza 0 (codes "<iq/>") ∷ Stanza 0 (codes "<presence/>") ∷ [] }
 
 abbrev lost_one : PlainSession
-lost_one = with_answer two_wait 1001 (OfStanzas (Stanza 0 (codes "<presence/>") ∷ []))
+lost_one = with_answer two_wait (alone asked_once) (OfStanzas (Stanza 0 (codes "<presence/>") ∷ []))
 
 second_is : (a b c d : Outward) (more later : List Outward) → a ∷ b ∷ more ≡ c ∷ d ∷ later → b ≡ d
 second_is a b c d more later is = cc
@@ -76,12 +89,12 @@ an_answer_that_loses_an_item : items_taken (answers lost_one) ++ waiting lost_on
 unfolding bodies_compute
 an_answer_that_loses_an_item is = other_stanza (codes "<presence/>") (codes "<iq/>") (λ same. absurd (omega (arith, same))) (second_is _ _ _ _ _ _ is)
 
--- a pause that takes what waits: the law `pauses`
+-- a pause that takes what waits: the law `prompt`
 abbrev paused : RequestCopy
 paused = copy_now two_wait (record (empty 1001) { pause = Some 5 }) (codes "<body/>")
 
 abbrev pause_held : PlainSession
-pause_held = record (placed two_wait paused) { processed = paused ∷ [] }
+pause_held = record (placed two_wait paused) { processed = alone paused ∷ [] }
 
 abbrev front_in : List Answered → Front
 front_in [] = OfStanzas []
@@ -90,9 +103,51 @@ front_in (answer ∷ given) = answer.front
 abbrev items_of_front : Front → ℕ
 items_of_front front = length (items_in front)
 
-a_pause_that_takes_items : front_in (with_answer pause_held 1001 (front_of (waiting pause_held))).answered ≡ OfStanzas [] → ⊥
+a_pause_that_takes_items : front_in (with_answer pause_held (alone paused) (front_of (waiting pause_held))).answered ≡ OfStanzas [] → ⊥
 unfolding bodies_compute
 a_pause_that_takes_items takes = absurd (omega (arith, ap items_of_front takes))
+
+-- an add whose answer names no stream: the law `names`
+abbrev added_once : Processed
+added_once = record { copy = copy_now (opened opening) (adding 1001) (codes "<body/>"); running = 0 ∷ []; opened = Some 1 }
+
+no_name : (stream : ℕ) → None ≡ Some stream → ⊥
+no_name stream is = cc
+
+abbrev unnamed_one : Option ℕ
+unnamed_one = None
+
+abbrev named_one : ℕ → Option ℕ
+named_one stream = Some stream
+
+an_add_that_names_no_stream : ((unnamed_one ≡ named_one 1) ↔ NamesStream (opened opening) added_once (OfStanzas []) 1) → ⊥
+an_add_that_names_no_stream both = no_name 1 (both.1 (inl refl))
+
+-- the only stream, named: the law `names`
+an_only_stream_that_is_named : ((named_one 0 ≡ named_one 0) ↔ NamesStream (opened opening) (alone asked_once) (OfStanzas (Stanza 0 (codes "<iq/>") ∷ [])) 0) → ⊥
+an_only_stream_that_is_named both = elim (both.0 refl) [
+  | inl added ↦ no_name 0 added
+  | inr taken ↦ absurd (omega (arith, taken.1))
+]
+
+-- an answer that takes items of two streams: the law `on_one`
+abbrev of_two : List Outward
+of_two = Stanza 0 (codes "<iq/>") ∷ Stanza 1 (codes "<iq/>") ∷ []
+
+items_of_two_streams : ((i j : ℕ) (item other : Outward) → slice_get of_two i ≡ Some item → slice_get of_two j ≡ Some other → stream_in item ≡ stream_in other) → ⊥
+items_of_two_streams one = absurd (omega (arith, one 0 1 (Stanza 0 (codes "<iq/>")) (Stanza 1 (codes "<iq/>")) refl refl))
+
+-- a stream that is opened by a copy that is no add: the law `opens_next`
+a_stream_that_nobody_added : ((stream : ℕ) → (named_one 1 ≡ named_one stream) ↔ ((is_add asked_once ≡ true) × (stream ≡ opened_before []) × (stream < most_streams))) → ⊥
+unfolding bodies_compute
+a_stream_that_nobody_added next = true_false (sym ((next 1).0 refl).0)
+
+-- a stream that is open for a copy after a terminate of it: the law `open_for`
+abbrev shut_once : RequestCopy
+shut_once = copy_now (opened opening) (record (naming (name_of 1) 1002) { terminate = true }) (codes "<body/>")
+
+a_stream_open_after_its_terminate : (tested : PlainSession) → IsOpenAt tested (added_once.copy ∷ shut_once ∷ []) 1 → ⊥
+a_stream_open_after_its_terminate tested open_there = open_there.unshut (1, shut_once, refl, refl, refl)
 
 -- a run that skips the id of a gap: the law `run_each`
 abbrev pub after_gap : RequestCopy
@@ -132,7 +187,7 @@ silence_that_never_comes ends = no_ending (ends (refl, (λ holds. refl), refl, r
 -- an id that is answered again where its answer is kept no longer: the law `ends`
 abbrev acknowledged_once : PlainSession
 acknowledged_once = record (opened opening) {
-  processed = copy_now (opened opening) (empty 1001) (codes "<body/>") ∷ [];
+  processed = alone asked_once ∷ [];
   answered = record { rid = 1001; bytes = []; moment = 0; front = OfStanzas [] } ∷ [];
   acknowledged = 1001;
 }

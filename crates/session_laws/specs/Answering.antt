@@ -2,10 +2,10 @@
 use Rattle.std.specs.Prelude.{◌≡◌, ℕ, ◌<◌, ◌≤◌, true, false, List, ◌∷◌, take, length}
 use Rattle.bosh_types.specs.Limits.{most_waiting}
 use Rattle.body_writer.specs.Answer.{answer_text}
-use Rattle.session_core.specs.declared.copy.RequestCopy.{RequestCopy}
 use Rattle.session_core.specs.declared.outward.Outward.{Outward}
 use Rattle.session_core.specs.Answers.{has_reason, front_for, fit_one_answer, answer_parts}
 use Rattle.session_core.specs.Copy.{id_of}
+use Rattle.session_core.specs.Processed.{Processed}
 use Rattle.session_core.specs.State.{PlainSession, Answered, held, is_over}
 use Rattle.session_laws.specs.Growing.{Begins}
 
@@ -13,8 +13,8 @@ use Rattle.session_laws.specs.Growing.{Begins}
 -- and the answer is that request's, took what was due to it, and is the text of its parts
 pub record WasGiven (s : PlainSession) (count : ℕ) (answer : Answered) : Type 0 where
   pub earlier : PlainSession
-  pub oldest : RequestCopy
-  pub later : List RequestCopy
+  pub oldest : Processed
+  pub later : List Processed
   pub told : (earlier.creation ≡ s.creation) × (earlier.terms ≡ s.terms) × (earlier.created ≡ s.created)
   pub processed : Begins earlier.processed s.processed
   pub answered : earlier.answered ≡ take count s.answered
@@ -24,8 +24,8 @@ pub record WasGiven (s : PlainSession) (count : ℕ) (answer : Answered) : Type 
   pub reason : has_reason earlier ≡ true
   pub answer_is : answer
       ≡ record {
-        rid = id_of oldest;
-        bytes = answer_text (answer_parts earlier (id_of oldest) (front_for earlier oldest));
+        rid = id_of oldest.copy;
+        bytes = answer_text (answer_parts earlier oldest (front_for earlier oldest));
         moment = earlier.now;
         front = front_for earlier oldest;
       }

@@ -1,9 +1,11 @@
 -- The laws of a session: what every journal that calls made keeps.
-use Rattle.std.specs.Prelude.{◌≡◌, ◌↔◌, ◌+◌, ◌<◌, ◌≤◌, ℕ, true, false, ◌++◌, List, [], Some, None, IsSome, length, take, slice_get}
+use Rattle.std.specs.Prelude.{◌≡◌, ◌↔◌, ◌+◌, ◌<◌, ◌≤◌, ℕ, true, false, ◌++◌, List, [], ◌∷◌, Some, None, IsSome, IsTrue, length, take, slice_get}
+use Rattle.bosh_types.specs.Limits.{most_streams}
 use Rattle.bosh_types.specs.declared.ending.Closing.{Closing}
 use Rattle.bosh_types.specs.declared.ending.Ending.{Ending}
 use Rattle.bosh_types.specs.declared.inward.Inward.{Inward}
 use Rattle.bosh_types.specs.declared.kept.KeptAnswer.{KeptAnswer}
+use Rattle.stream_names.specs.Streams.{is_among}
 use Rattle.session_attrs.specs.declared.request.Request.{Request}
 use Rattle.session_core.specs.declared.replies.Arrived.TheVariants as arrivals
 use Rattle.session_core.specs.declared.copy.RequestCopy.{RequestCopy}
@@ -12,19 +14,20 @@ use Rattle.session_core.specs.declared.outward.Outward.{Outward}
 use Rattle.session_core.specs.declared.replies.Collected.{Collected}
 use Rattle.session_core.specs.declared.replies.Taken.TheVariants as takings
 use Rattle.session_core.specs.declared.replies.Ticked.TheVariants.{Quiet}
-use Rattle.session_core.specs.Answers.{has_reason, front_of}
-use Rattle.session_core.specs.Copy.{is_pause}
+use Rattle.session_core.specs.Answers.{answer_parts, has_reason, front_of}
+use Rattle.session_core.specs.Copy.{is_add, is_prompt, unnamed}
 use Rattle.session_core.specs.Endings.{last_word}
 use Rattle.session_core.specs.Facts.{Fact}
 use Rattle.session_core.specs.Journal.{Call, Arrive, Collect, Back, BackClosed, Tick, TakeInward, Entry, Entered, Limit, Limited, Journal, IsJournal, IsAllowed, MayEnter, ToArrive, ToCollect, ToBack, ToTick, ToTakeInward, counted, state_of, step, entered_by, after_entry, reply_of}
 use Rattle.session_core.specs.Kept.{kept_of}
 use Rattle.session_core.specs.Machine.{first_answer, body_cost, is_full, plain_cost, bytes_for, has_room, takes_items}
-use Rattle.session_core.specs.Outward.{items_in}
+use Rattle.session_core.specs.Outward.{items_in, stream_in}
 use Rattle.session_core.specs.Passed.{passed_of, given_in}
+use Rattle.session_core.specs.Processed.{Processed, copies_of}
 use Rattle.session_core.specs.Points.{tested_at}
 use Rattle.session_core.specs.Placed.{ArePlaced, AreStruckAt, AreStruckBy}
-use Rattle.session_core.specs.Run.{IsReceived, IsRun, IsLongestRun, arrivals_of, placings_of, run_of}
-use Rattle.session_core.specs.State.{Answered, answers, answered_of, inward, standing_at, waiting, is_over}
+use Rattle.session_core.specs.Run.{Completes, IsReceived, IsRun, IsLongestRun, arrivals_of, placings_of, run_of, state_testing}
+use Rattle.session_core.specs.State.{Answered, answers, answered_of, inward, opened_in, running, standing_at, waiting, is_over}
 use Rattle.session_core.specs.Time.{time_applied, is_due}
 use Rattle.session_laws.specs.Acknowledging.{IsKept}
 use Rattle.session_laws.specs.Answering.{WasGiven, IsLongestFront}
@@ -33,6 +36,7 @@ use Rattle.session_core.specs.Passed.{items_taken}
 use Rattle.session_laws.specs.OneBody.{SendsOneBody, RunCarries, carried}
 use Rattle.session_laws.specs.Replies.{IsOpenId, IsToldTo, MayTake}
 use Rattle.session_laws.specs.RunEnded.{BreaksNoRule, IsRunOfEnded}
+use Rattle.session_laws.specs.Streams.{AddNone, IsOpenAt, NamesStream, opened_before}
 use Rattle.session_laws.specs.Tickets.{Tells, tickets_after}
 
 pub record KeptLaws (journal : Journal) : Type 0 where
@@ -52,11 +56,27 @@ pub record KeptLaws (journal : Journal) : Type 0 where
   -- that was; and each copy of it is the one that was received with its id whether the session goes on or not
   pub run : is_over (state_of journal) ≡ false → IsLongestRun journal.opening.request.rid (placings_of journal) (run_of journal)
   pub run_each : IsRun journal.opening.request.rid (placings_of journal) (run_of journal)
-  -- each copy of the run after the creation broke no rule when it and copies of all lower ids first stood together, and only the last may be a
-  -- terminate; once the session has ended, the run stops there, before a copy that broke a rule, or where no more had been received
+  -- each copy of the run after the creation broke no rule when it and copies of all lower ids first stood together, and was processed with the
+  -- streams that were open then; only the last may end the session; once the session has ended, the run stops there, before a copy that broke
+  -- a rule, or where no more had been received
   pub run_rules : BreaksNoRule journal (state_of journal).processed
   pub run_at_end : is_over (state_of journal) ≡ true → IsRunOfEnded journal (state_of journal).processed
-  -- of a client that sends one body for each id, what may go inward is what the bodies of the run's ids carry, each once
+  -- while the session goes on a stream is open, as one was at each copy that was processed; where no stream was added it is the first
+  pub open_stream : is_over (state_of journal) ≡ false → 1 ≤ length (running (state_of journal))
+  pub open_each : (k : ℕ) (one : Processed) → slice_get (state_of journal).processed k ≡ Some one → 1 ≤ length one.running
+  pub alone : AddNone (state_of journal).processed → (k : ℕ) (one : Processed) → slice_get (state_of journal).processed k ≡ Some one
+      → (one.running ≡ unnamed ∷ []) × (one.opened ≡ None)
+  -- each copy was processed with the streams that were open for it, when it and copies of all lower ids first stood together; an add opened the
+  -- next one, where fewer than eight were opened, and no other copy opened one
+  pub open_for : (k : ℕ) (one : Processed) (before : List Entry) (entry : Entry) (after : List Entry)
+      → slice_get (state_of journal).processed k ≡ Some one → journal.entries ≡ before ++ entry ∷ after → Completes journal.opening before entry k
+      → (stream : ℕ) → IsTrue (is_among one.running stream)
+      ↔ IsOpenAt (state_testing journal.opening before entry) (copies_of (take k (state_of journal).processed)) stream
+  pub opens_next : (k : ℕ) (one : Processed) → slice_get (state_of journal).processed k ≡ Some one
+      → (stream : ℕ) → (one.opened ≡ Some stream)
+      ↔ ((is_add one.copy ≡ true) × (stream ≡ opened_before (copies_of (take k (state_of journal).processed))) × (stream < most_streams))
+  -- of a client that sends one body for each id, what may go inward is what the bodies of the run's ids carry for the streams that were open
+  -- then, each once
   pub one_body : (bodies : ℕ → List ℕ) (items : ℕ → List Inward) → SendsOneBody bodies journal → RunCarries bodies items journal
       → inward (state_of journal) ≡ carried items journal.opening.request.rid (length (run_of journal))
   -- the state after a call is the state after its entry, and a call without one changes nothing
@@ -117,16 +137,29 @@ pub record KeptLaws (journal : Journal) : Type 0 where
       → answer.rid ≡ journal.opening.request.rid + k
   pub answers_processed : length (state_of journal).answered ≤ length (state_of journal).processed
   -- each answer was given for a reason, to the oldest held request, with what was due to it; one item at least, where one
-  -- waited and the request was no pause
+  -- waited and the request was neither a pause nor an add
   pub answered : (k : ℕ) (answer : Answered) → slice_get (state_of journal).answered k ≡ Some answer
       → WasGiven (state_of journal) k answer
-  pub served : (k : ℕ) (answer : Answered) (given : WasGiven (state_of journal) k answer) → is_pause given.oldest ≡ false
+  pub served : (k : ℕ) (answer : Answered) (given : WasGiven (state_of journal) k answer) → is_prompt given.oldest.copy ≡ false
       → 1 ≤ length (waiting given.earlier)
       → 1 ≤ length (items_in answer.front)
-  -- a pause takes nothing
-  pub pauses : (k : ℕ) (copy : RequestCopy) (answer : Answered) → slice_get (state_of journal).processed k ≡ Some copy
+  -- a pause and an add take nothing
+  pub prompt : (k : ℕ) (one : Processed) (answer : Answered) → slice_get (state_of journal).processed k ≡ Some one
       → slice_get (state_of journal).answered k ≡ Some answer
-      → is_pause copy ≡ true → answer.front ≡ OfStanzas []
+      → is_prompt one.copy ≡ true → answer.front ≡ OfStanzas []
+  -- what an answer takes lies on one stream; which stream it names
+  pub on_one : (k : ℕ) (answer : Answered) → slice_get (state_of journal).answered k ≡ Some answer
+      → (i j : ℕ) (item other : Outward) → slice_get (items_in answer.front) i ≡ Some item → slice_get (items_in answer.front) j ≡ Some other
+      → stream_in item ≡ stream_in other
+  pub names : (k : ℕ) (answer : Answered) (given : WasGiven (state_of journal) k answer) (stream : ℕ)
+      → ((answer_parts given.earlier given.oldest answer.front).stream ≡ Some stream)
+      ↔ NamesStream given.earlier given.oldest answer.front stream
+  -- where no stream was added no answer but the creation's names one
+  pub unnamed_answers : AddNone (state_of journal).processed → (k : ℕ) (answer : Answered) → slice_get (state_of journal).answered k ≡ Some answer
+      → (given : WasGiven (state_of journal) k answer) → (answer_parts given.earlier given.oldest answer.front).stream ≡ None
+  -- what the server gave lies on streams that were opened, of eight at most
+  pub given_on : (k : ℕ) (item : Outward) → slice_get (state_of journal).given k ≡ Some item
+      → (stream_in item < opened_in (state_of journal).processed) × (stream_in item < most_streams)
   -- what is due of the items that wait is the longest front that one answer may take, where no closing comes first
   pub fronts : (items front : List Outward) → front_of items ≡ OfStanzas front → IsLongestFront items front
   -- an id that wasn't answered before the ending is given its last word

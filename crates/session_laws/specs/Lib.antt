@@ -6,3 +6,4 @@ pub mod Answering
 pub mod Replies
 pub mod Acknowledging
 pub mod RunEnded
+pub mod Streams

@@ -44,13 +44,23 @@ fn arrived(
     Ok(session.arrive(alloc, &request, &body, now)?)
 }
 
-// The server gives a stanza.
+// The server gives a stanza on the first stream.
 fn given(alloc: Global, session: &mut Session, stanza: &[u8], now: Moment) -> Result<Taken, Fail> {
+    given_on(alloc, session, StreamNo::unnamed(), stanza, now)
+}
+
+fn given_on(
+    alloc: Global,
+    session: &mut Session,
+    stream: StreamNo,
+    stanza: &[u8],
+    now: Moment,
+) -> Result<Taken, Fail> {
     if !is_one_stanza(alloc, stanza) {
         return Err("a stanza")?;
     }
     let stanza = text(alloc, stanza)?;
-    Ok(session.back(alloc, StreamNo::unnamed(), &stanza, now)?)
+    Ok(session.back(alloc, stream, &stanza, now)?)
 }
 
 // One call. A request has its id, more attributes, its stanzas and its moment.
@@ -59,6 +69,9 @@ pub(crate) enum Call {
     Arrive(u64, &'static str, &'static str, u64),
     Collect(u32),
     Back(&'static str, u64),
+    BackOn(u16, &'static str, u64),
+    CloseOn(u16, Closing, u64),
+    TakeOn,
     Fill(u32),
     Close(u64),
     Tick(u64),
@@ -100,6 +113,26 @@ fn told_of_inward(alloc: Global, reply: Option<Inward>) -> Result<String, Fail> 
     }
 }
 
+// The same with the number of its stream.
+fn told_with_stream(alloc: Global, reply: Option<Inward>) -> Result<String, Fail> {
+    let number = match &reply {
+        Some(Inward::Item(stream, _)) => stream.number(),
+        Some(Inward::Restart(stream)) => stream.number(),
+        Some(Inward::Open(stream, _)) => stream.number(),
+        Some(Inward::Close(stream)) => stream.number(),
+        None => 0,
+    };
+    let told = told_of_inward(alloc, reply)?;
+    Ok(format!(in alloc; "{number} {told}")?)
+}
+
+fn stream_of(number: u16) -> Result<StreamNo, Fail> {
+    match StreamNo::new(number) {
+        Some(stream) => Ok(stream),
+        None => Err("a stream")?,
+    }
+}
+
 fn told_of_ending(alloc: Global, ending: Option<Ending>) -> Result<String, Fail> {
     let Some(ending) = ending else {
         return Ok(format!(in alloc; "goes on")?);
@@ -137,6 +170,22 @@ pub(crate) fn told_of_call(
             )?;
             Ok(format!(in alloc; "{taken:?}")?)
         }
+        Call::BackOn(number, stanza, millis) => {
+            let taken = given_on(
+                alloc,
+                session,
+                stream_of(number)?,
+                stanza.as_bytes(),
+                Moment::from_millis(millis),
+            )?;
+            Ok(format!(in alloc; "{taken:?}")?)
+        }
+        Call::CloseOn(number, closing, millis) => {
+            let now = Moment::from_millis(millis);
+            let taken = session.back_closed(alloc, stream_of(number)?, closing, now)?;
+            Ok(format!(in alloc; "{taken:?}")?)
+        }
+        Call::TakeOn => told_with_stream(alloc, session.take_inward()),
         Call::Fill(count) => {
             for _stanza in 0..count {
                 let _taken = given(alloc, session, b"<a/>", Moment::from_millis(0))?;
@@ -181,7 +230,7 @@ fn begun(rt: &impl Abort, alloc: Global, rid: u64) -> Result<Session, Fail> {
         "<body rid='{rid}' wait='60' hold='1' ver='1.6' xmlns='http://jabber.org/protocol/httpbind'/>"
     )?;
     let want = format!(in alloc;
-        "<body xmlns='http://jabber.org/protocol/httpbind' xmlns:xmpp='urn:xmpp:xbosh' xmlns:stream='http://etherx.jabber.org/streams' sid='s1' wait='60' requests='2' inactivity='30' polling='5' maxpause='120' hold='1' ver='1.6' from='example.org' ack='{rid}' xmpp:version='1.0' xmpp:restartlogic='true'/>"
+        "<body xmlns='http://jabber.org/protocol/httpbind' xmlns:xmpp='urn:xmpp:xbosh' xmlns:stream='http://etherx.jabber.org/streams' sid='s1' wait='60' requests='2' inactivity='30' polling='5' maxpause='120' hold='1' ver='1.6' from='example.org' stream='t0' ack='{rid}' xmpp:version='1.0' xmpp:restartlogic='true'/>"
     )?;
     let (session, text) = opened(alloc, body.as_bytes())?;
     assert_eq!(rt; text.as_slice(), want.as_bytes());

@@ -13,3 +13,5 @@ mod openings;
 mod parts;
 #[cfg(test)]
 mod redoing;
+#[cfg(test)]
+mod streams;

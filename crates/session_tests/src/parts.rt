@@ -1,6 +1,8 @@
 use bosh_types::{Closing, Inward, Moment, Rid, Row, SharedText, StreamNo, Terms, Ticket};
 use pause_rules::Deadlines;
-use session_core::{Collected, Front, HeldRequest, HeldRequests, Inbox, Outbox, Tickets};
+use session_core::{
+    AddedStream, Collected, Front, HeldRequest, HeldRequests, Inbox, Outbox, Tickets,
+};
 use std::alloc::{AllocError, Global};
 use std::test::Fail;
 
@@ -33,7 +35,7 @@ fn takes_what_fits(rt: HostRuntime) -> Result<(), Fail> {
             outbox.push_stanza(StreamNo::unnamed(), stanza)?;
         }
         assert_eq!(rt; outbox.counts().items as usize, sizes.len());
-        assert!(rt; !outbox.is_closed());
+        assert!(rt; !outbox.is_closed(StreamNo::unnamed()));
         outbox.push_closing(StreamNo::unnamed(), Closing::Plain)?;
         for (at, want) in fronts.iter().enumerate() {
             let front = outbox.take_front()?;
@@ -102,25 +104,26 @@ fn holds_the_oldest_first(rt: HostRuntime) -> Result<(), Fail> {
         polled: false,
     });
     let mut held = HeldRequests::new(rt.alloc());
-    for (value, pause) in [(7, false), (8, true)] {
+    for (value, prompt) in [(7, false), (8, true)] {
         held.push(HeldRequest {
             rid: Rid::new(value).expect(&rt, "a request id"),
             arrived: Moment::from_millis(value * 1000),
-            pause,
+            prompt,
+            opened: AddedStream::new(&None),
         })?;
     }
     let copy = held.copied(rt.alloc())?;
     let due = |millis| copy.any_wait_due(&deadlines, Moment::from_millis(millis));
     assert_eq!(rt; (due(16999), due(17000), copy.len()), (false, true, 2));
-    for (value, pause) in [(7, true), (8, true)] {
-        assert_eq!(rt; held.any_pause(), pause, "{value}");
+    for (value, prompt) in [(7, true), (8, true)] {
+        assert_eq!(rt; held.any_prompt(), prompt, "{value}");
         assert_eq!(rt; held.oldest().map(|oldest| oldest.rid.value()), Some(value));
         assert_eq!(rt;
             held.take_oldest().map(|oldest| oldest.rid.value()),
             Some(value)
         );
     }
-    assert_eq!(rt; (held.any_pause(), held.take_oldest()), (false, None));
+    assert_eq!(rt; (held.any_prompt(), held.take_oldest()), (false, None));
     Ok(())
 }
 

@@ -23,8 +23,7 @@ use Rattle.world_laws.specs.Manager.{PlainManager, Turn, arrives}
 use Rattle.world_laws.specs.Sound.{sent_of}
 use Rattle.world_laws.specs.Steps.{admits, carried, carries, carries_to, comes, host_of, turns}
 use Rattle.world_laws.specs.World.{PlainWorld}
-use Rattle.world_laws.proofs.InwardLemmas.{id_at}
-use Rattle.world_laws.proofs.PlaceLemmas.{AreNumbered, at_place, past_place}
+use Rattle.world_laws.proofs.PlaceLemmas.{AreNumbered, at_place, id_at, past_place}
 use Rattle.two_ends.specs.declared.manager.Manager.{Manager}
 use Rattle.two_ends.specs.declared.world.World.{World}
 use Rattle.two_ends.specs.Copies.{creation_in}

@@ -15,8 +15,8 @@ use Rattle.body_writer.specs.declared.answer.Created.{Created}
 use Rattle.body_writer.specs.Answer.{answer_text}
 use Rattle.body_writer.specs.AnswerRows.{ack_rows, answer_attributes, created_rows, kind_rows, report_rows, restart_rows, stream_rows, terms_rows, version_value, xmpp_rows}
 use Rattle.body_writer.specs.Attribute.{attribute, closed_with, escaped, escaped_byte, joined}
-use Rattle.body_writer.specs.ReadBack.{AreTerms, IsWord}
-use Rattle.body_writer.specs.Rows.{httpbind_row, number_row, rows_text, stream_row, text_row, value_row, xbosh_row, xmpp_version_row}
+use Rattle.body_writer.specs.ReadBack.{AreTerms, IsStream, IsWord}
+use Rattle.body_writer.specs.Rows.{httpbind_row, named_rows, number_row, rows_text, stream_row, text_row, value_row, xbosh_row, xmpp_version_row}
 use Rattle.body_writer.proofs.RowsTexts.{rows_append}
 use Rattle.session_laws.proofs.Tests.{split}
 
@@ -68,6 +68,7 @@ IsShortCreated created = (length created.sid ≤ 1024) × AreTerms created.terms
 
 pub record AreShort (parts : AnswerParts) : Type 0 where
   pub created : IfSome parts.created IsShortCreated
+  pub stream : IfSome parts.stream IsStream
   pub ack : IfSome parts.ack IsWord
   pub report : IfSome parts.report (λ report. IsWord report.0 × IsWord report.1)
   pub payloads : length (joined parts.payloads) ≤ 1000000
@@ -130,6 +131,11 @@ created_short (Some created) (sid, terms, from) =
     (both (terms_short created.terms terms) (one (text_row (codes "from") created.from) 6200 (omega (arith, from, escaped_long created.from)))) in
     record { short = omega (arith, rows.short) }
 
+named_short : (stream : Option ℕ) → IfSome stream IsStream → Short (named_rows stream) 40
+unfolding named_rows
+named_short None few = none 40
+named_short (Some stream) few = one _ 40 (omega arith)
+
 ack_short : (ack : Option ℕ) → IfSome ack IsWord → Short (ack_rows ack) 40
 unfolding ack_rows
 ack_short None word = none 40
@@ -155,16 +161,17 @@ closed_long (payload ∷ payloads) =
       length-append (codes ">") (joined (payload ∷ payloads)),
     )
 
-rows_short : (parts : AnswerParts) → AreShort parts → Short (answer_attributes parts) 13500
+rows_short : (parts : AnswerParts) → AreShort parts → Short (answer_attributes parts) 13600
 unfolding answer_attributes
 rows_short parts s =
     let rows =
-    both (both (both (both (both (both (both
+    both (both (both (both (both (both (both (both
     (one httpbind_row 60 (omega arith))
     (xmpp_short parts.created))
     (stream_short parts.created parts.payloads))
     (kind_short parts.kind parts.condition))
     (created_short parts.created s.created))
+    (named_short parts.stream s.stream))
     (ack_short parts.ack s.ack))
     (report_short parts.report s.report))
     (restart_short parts.created) in

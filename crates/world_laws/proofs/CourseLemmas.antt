@@ -13,9 +13,10 @@ use Rattle.session_core.specs.declared.copy.RequestCopy.{RequestCopy}
 use Rattle.session_core.specs.Journal.{Call, Collect, Entered, Entry, IsAllowed, IsJournal, Journal, TakeInward, Made as MadeCall, Arrive, Back, BackClosed, Tick, Limit, state_of}
 use Rattle.session_core.specs.Machine.{bytes_for, collect, collected_by, collected_bytes, collected_from, creation_of, passed_on, take_inward}
 use Rattle.session_core.specs.Run.{arrival_in, arrivals_from, arrivals_of, moment_after}
+use Rattle.session_core.specs.Processed.{copies_of}
 use Rattle.session_core.specs.State.{Issued, PlainSession, Replaced, Struck, TicketState, UsedUp, Waits, inward, is_over}
 use Rattle.session_laws.proofs.Arrivals.{moment_of}
-use Rattle.session_laws.proofs.Lists.{get_push, get_some}
+use Rattle.session_laws.proofs.Lists.{copies_length, get_push, get_some}
 use Rattle.session_laws.proofs.Tests.{is_or_not, neither, not_false, some_is, split, true_false}
 use Rattle.session_calls.specs.After.{after_call, all_taken, untaken, with_taken}
 use Rattle.bosh_client.specs.declared.agreed.Agreed.{Agreed}
@@ -42,20 +43,19 @@ use Rattle.world_laws.specs.World.{PlainWorld}
 use Rattle.world_laws.proofs.Below.{Below}
 use Rattle.world_laws.proofs.CallLemmas.{Brings}
 use Rattle.world_laws.proofs.EventLemmas.{manager_of}
-use Rattle.world_laws.proofs.FactLemmas.{ComesNow, HasRested, IsTimelyCall, begins_get, ends_well}
+use Rattle.world_laws.proofs.FactLemmas.{ComesNow, HasRested, IsTimelyCall, begins_get, copies_begin, ends_well}
 use Rattle.world_laws.proofs.GrownLemmas.{Grown, all_passed_grows, call_grows, collected_grows, grown_then, state_after}
-use Rattle.world_laws.proofs.InwardLemmas.{id_at}
 use Rattle.world_laws.proofs.LowestLemmas.{below_lowest, lowest_next}
 use Rattle.world_laws.proofs.MadeLemmas.{IsQueued, all_queued, alone_of, empty_of, is_empty}
 use Rattle.world_laws.proofs.OnTimeLemmas.{agreed_is, every_terms, start, taken_answered}
-use Rattle.world_laws.proofs.PlaceLemmas.{all_at}
+use Rattle.world_laws.proofs.PlaceLemmas.{all_at, id_at}
 use Rattle.world_laws.proofs.StateLemmas.{every_moment, every_sound}
 use Rattle.world_laws.proofs.StoodLemmas.{ids, keeping}
 use Rattle.world_laws.proofs.TurnLemmas.{still_over}
 
 -- a copy whose answer was taken came before that; and an empty request of a client that polls came late enough
 pub record IsRested (c : PlainClient) (moment : ℕ) (s : PlainSession) : Type 0 where
-  pub came : (k : ℕ) (copy : RequestCopy) → slice_get s.processed k ≡ Some copy → is_some (taken c (c.setup.first + suc k)) ≡ true → copy.arrived ≤ last_taken c
+  pub came : (k : ℕ) (copy : RequestCopy) → slice_get (copies_of s.processed) k ≡ Some copy → is_some (taken c (c.setup.first + suc k)) ≡ true → copy.arrived ≤ last_taken c
   pub rested : HasRested c moment s
 
 abbrev pub RestedAt : PlainClient → ℕ → Option PlainManager → Type 0
@@ -162,7 +162,7 @@ all_came_by moment latest (entry ∷ entries) early =
     (all_came_by (moment_after moment entry.entered) latest entries early)
 
 -- no copy of a session came later than its moment
-pub processed_by : Below → (j : Journal) → IsJournal j → (latest k : ℕ) (copy : RequestCopy) → (state_of j).now ≤ latest → slice_get (state_of j).processed k ≡ Some copy → copy.arrived ≤ latest
+pub processed_by : Below → (j : Journal) → IsJournal j → (latest k : ℕ) (copy : RequestCopy) → (state_of j).now ≤ latest → slice_get (copies_of (state_of j).processed) k ≡ Some copy → copy.arrived ≤ latest
 processed_by below j made latest k copy early at =
     let laws = below.journals j made in
     let before : moment_of j.opening.at j.entries ≤ latest = subst (λ (n : ℕ). n ≤ latest) (every_moment j made) early in
@@ -235,12 +235,12 @@ module _ (below : Below) (setup : ClientSetup) (w : PlainWorld) (h : IsSound set
     sound = manager_of below setup w h (Some m) is
 
     -- a copy whose answer was taken was processed before
-    was_there : is_over s ≡ false → (t : PlainSession) → ((k : ℕ) (x : RequestCopy) → slice_get s.processed k ≡ Some x → slice_get t.processed k ≡ Some x) → (k : ℕ) (copy : RequestCopy)
-        → slice_get t.processed k ≡ Some copy → is_some (taken c (c.setup.first + suc k)) ≡ true → slice_get s.processed k ≡ Some copy
+    was_there : is_over s ≡ false → (t : PlainSession) → ((k : ℕ) (x : RequestCopy) → slice_get (copies_of s.processed) k ≡ Some x → slice_get (copies_of t.processed) k ≡ Some x) → (k : ℕ) (copy : RequestCopy)
+        → slice_get (copies_of t.processed) k ≡ Some copy → is_some (taken c (c.setup.first + suc k)) ≡ true → slice_get (copies_of s.processed) k ≡ Some copy
     was_there on t begins k copy at has =
         let few = (every_sound m.journal sound.made).few in
         let within = taken_answered below setup w h m is on (c.setup.first + suc k) has in
-        let y = get_some s.processed k (omega (arith, few, within, start below setup w h m is on)) in
+        let y = get_some (copies_of s.processed) k (omega (arith, copies_length s.processed, few, within, start below setup w h m is on)) in
         let same : y.0 ≡ copy = some_is y.0 copy (sym (begins k y.0 y.1) ∙ at) in
         y.1 ∙ ap Some same
 
@@ -248,7 +248,8 @@ module _ (below : Below) (setup : ClientSetup) (w : PlainWorld) (h : IsSound set
     grown_rested j g on_later =
         let on = was_on g on_later in
         let old = course.rested on in
-        let begins : (k : ℕ) (x : RequestCopy) → slice_get s.processed k ≡ Some x → slice_get (state_of j).processed k ≡ Some x = λ k x at. begins_get s.processed (state_of j).processed k x g.processed at in
+        let begins : (k : ℕ) (x : RequestCopy) → slice_get (copies_of s.processed) k ≡ Some x → slice_get (copies_of (state_of j).processed) k ≡ Some x =
+        λ k x at. begins_get (copies_of s.processed) (copies_of (state_of j).processed) k x (copies_begin s.processed (state_of j).processed g.processed) at in
         let terms : (state_of j).terms.polling ≡ s.terms.polling = ap (λ (t : Terms). t.polling) (every_terms j g.made ∙ ap (λ (o : Opening). o.terms) g.opening_is ∙ sym (every_terms m.journal sound.made)) in
         record {
           came = λ k copy at has. old.came k copy (was_there on (state_of j) begins k copy at has) has;
@@ -299,7 +300,7 @@ module _ (below : Below) (setup : ClientSetup) (w : PlainWorld) (h : IsSound set
       where
         -- the request that is made now is empty where nothing is queued
         now : (m : PlainManager) → w.manager ≡ Some m → (on : is_over (session m) ≡ false) → IsRested c w.moment (session m) → (p : Option Agreed) → agreed c ≡ p → is_due_by c p w.moment ≡ true
-            → (k : ℕ) (copy : RequestCopy) → slice_get (session m).processed k ≡ Some copy → suc (suc k) ≡ length c.requests → is_empty (next_made c p).parts ≡ true → polls c.setup ≡ true
+            → (k : ℕ) (copy : RequestCopy) → slice_get (copies_of (session m).processed) k ≡ Some copy → suc (suc k) ≡ length c.requests → is_empty (next_made c p).parts ≡ true → polls c.setup ≡ true
             → copy.arrived + (session m).terms.polling * 1000 ≤ w.moment
         now m there on old None agrees due k copy at place empty polling = absurd (omega (arith, ap length (none_left c.requests due), place))
         now m there on old (Some a) agrees due k copy at place empty polling =

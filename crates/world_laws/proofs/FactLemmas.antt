@@ -3,7 +3,7 @@ use Rattle.std.proofs.Common.{◌≡◌, ◌≢◌, ℕ, zero, suc, ◌+◌, ◌
 use Rattle.std.specs.Prelude.{Option, None, Some, All, IfSome, IsTrue, nat_lt, not, ⊤}
 use Rattle.std.specs.Int.{abs_diff}
 use Rattle.std.proofs.lemmas.Bool.{cases_lt, leb-true, ltb-true}
-use Rattle.std.proofs.lemmas.List.{length-drop}
+use Rattle.std.proofs.lemmas.List.{length-drop, map-append}
 use Rattle.std.proofs.lemmas.List.Elements.{All-append, All-cons, All-nil}
 use Rattle.bosh_types.specs.ById.{at_id}
 use Rattle.bosh_types.specs.declared.ending.Ending.{Ending}
@@ -16,7 +16,7 @@ use Rattle.rid_window.specs.PlainWindow.{reach}
 use Rattle.session_attrs.specs.declared.request.Request.{Request}
 use Rattle.session_core.specs.declared.copy.RequestCopy.{RequestCopy}
 use Rattle.session_core.specs.Copy as copies
-use Rattle.session_core.specs.Facts.{Arrives, Fact, HasKey, IsShort, IsUnnamed, OfNext}
+use Rattle.session_core.specs.Facts.{Arrives, Fact, HasKey, IsShort, OfNext}
 use Rattle.session_core.specs.Facts as facts
 use Rattle.session_core.specs.Journal.{Arrive, Back, BackClosed, Call, Collect, Entered, IsAllowed, Limit, IsJournal, Journal, Made as MadeCall, TakeInward, Tick, after_entry, entered_by, state_of}
 use Rattle.session_core.specs.Kept.{kept_of}
@@ -25,17 +25,18 @@ use Rattle.session_core.specs.Points.{tested_at}
 use Rattle.session_core.specs.Rules.{asked_of, mark_of}
 use Rattle.session_core.specs.Placed.{ArePlaced, MayStand}
 use Rattle.session_core.specs.Run.{IsReceived, arrivals_of, key_after, placings_of}
+use Rattle.session_core.specs.Processed.{Processed, copies_of}
 use Rattle.session_core.specs.State.{Placing, PlainSession, Stands, Strikes, answered_of, first_of, is_over, last_from, last_of, standing_at}
 use Rattle.session_core.specs.Time.{time_applied}
 use Rattle.session_core.specs.Window.{is_above}
 use Rattle.session_laws.specs.Growing.{Begins}
 use Rattle.session_laws.proofs.Frames.{time_leaves}
 use Rattle.session_laws.proofs.Grows.{steady-all}
-use Rattle.session_laws.proofs.Lists.{get_append, get_some}
+use Rattle.session_laws.proofs.Lists.{copies_length, get_append, get_some}
 use Rattle.session_laws.proofs.Received.{received_after, received_push, received_strikes, same_copy}
 use Rattle.session_laws.proofs.RunRules.{HasKey as KeyIs, key_steady}
 use Rattle.session_laws.proofs.Steadily.{is_none}
-use Rattle.session_laws.proofs.Tests.{both_true, is_or_not, not_true, some_is}
+use Rattle.session_laws.proofs.Tests.{both_true, is_or_not, none_some, not_true, some_is}
 use Rattle.session_laws.proofs.TimeStruck.{time_now}
 use Rattle.session_core.specs.Machine.{opened}
 use Rattle.session_calls.specs.After.{after_call, with_entered}
@@ -80,7 +81,7 @@ ComesNow moment TakeInward = ⊤
 -- in a session that polls, an empty request was made the agreed seconds after the one before it had come
 abbrev pub HasRested : PlainClient → ℕ → PlainSession → Type 0
 HasRested c moment s =
-    (k : ℕ) (copy : RequestCopy) (request : Made) → slice_get s.processed k ≡ Some copy → slice_get c.requests (suc (suc k)) ≡ Some request
+    (k : ℕ) (copy : RequestCopy) (request : Made) → slice_get (copies_of s.processed) k ≡ Some copy → slice_get c.requests (suc (suc k)) ≡ Some request
     → is_empty request.parts ≡ true → polls c.setup ≡ true → copy.arrived + s.terms.polling * 1000 ≤ moment
 
 -- What lies so far apart is not near.
@@ -97,6 +98,9 @@ last_from_get x (z ∷ zs) (suc n) y long is = last_from_get z zs n y (omega (ar
 
 begins_long : {X : Type 0} (xs ys : List X) → Begins xs ys → length xs ≤ length ys
 begins_long xs ys b = omega (arith, ap length b.1, length-append xs b.0)
+
+pub copies_begin : (xs ys : List Processed) → Begins xs ys → Begins (copies_of xs) (copies_of ys)
+copies_begin xs ys b = (copies_of b.0, ap copies_of b.1 ∙ map-append (λ one. one.copy) xs b.0)
 
 pub begins_get : {X : Type 0} (xs ys : List X) (k : ℕ) (x : X) → Begins xs ys → slice_get xs k ≡ Some x → slice_get ys k ≡ Some x
 begins_get xs ys k x b is = ap (λ l. slice_get l k) b.1 ∙ get_append xs b.0 k x is
@@ -180,7 +184,7 @@ module _ (below : Below) (setup : ClientSetup) (w : PlainWorld) (h : IsSound set
     start_too : first_of u ≡ c.setup.first
     start_too = first_is below setup w h j grown.made opened_too arrived_too
 
-    have_keys : HaveKeys c.setup 0 u.processed
+    have_keys : HaveKeys c.setup 0 (copies_of u.processed)
     have_keys n copy at =
         let l = later_processed below setup w h j grown.made opened_too arrived_too n copy at in
         let same : n ≡ 0 + n = omega arith in (
@@ -194,7 +198,8 @@ module _ (below : Below) (setup : ClientSetup) (w : PlainWorld) (h : IsSound set
         let valid : is_setup c.setup ≡ true = ap is_setup same ∙ h.begins.client in
         let announced : j.opening.request.newkey ≡ with_keys c.setup (Some (announcement c.setup.seed c.setup.keys 0)) =
         ap (λ (r : Request). r.newkey) opened_too.request_is ∙ ap (λ (x : ClientSetup). with_keys x (Some (announcement x.seed x.keys 0))) (sym same) in
-        ap (λ o. fits o copy.request.key) (every_key j grown.made ∙ ap (λ o. key_after o u.processed) announced) ∙ key_fits c.setup u.processed copy valid have_keys (l.keeps).key
+        ap (λ o. fits o copy.request.key) (every_key j grown.made ∙ ap (λ o. key_after o (copies_of u.processed)) announced) ∙ key_fits c.setup (copies_of u.processed) copy valid have_keys
+        ((l.keeps).key ∙ ap (λ (n : ℕ). with_keys c.setup (Some (key_at c.setup.seed c.setup.keys n))) (sym (copies_length u.processed)))
 
     terms_too : u.terms ≡ s.terms
     terms_too =
@@ -236,7 +241,7 @@ module _ (below : Below) (setup : ClientSetup) (w : PlainWorld) (h : IsSound set
       none_before other received =
           let laws = below.journals m.journal (journal_made below setup w h m is on) in
           let first : first_of s ≡ m.journal.opening.request.rid + 0 = (laws.run_each 0 s.creation refl).0 in
-          let long : rid ≡ m.journal.opening.request.rid + suc (length s.processed) = omega (arith, first, same_last, next, start below setup w h m is on, start_too) in
+          let long : rid ≡ m.journal.opening.request.rid + suc (length (copies_of s.processed)) = omega (arith, first, copies_length s.processed, same_last, next, start below setup w h m is on, start_too) in
           (laws.run on).ends other
           (subst (λ n. IsReceived (placings_of m.journal) n other) long (received_after (Stands (creation_of m.journal.opening)) s.placings rid other received))
 
@@ -301,9 +306,9 @@ module _ (below : Below) (setup : ClientSetup) (w : PlainWorld) (h : IsSound set
               let zero_is : (k == 0) ≡ true = ap (λ (n : ℕ). n == 0) none in
               cc
           by (suc n) place some =
-              let y = get_some s.processed n (omega (arith, same_last, place)) in
-              let there : slice_get u.processed n ≡ Some y.0 = begins_get s.processed u.processed n y.0 grown.processed y.1 in
-              let last : last_from u.creation u.processed ≡ y.0 = last_from_get u.creation u.processed n y.0 place there in
+              let y = get_some (copies_of s.processed) n (omega (arith, copies_length s.processed, same_last, place)) in
+              let there : slice_get (copies_of u.processed) n ≡ Some y.0 = begins_get (copies_of s.processed) (copies_of u.processed) n y.0 (copies_begin s.processed u.processed grown.processed) y.1 in
+              let last : last_from u.creation (copies_of u.processed) ≡ y.0 = last_from_get u.creation (copies_of u.processed) n y.0 (copies_length u.processed ∙ place) there in
               let polling : polls c.setup ≡ true = ap polls (setup_is below setup w h) ∙ sym (opening_terms below setup w h j grown.made opened_too).polled ∙ polled in
               let request = l.request in
               let here : slice_get c.requests (suc (suc n)) ≡ Some request = subst (λ (i : ℕ). slice_get c.requests (suc i) ≡ Some request) place l.here in
@@ -317,8 +322,8 @@ module _ (below : Below) (setup : ClientSetup) (w : PlainWorld) (h : IsSound set
       not_overactive : (entered : Entered) → entered_by s call ≡ Some entered → IsTrue (is_overactive u.terms (asked_of u).held (mark_of copy) (asked_of u).prior) → ⊥
       not_overactive entered at active =
           let prior : Mark = (asked_of u).prior in
-          let one = both_true (copies.is_empty copy && nat_lt (apart (mark_of copy) prior) (u.terms.polling * 1000)) (serves_nothing u.terms (asked_of u).held prior) active in
-          let two = both_true (copies.is_empty copy) (nat_lt (apart (mark_of copy) prior) (u.terms.polling * 1000)) one.0 in
+          let one = both_true (copies.is_poll copy && nat_lt (apart (mark_of copy) prior) (u.terms.polling * 1000)) (serves_nothing u.terms (asked_of u).held prior) active in
+          let two = both_true (copies.is_poll copy) (nat_lt (apart (mark_of copy) prior) (u.terms.polling * 1000)) one.0 in
           elim (is_or_not u.terms.polled) [
             | inl polled ↦ not_bare entered at polled (sym (ap (λ (b : Bool). if b then is_bare_poll prior else is_crowded u.terms (asked_of u).held) polled) ∙ one.1) two.1
             | inr holds ↦ not_crowded holds (sym (ap (λ (b : Bool). if b then is_bare_poll prior else is_crowded u.terms (asked_of u).held) holds) ∙ one.1)
@@ -338,8 +343,8 @@ module _ (below : Below) (setup : ClientSetup) (w : PlainWorld) (h : IsSound set
       active_only : (copy : RequestCopy) → IsTrue (is_overactive u.terms (asked_of u).held (mark_of copy) (asked_of u).prior) → copies.is_empty copy ≡ true
       active_only copy active =
           let prior : Mark = (asked_of u).prior in
-          let one = both_true (copies.is_empty copy && nat_lt (apart (mark_of copy) prior) (u.terms.polling * 1000)) (serves_nothing u.terms (asked_of u).held prior) active in
-          (both_true (copies.is_empty copy) (nat_lt (apart (mark_of copy) prior) (u.terms.polling * 1000)) one.0).0
+          let one = both_true (copies.is_poll copy && nat_lt (apart (mark_of copy) prior) (u.terms.polling * 1000)) (serves_nothing u.terms (asked_of u).held prior) active in
+          (both_true (copies.is_empty copy) (not (copies.names_host copy)) (both_true (copies.is_poll copy) (nat_lt (apart (mark_of copy) prior) (u.terms.polling * 1000)) one.0).0).0
 
       ends_by : (e : Ending) → Fact (tested_at s entered) entered u e → IsLeft e
       ends_by (endings.Terminated rid) fact = tt
@@ -350,7 +355,8 @@ module _ (below : Below) (setup : ClientSetup) (w : PlainWorld) (h : IsSound set
           entered_is s (λ e. Arrives (tested_at s e) e rid (λ copy. IsTrue (is_above (tested_at s e) copy) × (standing_at (tested_at s e) rid ≡ None)) → ⊥) (λ kind cost now none. none) call
           (not_above rid call allowed brings) entered at fact.0
       ends_by (endings.WrongKey rid) fact = fact.4 (has_key fact.2 (next_later rid fact.2 fact.1 fact.3))
-      ends_by (endings.UnknownStream rid) fact = (fact.4).1 ((next_later rid fact.2 fact.1 fact.3).keeps).unnamed
+      ends_by (endings.UnknownStream rid) fact =
+          (fact.4).1 (λ name named_so. absurd (none_some (fact.2).request.stream name ((next_later rid fact.2 fact.1 fact.3).keeps).unnamed named_so))
       ends_by (endings.PauseTooLong rid pause maxpause) fact =
           let f = fact.0 in
           not_long rid pause maxpause f.2 (next_later rid f.2 f.1 f.3) (f.4).2 (f.4).3 fact.1

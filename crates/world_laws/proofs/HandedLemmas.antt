@@ -20,6 +20,7 @@ use Rattle.session_core.specs.Outward.{items_in, stanzas_in}
 use Rattle.session_core.specs.Passed.{given_in, items_taken}
 use Rattle.session_core.specs.State.{Answered, PlainSession, answered_of, answers, first_of, last_of, waiting}
 use Rattle.session_laws.proofs.Followed.{every_creation}
+use Rattle.session_laws.proofs.Lists.{copies_length}
 use Rattle.session_laws.proofs.Tests.{some_is}
 use Rattle.bosh_client.specs.declared.setup.ClientSetup.{ClientSetup}
 use Rattle.bosh_client.specs.AnswerReading.{answer_of}
@@ -31,10 +32,10 @@ use Rattle.world_laws.specs.Sound.{IsAnswerTo, IsSound, body_taken}
 use Rattle.world_laws.specs.World.{PlainWorld}
 use Rattle.world_laws.proofs.Below.{Below}
 use Rattle.world_laws.proofs.EventLemmas.{formed, manager_of}
-use Rattle.world_laws.proofs.InwardLemmas.{from, id_at, rid_is, sound, stands}
+use Rattle.world_laws.proofs.InwardLemmas.{from, rid_is, sound, stands}
 use Rattle.world_laws.proofs.MomentLemmas.{every_moment}
 use Rattle.world_laws.proofs.NameLemmas.{all_told, taken_holds}
-use Rattle.world_laws.proofs.PlaceLemmas.{all_at, at_place, past_place}
+use Rattle.world_laws.proofs.PlaceLemmas.{all_at, at_place, id_at, past_place}
 use Rattle.world_laws.proofs.ProperLemmas.{every_proper, fronts_proper}
 use Rattle.world_laws.proofs.ReadingLemmas.{IsRead, created_read, read_payloads, shaped_read, terminal_ends, word_payloads}
 use Rattle.world_laws.proofs.ShapeLemmas.{IsShaped, every_shape}
@@ -110,7 +111,7 @@ module _ (below : Below) (setup : ClientSetup) (w : PlainWorld) (h : IsSound set
 
   last_few : last_of s ≤ greatest_rid
   last_few =
-      let last = stands below setup w h m is (length s.processed) (omega arith) in
+      let last = stands below setup w h m is (length s.processed) (omega (arith, copies_length s.processed)) in
       let form = all_at (λ (request : Made). HasForm setup request.parts) w.client.requests (length s.processed) last.request (formed below setup w h) last.here in
       let id = id_at setup.first w.client.requests (length s.processed) last.request (from below setup w h m is) last.here in
       omega (arith, form.form.rid.1, id, first_is)
@@ -126,12 +127,11 @@ module _ (below : Below) (setup : ClientSetup) (w : PlainWorld) (h : IsSound set
       subst (λ (a : Answered). IsRead a.bytes (items_in a.front)) same
       (created_read below setup h.begins.client h.begins.first m.journal.opening made.0 (sound below setup w h m is).opened)
   answer_read (suc k) answer at =
-      let shapes = every_shape m.journal made in
       let early = all_at (λ (a : Answered). a.moment ≤ w.moment) s.answered k answer (every_moment w.moment m.journal made (sound below setup w h m is).early) at in
       let some : 1 ≤ first_of s = omega (arith, first_is, (h.begins.first).0) in
       shaped_read below (first_of s) (last_of s) (answered_of s) answer some last_few answered_few (omega (arith, early, h.time))
       (fronts_proper (answers s) (waiting s) (given_in m.journal) (below.journals m.journal made).given (every_proper m.journal made) (suc k) answer at)
-      (all_at (IsShaped (first_of s) (last_of s) (answered_of s)) s.answered k answer shapes.shaped at)
+      (all_at (IsShaped (first_of s) (last_of s) (answered_of s)) s.answered k answer (every_shape m.journal made) at)
 
   -- What an id was given.
 

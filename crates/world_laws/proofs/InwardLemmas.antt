@@ -1,17 +1,20 @@
 -- What goes inward is a beginning of what the client made: of whatever came to the session the longest unbroken run is passed
 -- on, and whatever came is a body of the client.
-use Rattle.std.proofs.Common.{◌≡◌, ℕ, zero, suc, ◌+◌, ◌<◌, ◌≤◌, List, [], ◌∷◌, length, map, slice_get, refl, sym, ◌∙◌, ap, subst, arith}
-use Rattle.std.specs.Prelude.{None, Some, Option, All}
+use Rattle.std.proofs.Common.{◌≡◌, ℕ, zero, suc, ◌+◌, ◌<◌, ◌≤◌, ◌&&◌, ◌||◌, Bool, true, false, not, List, [], ◌∷◌, length, map, slice_get, refl, sym, ◌∙◌, ap, subst, arith}
+use Rattle.std.specs.Prelude.{None, Some, Option, All, is_some}
+use Rattle.std.specs.List.{list_any}
 use Rattle.std.specs.Option.{unwrap_or}
 use Rattle.bosh_types.specs.ById.{at_id}
 use Rattle.bosh_types.specs.declared.inward.Inward.{Inward}
 use Rattle.session_core.specs.declared.copy.RequestCopy.{RequestCopy}
 use Rattle.session_core.specs.Copy as copies
+use Rattle.session_core.specs.Processed.{Processed, as_creation}
 use Rattle.session_core.specs.Run.{arrivals_of, run_of}
-use Rattle.session_core.specs.State.{inward}
-use Rattle.session_laws.specs.OneBody.{RunCarries, SendsOneBody, carried}
+use Rattle.session_core.specs.State.{PlainSession, inward}
+use Rattle.session_laws.specs.OneBody.{RunCarries, SendsOneBody, all_processed, carried}
 use Rattle.session_laws.specs.OneBody as bodies
-use Rattle.session_laws.proofs.Lists.{get_some, get_within}
+use Rattle.session_laws.specs.Streams.{AddNone}
+use Rattle.session_laws.proofs.Lists.{copies_length, get_copies, get_some, get_within}
 use Rattle.session_laws.proofs.Tests.{some_is}
 use Rattle.bosh_client.specs.declared.setup.ClientSetup.{ClientSetup}
 use Rattle.bosh_client.specs.PlainClient.{Made, PlainClient, bytes_of, id_of}
@@ -24,18 +27,27 @@ use Rattle.world_laws.specs.World.{PlainWorld}
 use Rattle.world_laws.proofs.Below.{Below}
 use Rattle.world_laws.proofs.EventLemmas.{formed, manager_of}
 use Rattle.world_laws.proofs.NameLemmas.{opened_rid, setup_same}
-use Rattle.world_laws.proofs.PlaceLemmas.{all_at, at_place}
+use Rattle.world_laws.proofs.PlaceLemmas.{all_at, at_place, id_at}
 use Rattle.world_laws.proofs.PrefixLemmas.{carried_begins}
 use Rattle.world_laws.proofs.RequestLemmas.{body_carries, sent_is_of}
+use Rattle.world_laws.proofs.StoodLemmas.{later_processed}
 use Rattle.world_laws.proofs.TurnLemmas.{all_follow}
 
--- Requests one after the other.
+-- of what none is, none of them is
+none_any : {X : Type 0} (p : X → Bool) (xs : List X) → ((k : ℕ) (x : X) → slice_get xs k ≡ Some x → p x ≡ false) → list_any p xs ≡ false
+none_any p [] none = refl
+none_any p (x ∷ xs) none =
+    let here : p x ≡ false = none 0 x refl in
+    let later : list_any p xs ≡ false = none_any p xs (λ k y at. none (suc k) y at) in
+    (λ i. here i || later i)
 
--- the id of the one at a place
-pub id_at : (rid : ℕ) (requests : List Made) (k : ℕ) (request : Made) → AreFrom rid requests → slice_get requests k ≡ Some request → id_of request ≡ rid + k
-id_at rid [] k request ids is = absurd (cc)
-id_at rid (first ∷ requests) zero request ids is = omega (arith, ap id_of (some_is first request is), ids.0)
-id_at rid (first ∷ requests) (suc k) request ids is = omega (arith, id_at (rid + 1) requests k request ids.1 is)
+-- a request that names no host adds nothing
+adds_nothing : (copy : RequestCopy) → copy.request.to ≡ None → copies.is_add copy ≡ false
+adds_nothing copy none = ap (λ (o : Option (List ℕ)). copies.is_empty copy && (is_some o && not (is_some copy.request.stream))) none ∙ and_false (copies.is_empty copy)
+  where
+    and_false : (b : Bool) → (b && false) ≡ false
+    and_false true = refl
+    and_false false = refl
 
 -- each with what it carries
 abbrev carrying : Made → ℕ × List Inward
@@ -98,20 +110,35 @@ module _ (below : Below) (setup : ClientSetup) (w : PlainWorld) (h : IsSound set
   carry : All Carries requests
   carry = subst (λ (c : PlainClient). All Carries c.requests) (sym h.client.is) (below.carries setup h.client.calls)
 
+  -- no stream is added, so there is the first alone
+  adds_none : AddNone (session m).processed
+  adds_none = none_any (λ one. copies.is_add one.copy) (session m).processed (λ k one at.
+      let later = later_processed below setup w h m.journal sound.made sound.opened sound.arrived k one.copy (get_copies (session m).processed k one at) in
+      adds_nothing one.copy (later.keeps).unhosted)
+
+  first_alone : (k : ℕ) (one : Processed) → slice_get (all_processed (session m)) k ≡ Some one → (one.running ≡ copies.unnamed ∷ []) × (one.opened ≡ None)
+  first_alone zero one at =
+      let same : as_creation (session m).creation ≡ one = some_is (as_creation (session m).creation) one at in
+      (sym (ap (λ (x : Processed). x.running) same), sym (ap (λ (x : Processed). x.opened) same))
+  first_alone (suc k) one at = (below.journals m.journal sound.made).alone adds_none k one at
+
   runs : RunCarries body_of items_at m.journal
-  runs k within =
-      let s = stands k within in
+  runs k one at =
+      let alone = first_alone k one at in
+      let s = stands k (omega (arith, get_within (all_processed (session m)) k one at, copies_length (session m).processed)) in
       let rid : setup.first + k ≡ m.journal.opening.request.rid + k = ap (λ (n : ℕ). n + k) (sym rid_is) in
       let form = all_at (λ (request : Made). HasForm setup request.parts) requests k s.request (formed below setup w h) s.here in
       let carries = all_at Carries requests k s.request carry s.here in
-      subst (λ (n : ℕ). bodies.Carries (body_of n) (items_at n)) rid
-      (subst (λ (items : List Inward). bodies.Carries (body_of (setup.first + k)) items) (sym (carry_at k s.request s.here))
-      (subst (λ (body : List ℕ). bodies.Carries body (on_stream s.request.items)) (sym s.body_is) (body_carries below setup s.request h.begins.client form carries)))
+      subst (λ (n : ℕ). bodies.Carries (body_of n) one.running one.opened (items_at n)) rid
+      (subst (λ (running : List ℕ). bodies.Carries (body_of (setup.first + k)) running one.opened (items_at (setup.first + k))) (sym alone.0)
+      (subst (λ (opened : Option ℕ). bodies.Carries (body_of (setup.first + k)) (copies.unnamed ∷ []) opened (items_at (setup.first + k))) (sym alone.1)
+      (subst (λ (items : List Inward). bodies.Carries (body_of (setup.first + k)) (copies.unnamed ∷ []) None items) (sym (carry_at k s.request s.here))
+      (subst (λ (body : List ℕ). bodies.Carries body (copies.unnamed ∷ []) None (on_stream s.request.items)) (sym s.body_is) (body_carries below setup s.request h.begins.client form carries)))))
 
   few : length (run_of m.journal) ≤ length requests
   few =
-      let last = stands (length (session m).processed) (omega arith) in
-      omega (arith, get_within requests (length (session m).processed) last.request last.here)
+      let last = stands (length (session m).processed) (omega (arith, copies_length (session m).processed)) in
+      omega (arith, get_within requests (length (session m).processed) last.request last.here, copies_length (session m).processed)
 
   pub run_begins : Begins (inward (session m)) (was_made w)
   run_begins =

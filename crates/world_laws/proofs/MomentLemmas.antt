@@ -6,7 +6,7 @@ use Rattle.body_writer.specs.Answer.{answer_text}
 use Rattle.session_attrs.specs.declared.request.Request.{Request}
 use Rattle.session_core.specs.declared.copy.RequestCopy.{RequestCopy}
 use Rattle.session_core.specs.declared.outward.Front.{Front}
-use Rattle.session_core.specs.declared.outward.Front.TheVariants.{OfClosing, OfStanzas}
+use Rattle.session_core.specs.declared.outward.Front.TheVariants.{OfClosing}
 use Rattle.session_core.specs.declared.outward.Outward.{Outward}
 use Rattle.session_core.specs.declared.outward.Outward.TheVariants.{Close, Stanza}
 use Rattle.session_core.specs.declared.replies.Arrived.{Arrived}
@@ -16,6 +16,7 @@ use Rattle.session_core.specs.Answers.{answer_parts, settled, with_answer}
 use Rattle.session_core.specs.Copy.{id_of}
 use Rattle.session_core.specs.Journal.{Entered, IsJournal, Journal, MayEnter, after_entry, state_of}
 use Rattle.session_core.specs.Machine.{advanced, arrived_in_time, body_cost, bytes_for, copy_now, has_room, opened, placed, plain_cost, stanza_cost, takes_items, wait_at, with_cost, with_item}
+use Rattle.session_core.specs.Processed.{Processed}
 use Rattle.session_core.specs.State.{Answered, PlainSession}
 use Rattle.session_core.specs.Time.{time_applied}
 use Rattle.session_laws.proofs.Moves.{Answering, Processing, Waiting, advanced-by, settled-by, time_applied-by}
@@ -30,16 +31,16 @@ module _ (latest : ℕ) where
   abbrev IsEarly : PlainSession → Type 0
   IsEarly s = Early s.now s.answered
 
-  one_more : (s : PlainSession) (rid : ℕ) (front : Front) → IsEarly s → IsEarly (with_answer s rid front)
-  one_more s rid front p =
+  one_more : (s : PlainSession) (one : Processed) (front : Front) → IsEarly s → IsEarly (with_answer s one front)
+  one_more s one front p =
       let P : Answered → Type 0 = λ answer. answer.moment ≤ latest in
-      let new : Answered = record { rid = rid; bytes = answer_text (answer_parts s rid front); moment = s.now; front = front } in
+      let new : Answered = record { rid = id_of one.copy; bytes = answer_text (answer_parts s one front); moment = s.now; front = front } in
       record { early = λ low. All-append P s.answered (new ∷ []) (p.early low) (All-cons P new [] low (All-nil P)) }
 
   answering : Answering IsEarly
   answering = record {
-    stanzas = λ s oldest later items is on reason front p. one_more s (id_of oldest) (OfStanzas items) p;
-    closes = λ s oldest later stream closing is on reason front p. record { early = (one_more s (id_of oldest) (OfClosing stream closing) p).early };
+    gives = λ s oldest later front is on reason due others p. one_more s oldest front p;
+    closes = λ s oldest later stream closing is on reason due last p. record { early = (one_more s oldest (OfClosing stream closing) p).early };
   }
 
   processing : Processing IsEarly

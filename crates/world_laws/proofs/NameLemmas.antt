@@ -57,10 +57,11 @@ use Rattle.world_laws.proofs.Below.{Below}
 pub terminal_is : (condition : Option Condition) → IsAnswer (terminal condition)
 terminal_is condition = record {
   created = tt;
+  stream = tt;
   ack = tt;
   report = tt;
   payloads = (All-nil (IsElementWithin 32 64), omega arith);
-  fits = answer_fits (terminal condition) (record { created = tt; ack = tt; report = tt; payloads = omega arith });
+  fits = answer_fits (terminal condition) (record { created = tt; stream = tt; ack = tt; report = tt; payloads = omega arith });
 }
 
 pub terminal_form : (condition : Option Condition) → IsInForm (terminal condition)
@@ -71,10 +72,11 @@ terminal_form condition = record { requests = tt; polling = tt; maxpause = tt; a
 pub error_is : IsAnswer error_parts
 error_is = record {
   created = tt;
+  stream = tt;
   ack = tt;
   report = tt;
   payloads = (All-nil (IsElementWithin 32 64), omega arith);
-  fits = answer_fits error_parts (record { created = tt; ack = tt; report = tt; payloads = omega arith });
+  fits = answer_fits error_parts (record { created = tt; stream = tt; ack = tt; report = tt; payloads = omega arith });
 }
 
 pub error_form : IsInForm error_parts
@@ -167,11 +169,13 @@ module _ (below : Below) (setup : ClientSetup) (valid : is_setup setup ≡ true)
       let ack : IsWord o.request.rid = omega (arith, opened_rid o by_client, first.1) in
       record {
         created = (sid, are_terms o.terms few, from);
+        stream = omega arith;
         ack = ack;
         report = tt;
         payloads = (elements below o.greeting (is.greeting).0, (is.greeting).1);
         fits = answer_fits (created_parts o) (record {
           created = (omega (arith, (is.sid).2), are_terms o.terms few, (is.host).2);
+          stream = omega arith;
           ack = ack;
           report = tt;
           payloads = omega (arith, greeting_long o.greeting, (is.greeting).2);

@@ -18,6 +18,7 @@ use Rattle.session_core.specs.Endings.{last_word}
 use Rattle.session_core.specs.Journal.{IsJournal, Journal, state_of}
 use Rattle.session_core.specs.Kept.{answer_at, kept_answer, kept_of}
 use Rattle.session_core.specs.Machine.{bytes_for, created_parts, opened}
+use Rattle.session_core.specs.Processed.{copies_of}
 use Rattle.session_core.specs.State.{PlainSession, answered_of, answers, first_of, is_over, last_of}
 use Rattle.session_core.specs.Time.{time_applied}
 use Rattle.session_laws.proofs.AckLemmas.{last_answered}
@@ -203,8 +204,8 @@ module _ (below : Below) (setup : ClientSetup) (w : PlainWorld) (h : IsSound set
         by None agrees near = omega (arith, near, made, few, from, some)
         by (Some a) agrees near = omega (arith, near, made, few, from, (agreed_is a agrees).0)
 
-    all_low : All (IsLow (lowest c)) s.processed
-    all_low = all_of (IsLow (lowest c)) s.processed
+    all_low : All (IsLow (lowest c)) (copies_of s.processed)
+    all_low = all_of (IsLow (lowest c)) (copies_of s.processed)
         (λ k copy at. ((later_processed below setup w h m.journal journal_made sound_manager.opened sound_manager.arrived k copy at).keeps).ack)
 
     -- each answered id from the lowest on is kept, also once time was applied

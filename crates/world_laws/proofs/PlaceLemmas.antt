@@ -6,6 +6,8 @@ use Rattle.std.proofs.lemmas.Bool.Decides.{nat_tests}
 use Rattle.std.proofs.lemmas.List.Elements.{All-head, All-tail}
 use Rattle.bosh_types.specs.ById.{at_id}
 use Rattle.session_laws.proofs.Tests.{some_is}
+use Rattle.bosh_client.specs.PlainClient.{Made, id_of}
+use Rattle.bosh_client.specs.StandsFor.{AreFrom}
 
 -- what holds of all holds of the one at a place
 pub all_at : {X : Type 0} (P : X → Type 0) (xs : List X) (k : ℕ) (x : X) → All P xs → slice_get xs k ≡ Some x → P x
@@ -59,3 +61,11 @@ module _ {X Y : Type 0} (f : X → ℕ × Y) where
       by false same is later =
           let of = later is in
           (suc of.0, of.1, of.2, of.3, of.4)
+
+-- Requests one after the other.
+
+-- the id of the one at a place
+pub id_at : (rid : ℕ) (requests : List Made) (k : ℕ) (request : Made) → AreFrom rid requests → slice_get requests k ≡ Some request → id_of request ≡ rid + k
+id_at rid [] k request ids is = absurd (cc)
+id_at rid (first ∷ requests) zero request ids is = omega (arith, ap id_of (some_is first request is), ids.0)
+id_at rid (first ∷ requests) (suc k) request ids is = omega (arith, id_at (rid + 1) requests k request ids.1 is)

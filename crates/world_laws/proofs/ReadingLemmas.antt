@@ -1,5 +1,5 @@
 -- What the client reads in the answers of a session: the stanzas that they took, or nothing.
-use Rattle.std.proofs.Common.{◌≡◌, ℕ, ◌+◌, ◌<◌, ◌≤◌, ◌^◌, ◌==◌, true, not, List, [], ◌∷◌, length, map, inl, inr, ◌⊎◌, refl, sym, ◌∙◌, ap, arith, length-append, false, subst}
+use Rattle.std.proofs.Common.{◌≡◌, ℕ, ◌+◌, ◌<◌, ◌≤◌, ◌^◌, ◌==◌, ◌&&◌, true, not, List, [], ◌∷◌, length, map, inl, inr, ◌⊎◌, refl, sym, ◌∙◌, ap, arith, length-append, false, subst}
 use Rattle.std.specs.Prelude.{None, Some, Option, Ok, IfSome, All, nat_le}
 use Rattle.std.specs.List.{list_any}
 use Rattle.std.proofs.lemmas.Bool.{leb-true}
@@ -29,7 +29,7 @@ use Rattle.session_core.specs.Endings.{closing_condition, last_word, nothing, ot
 use Rattle.session_core.specs.Machine.{created_parts, first_answer}
 use Rattle.session_core.specs.declared.opening.Opening.{Opening}
 use Rattle.session_core.specs.Journal.{IsOpening}
-use Rattle.session_core.specs.Outward.{is_close, items_in, size_of, size_of_all, stanzas_in}
+use Rattle.session_core.specs.Outward.{is_close, items_in, lie_on_one, size_of, size_of_all, stanzas_in}
 use Rattle.session_core.specs.State.{Answered}
 use Rattle.session_laws.proofs.Tests.{both_true, split}
 use Rattle.bosh_client.specs.declared.replies.ClientEnd.{ClientEnd}
@@ -88,16 +88,17 @@ stanza_elements below (Stanza stream bytes ∷ items) all =
 stanza_elements below (Close stream closing ∷ items) all = stanza_elements below items (All-tail IsProper (Close stream closing) items all)
 
 short_items : (items : List Outward) → fit_one_answer items ≡ true → size_of_all items ≤ longest_stanza
-short_items items fits = leb-true (size_of_all items) longest_stanza (both_true (not (list_any is_close items)) (nat_le (size_of_all items) longest_stanza) fits).1
+short_items items fits = leb-true (size_of_all items) longest_stanza (both_true (not (list_any is_close items) && lie_on_one items) (nat_le (size_of_all items) longest_stanza) fits).1
 
 -- Each answer reads back.
 
 module _ (below : Below) where
-  carried_read : (first last answered moment : ℕ) (items : List Outward) (bytes : List ℕ) → 1 ≤ first → last ≤ greatest_rid → answered ≤ greatest_rid → moment < 2 ^ 64 → All IsProper items
-      → Carrying first last answered moment items bytes → IsRead bytes items
-  carried_read first last answered moment items bytes some few given early proper c =
-      let parts : AnswerParts = record { created = None; kind = Usual; condition = None; ack = c.ack; report = c.report; payloads = stanzas_in items } in
-      let size = short_items items c.fits in
+  -- an answer of this kind with these payloads
+  carried_read : (first last answered moment : ℕ) (kind : AnswerKind) (condition : Option Condition) (payloads : List (List ℕ)) (items : List Outward) (bytes : List ℕ) → 1 ≤ first → last ≤ greatest_rid
+      → answered ≤ greatest_rid → moment < 2 ^ 64 → All (IsElementWithin 32 64) payloads → length payloads ≤ 1024 → length (joined payloads) ≤ 1000000
+      → (end_in kind condition ≡ None → payloads ≡ stanzas_in items) → IsNoRefusal condition → Carrying first last answered moment kind condition payloads bytes → IsRead bytes items
+  carried_read first last answered moment kind condition payloads items bytes some few given early elements count size are no_refusal c =
+      let parts : AnswerParts = record { created = None; kind = kind; condition = condition; stream = c.stream; ack = c.ack; report = c.report; payloads = payloads } in
       let ack = ack_word c.ack c.acks in
       let report = report_words c.report c.reports in
       record {
@@ -105,14 +106,15 @@ module _ (below : Below) where
         bytes_are = c.bytes_are;
         is = record {
           created = tt;
+          stream = c.streams;
           ack = ack;
           report = report;
-          payloads = (stanza_elements below items proper, omega (arith, stanzas_few items, c.few));
-          fits = answer_fits parts (record { created = tt; ack = ack; report = report; payloads = omega (arith, stanzas_long items, size) });
+          payloads = (elements, count);
+          fits = answer_fits parts (record { created = tt; stream = c.streams; ack = ack; report = report; payloads = size });
         };
         form = record { requests = tt; polling = tt; maxpause = tt; ack = ack_rid c.ack c.acks };
-        payloads_are = λ goes_on. refl;
-        no_refusal = tt;
+        payloads_are = are;
+        no_refusal = no_refusal;
       }
     where
       ack_word : (ack : Option ℕ) → IfSome ack (λ rid. (first ≤ rid) × (rid ≤ last)) → IfSome ack IsWord
@@ -135,15 +137,13 @@ module _ (below : Below) where
       no_end condition is = cc
 
       by : (front : Front) → All IsProper (items_in front) → ShapedBy first last answered answer.moment answer.bytes front → IsRead answer.bytes (items_in front)
-      by (OfStanzas items) proper shaped = carried_read first last answered answer.moment items answer.bytes some few given early proper shaped
-      by (OfClosing stream closing) proper shaped = record {
-        parts = terminal (closing_condition closing);
-        bytes_are = shaped;
-        is = terminal_is (closing_condition closing);
-        form = terminal_form (closing_condition closing);
-        payloads_are = λ goes_on. absurd (no_end (closing_condition closing) goes_on);
-        no_refusal = closing_tells closing;
-      }
+      by (OfStanzas items) proper shaped =
+          let size = short_items items shaped.1 in
+          carried_read first last answered answer.moment Usual None (stanzas_in items) items answer.bytes some few given early (stanza_elements below items proper) (omega (arith, stanzas_few items, shaped.2))
+          (omega (arith, stanzas_long items, size)) (λ goes_on. refl) tt shaped.0
+      by (OfClosing stream closing) proper shaped =
+          carried_read first last answered answer.moment Terminate (closing_condition closing) [] (Close stream closing ∷ []) answer.bytes some few given early (All-nil (IsElementWithin 32 64)) (omega arith)
+          (omega arith) (λ goes_on. absurd (no_end (closing_condition closing) goes_on)) (closing_tells closing) shaped
 
   greeting_stanzas : (greeting : List (List ℕ)) → greeting ≡ stanzas_in (map (Stanza unnamed) greeting)
   greeting_stanzas [] = refl
@@ -196,10 +196,11 @@ module _ (below : Below) where
   nothing_is : IsAnswer nothing
   nothing_is = record {
     created = tt;
+    stream = tt;
     ack = tt;
     report = tt;
     payloads = (All-nil (IsElementWithin 32 64), omega arith);
-    fits = answer_fits nothing (record { created = tt; ack = tt; report = tt; payloads = omega arith });
+    fits = answer_fits nothing (record { created = tt; stream = tt; ack = tt; report = tt; payloads = omega arith });
   }
 
   nothing_form : IsInForm nothing

@@ -52,7 +52,7 @@ spent_ids :
     report (new_world host (codes "<stream:features/>" ∷ []) (record { first = 9007199254740990; to = host; wait = 60; hold = 1; ack = false; seed = codes "seed"; keys = 0 }))
     (events.Send ∷ events.Carry 9007199254740990 ∷ events.Return 1 ∷ events.Put (codes "<a/>") ∷ events.Send ∷ events.Put (codes "<b/>") ∷ events.Send ∷ [])
     ≡ (seen.Req 9007199254740990 (body (codes " xmlns:xmpp='urn:xmpp:xbosh' rid='9007199254740990' to='example.org' xml:lang='en' wait='60' hold='1' ver='1.11' content='text/xml; charset=utf-8' xmpp:version='1.0'/>")) ∷ [])
-    ∷ (seen.Ans 1 9007199254740990 (body (codes " xmlns:xmpp='urn:xmpp:xbosh' xmlns:stream='http://etherx.jabber.org/streams' sid='s1' wait='60' requests='2' inactivity='30' polling='5' maxpause='120' hold='1' ver='1.11' from='example.org' ack='9007199254740990' xmpp:version='1.0' xmpp:restartlogic='true'><stream:features/></body>")) ∷ [])
+    ∷ (seen.Ans 1 9007199254740990 (body (codes " xmlns:xmpp='urn:xmpp:xbosh' xmlns:stream='http://etherx.jabber.org/streams' sid='s1' wait='60' requests='2' inactivity='30' polling='5' maxpause='120' hold='1' ver='1.11' from='example.org' stream='t0' ack='9007199254740990' xmpp:version='1.0' xmpp:restartlogic='true'><stream:features/></body>")) ∷ [])
     ∷ (seen.Got (codes "<stream:features/>") ∷ []) ∷ []
     ∷ (seen.Req 9007199254740991 (body (codes " rid='9007199254740991' sid='s1'><a/></body>")) ∷ [])
     ∷ [] ∷ (seen.Spent ∷ []) ∷ []
@@ -72,7 +72,7 @@ login =
 login_seen :
     report (world_of 1000) login
     ≡ (seen.Req 1000 (body (codes " xmlns:xmpp='urn:xmpp:xbosh' rid='1000' to='example.org' xml:lang='en' wait='60' hold='1' ver='1.11' content='text/xml; charset=utf-8' ack='1' xmpp:version='1.0'/>")) ∷ [])
-    ∷ (seen.Ans 1 1000 (body (codes " xmlns:xmpp='urn:xmpp:xbosh' xmlns:stream='http://etherx.jabber.org/streams' sid='s1' wait='60' requests='2' inactivity='30' polling='5' maxpause='120' hold='1' ver='1.11' from='example.org' ack='1000' xmpp:version='1.0' xmpp:restartlogic='true'><stream:features/></body>")) ∷ [])
+    ∷ (seen.Ans 1 1000 (body (codes " xmlns:xmpp='urn:xmpp:xbosh' xmlns:stream='http://etherx.jabber.org/streams' sid='s1' wait='60' requests='2' inactivity='30' polling='5' maxpause='120' hold='1' ver='1.11' from='example.org' stream='t0' ack='1000' xmpp:version='1.0' xmpp:restartlogic='true'><stream:features/></body>")) ∷ [])
     ∷ (seen.Got (codes "<stream:features/>") ∷ []) ∷ []
     ∷ (seen.Req 1001 (body (codes " rid='1001' sid='s1'><auth/></body>")) ∷ [])
     ∷ (inward (codes "<auth/>") ∷ [])
@@ -147,7 +147,7 @@ no_request :
     report (record (world_of 5) { sent = (4, codes "<a/>") ∷ [] }) (events.Carry 4 ∷ events.Send ∷ events.Carry 5 ∷ events.Carry 4 ∷ events.Return 1 ∷ events.Return 2 ∷ [])
     ≡ (seen.Ans 1 4 (body (codes " type='terminate' condition='bad-request'/>")) ∷ [])
     ∷ (seen.Req 5 (body (codes " xmlns:xmpp='urn:xmpp:xbosh' rid='5' to='example.org' xml:lang='en' wait='60' hold='1' ver='1.11' content='text/xml; charset=utf-8' ack='1' xmpp:version='1.0'/>")) ∷ [])
-    ∷ (seen.Ans 2 5 (body (codes " xmlns:xmpp='urn:xmpp:xbosh' xmlns:stream='http://etherx.jabber.org/streams' sid='s1' wait='60' requests='2' inactivity='30' polling='5' maxpause='120' hold='1' ver='1.11' from='example.org' ack='5' xmpp:version='1.0' xmpp:restartlogic='true'><stream:features/></body>")) ∷ [])
+    ∷ (seen.Ans 2 5 (body (codes " xmlns:xmpp='urn:xmpp:xbosh' xmlns:stream='http://etherx.jabber.org/streams' sid='s1' wait='60' requests='2' inactivity='30' polling='5' maxpause='120' hold='1' ver='1.11' from='example.org' stream='t0' ack='5' xmpp:version='1.0' xmpp:restartlogic='true'><stream:features/></body>")) ∷ [])
     ∷ (seen.Ans 3 4 (body (codes " type='terminate' condition='bad-request'/>")) ∷ []) ∷ [] ∷ (seen.Got (codes "<stream:features/>") ∷ []) ∷ []
 unfolding worlds_compute
 no_request = refl

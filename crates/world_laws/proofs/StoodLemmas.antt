@@ -1,6 +1,7 @@
 -- Each copy that came to a session of a client after its creation is a request that the client made.
 use Rattle.std.proofs.Common.{◌≡◌, ℕ, zero, suc, ◌+◌, ◌<◌, ◌≤◌, ◌==◌, ◌&&◌, ◌||◌, true, false, List, [], ◌∷◌, ◌++◌, length, slice_get, inl, inr, refl, sym, ◌∙◌, ap, subst, arith}
 use Rattle.std.specs.Prelude.{Option, None, Some, All, IfSome, is_some, not, ⊤}
+use Rattle.std.specs.Option.{option_map}
 use Rattle.std.proofs.lemmas.Bool.{cases_lt}
 use Rattle.std.proofs.lemmas.List.{length-map}
 use Rattle.std.proofs.lemmas.List.Elements.{All-append, All-cons, All-nil}
@@ -9,6 +10,7 @@ use Rattle.body_cutter.specs.declared.parts.Span.{Span}
 use Rattle.body_cutter.specs.Pieces.{bytes_at}
 use Rattle.body_writer.specs.declared.request.RequestParts.{RequestParts}
 use Rattle.body_writer.specs.Request.{request_text}
+use Rattle.stream_names.specs.Streams.{name_of}
 use Rattle.rid_window.specs.PlainWindow.{reach}
 use Rattle.session_attrs.specs.declared.request.Creation.{Creation}
 use Rattle.session_attrs.specs.declared.request.Kind.TheVariants as kinds
@@ -19,16 +21,17 @@ use Rattle.session_core.specs.Journal.{IsJournal, IsReadFrom, Journal, state_of}
 use Rattle.session_core.specs.ReadBack.{asked_by, asked_for}
 use Rattle.session_core.specs.Run.{IsReceived, arrivals_of, placings_of}
 use Rattle.session_core.specs.Machine.{creation_of}
+use Rattle.session_core.specs.Processed.{Processed, copies_of}
 use Rattle.session_core.specs.State.{PlainSession, Stands, first_of, last_of, standing_at}
 use Rattle.session_laws.proofs.Carried.{all_read, one_reading}
 use Rattle.session_laws.proofs.Followed.{every_creation}
-use Rattle.session_laws.proofs.Lists.{get_some, get_within}
+use Rattle.session_laws.proofs.Lists.{copy_at, get_some, get_within}
 use Rattle.session_laws.proofs.Received.{received_after}
 use Rattle.bosh_client.specs.declared.agreed.Agreed.{Agreed}
 use Rattle.bosh_client.specs.declared.setup.ClientSetup.{ClientSetup}
 use Rattle.bosh_client.specs.Keys.{key_at, newkey_at}
 use Rattle.bosh_client.specs.PlainClient.{Made, PlainClient, Taken, id_of, lowest, next_id, request_at, taken}
-use Rattle.bosh_client.specs.Promises.{Acknowledges, AllTaken, HasForm}
+use Rattle.bosh_client.specs.Promises.{Acknowledges, AllTaken, HasForm, IsKnown, IsOfSession}
 use Rattle.bosh_client.specs.Requests.{agreed, with_keys}
 use Rattle.bosh_client.specs.Runs as calls
 use Rattle.bosh_client.specs.Machine.{new_client}
@@ -40,11 +43,10 @@ use Rattle.world_laws.specs.Sound.{IsOpenedBy, IsRunClient, IsSent, IsSound}
 use Rattle.world_laws.specs.World.{PlainWorld}
 use Rattle.world_laws.proofs.Below.{Below}
 use Rattle.world_laws.proofs.EventLemmas.{formed}
-use Rattle.world_laws.proofs.InwardLemmas.{id_at}
 use Rattle.world_laws.proofs.LowestLemmas.{lowest_first, lowest_open}
 use Rattle.world_laws.proofs.MadeLemmas.{AllBelow, AllKeep, IsShortCall, is_empty, is_extra, keep_after, new_keeps}
 use Rattle.world_laws.proofs.NameLemmas.{opened_rid, setup_same}
-use Rattle.world_laws.proofs.PlaceLemmas.{all_at}
+use Rattle.world_laws.proofs.PlaceLemmas.{all_at, id_at}
 use Rattle.world_laws.proofs.RequestLemmas.{reads_back, sent_is_of}
 use Rattle.world_laws.proofs.StateLemmas.{every_sound}
 use Rattle.world_laws.proofs.TurnLemmas.{all_follow}
@@ -88,6 +90,7 @@ pub record IsLaterCopy (c : PlainClient) (a : Agreed) (first k : ℕ) (copy : Re
   pub short : (seconds : ℕ) → copy.request.pause ≡ Some seconds → seconds ≤ a.maxpause
   pub alone : copies.is_empty copy ≡ true → AllBelow c (first + suc k)
   pub unnamed : copy.request.stream ≡ None
+  pub unhosted : copy.request.to ≡ None
   pub key : copy.request.key ≡ with_keys c.setup (Some (key_at c.setup.seed c.setup.keys k))
   pub newkey : copy.request.newkey ≡ with_keys c.setup (newkey_at c.setup.seed c.setup.keys k)
   pub ack : IfSome copy.request.ack (λ ack. ack < lowest c)
@@ -155,6 +158,8 @@ module _ (below : Below) (setup : ClientSetup) (w : PlainWorld) (h : IsSound set
       let parts = of.request.parts in
       let asked : copy.request ≡ asked_for parts of.children None = of.asked ∙ ap (asked_for parts of.children) keeps.later in
       let id : id_of of.request ≡ c.setup.first + suc k = id_at c.setup.first c.requests (suc k) of.request ids here in
+      let form = all_at (λ (request : Made). HasForm setup request.parts) c.requests of.place of.request (formed below setup w h) of.here in
+      let known : IsOfSession parts = subst (IsKnown setup parts) keeps.later form.known in
       let pause : copy.request.pause ≡ parts.pause = ap (λ (r : Request). r.pause) asked in
       let extra : copies.is_extra copy ≡ is_extra parts = ap (λ (r : Request). is_some r.pause || r.terminate) asked in
       let empty : copies.is_empty copy ≡ is_empty parts =
@@ -170,7 +175,8 @@ module _ (below : Below) (setup : ClientSetup) (w : PlainWorld) (h : IsSound set
           near = omega (arith, keeps.near, ap (λ (r : Request). r.rid) asked, ap (reach (kept.0).requests) extra);
           short = λ seconds is. keeps.short seconds (sym pause ∙ is);
           alone = λ is. subst (AllBelow c) id (keeps.alone (sym empty ∙ is));
-          unnamed = ap (λ (r : Request). r.stream) asked;
+          unnamed = ap (λ (r : Request). r.stream) asked ∙ ap (option_map name_of) known.stream;
+          unhosted = ap (λ (r : Request). r.to) asked ∙ known.to;
           key = ap (λ (r : Request). r.key) asked ∙ keeps.key;
           newkey = ap (λ (r : Request). r.newkey) asked ∙ keeps.newkey;
           ack = subst (λ (o : Option ℕ). IfSome o (λ ack. ack < lowest c)) (sym (ap (λ (r : Request). r.ack) asked)) (acked of.request (suc k) here keeps.later);
@@ -243,23 +249,25 @@ module _ (below : Below) (setup : ClientSetup) (w : PlainWorld) (h : IsSound set
         let rid : first_of s + 1 + k ≡ c.setup.first + suc k = omega (arith, first_is) in
         later_of k copy (subst (λ (n : ℕ). IsCopyOf c c.setup.first n copy) rid (copy_of (first_of s + 1 + k) copy came))
 
-    pub later_processed : (k : ℕ) (copy : RequestCopy) → slice_get s.processed k ≡ Some copy → IsLater c c.setup.first k copy
-    later_processed k copy is = later_stands k copy ((every_sound j made).stand k copy is)
+    pub later_processed : (k : ℕ) (copy : RequestCopy) → slice_get (copies_of s.processed) k ≡ Some copy → IsLater c c.setup.first k copy
+    later_processed k copy is =
+        let one = copy_at s.processed k copy is in
+        later_stands k copy ((every_sound j made).stand k one.0 one.1 ∙ ap Some one.2)
 
     -- no more was processed than was made
     pub few_processed : last_of s < next_id c
     few_processed = by s.processed refl
       where
-        by : (processed : List RequestCopy) → s.processed ≡ processed → last_of s < next_id c
+        by : (processed : List Processed) → s.processed ≡ processed → last_of s < next_id c
         by [] none =
             let run = (below.journals j made).run_each 0 s.creation refl in
             let of = copy_of (j.opening.request.rid + 0) s.creation run in
             omega (arith, first_is, ap length none, get_within c.requests of.place of.request of.here)
-        by (copy ∷ more) is =
+        by (one ∷ more) is =
             let k : ℕ = length more in
             let last = get_some s.processed k (omega (arith, ap length is)) in
-            let came = standing_received (first_of s + 1 + k) last.0 ((every_sound j made).stand k last.0 last.1) in
-            let of = copy_of (first_of s + 1 + k) last.0 came in
+            let came = standing_received (first_of s + 1 + k) last.0.copy ((every_sound j made).stand k last.0 last.1) in
+            let of = copy_of (first_of s + 1 + k) last.0.copy came in
             omega (arith, first_is, ap length is, of.rid_is, get_within c.requests of.place of.request of.here)
 
 -- Each answer that a client took is of its first id or a later one.

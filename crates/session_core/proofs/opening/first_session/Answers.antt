@@ -6,7 +6,8 @@ use Rattle.reply_keep.specs.StandsFor as keeps
 use Rattle.rid_window.specs.PlainWindow.{id_after}
 use Rattle.rid_window.specs.StandsFor as windows
 use Rattle.session_core.specs.declared.copy.RequestCopy.{RequestCopy}
-use Rattle.session_core.specs.Copy.{is_empty, items_of}
+use Rattle.session_core.specs.Copy.{is_poll, unnamed}
+use Rattle.session_core.specs.Processed.{items_by, targets_among}
 use Rattle.session_core.specs.Machine.{creation_of}
 use Rattle.session_core.specs.StandsFor.{StandsFor}
 use Rattle.session_core.proofs.OpenedLemmas.{opened_holds}
@@ -20,7 +21,10 @@ returns c = λ is.
     (λ i. record { request = c.in_ok-copied_request.ensures i; body = c.in_ok-again.ensures i; arrived = o.at }) in
     let key = c.start.ensures ∙ c.in_ok-newkey.ensures in
     let reporting = c.new-acks.ensures ∙ ap {B = Reporting} (λ (on : Bool). record { on = on; due = None }) c.asks_ack.ensures in
-    let empty = c.is_empty.ensures ∙ ap is_empty copy in
+    let empty = c.is_poll.ensures ∙ ap is_poll copy in
+    let targets : c.targets_among-targets.result ≡ targets_among (unnamed ∷ []) o.request.stream =
+    c.targets_among-targets.ensures
+    ∙ (λ i. targets_among (c.new-streams.ensures i).running ((c.as_ref.ensures.value ∙ ap (λ (p : RequestCopy). p.request.stream) copy) i)) in
     opened_holds o _
     (λ i. record {
       pace = record { terms = c.new-2.ensures.terms i; period = c.new-2.ensures.period i };
@@ -40,4 +44,6 @@ returns c = λ is.
     c.in_ok-keep.ensures)
     (subst (λ (p : RequestCopy). windows.StandsFor c.in_ok-window.window (record { placed = (o.request.rid, p) ∷ []; next = id_after o.request.rid; width = o.terms.requests }))
     (c.in_ok-new.ensures ∙ copy) c.in_ok-window.ensures)
-    (c.in_ok-pass_inward.ensures ∙ ap (λ (items : List Inward). items ++ items_of (record { request = c.in_ok-copied_request.field-0; body = c.in_ok-again.field-0; arrived = o.at })) c.new-inward.ensures ∙ ap items_of copy) c.new-4.ensures c.new-5.ensures
+    (c.in_ok-pass_inward.ensures
+    ∙ ap (λ (items : List Inward). items ++ items_by (record { request = c.in_ok-copied_request.field-0; body = c.in_ok-again.field-0; arrived = o.at }) c.targets_among-targets.result None) c.new-inward.ensures
+    ∙ (λ i. items_by (copy i) (targets i) None)) c.new-4.ensures c.new-streams.ensures c.new-5.ensures

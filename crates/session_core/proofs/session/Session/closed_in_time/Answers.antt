@@ -18,5 +18,5 @@ returns c = λ plain stands.
       replies = refl;
       after =
           c.in_ok-settle.ensures (record plain { given = plain.given ++ Close c.args.stream c.args.closing ∷ [] })
-          (closing_given c.args.stream c.args.closing stands c.in_ok-push_closing.ensures.after);
+          (closing_given c.args.stream c.args.closing stands (sym (c.takes_items.ensures.of_plain plain stands) ∙ c.if-not-takes_items.false) c.in_ok-push_closing.ensures.after);
     })

@@ -1,6 +1,0 @@
-use Rattle.std.proofs.Common.{rules, append_assoc}
-use Rattle.body_writer.proofs.RequestPieces.{creation_pieces}
-use Rattle.body_writer.proofs.request.push_creation_of.Goals as goal
-
-pub returns : goal.returns
-returns c = search (rules, creation_pieces, append_assoc)

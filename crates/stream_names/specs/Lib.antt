@@ -1,0 +1,2 @@
+pub mod PlainStreams
+pub mod Streams
