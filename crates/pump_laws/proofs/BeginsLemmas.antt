@@ -4,7 +4,8 @@ use Rattle.std.specs.BTreeMap.{IsEmpty}
 use Rattle.xmpp_backend.specs.Counts.{Counts}
 use Rattle.xmpp_backend.specs.Told.{Told}
 use Rattle.session_pump.specs.Ends.{end_of, fresh}
-use Rattle.session_pump.specs.Pumping.{facts_of, pumping_of}
+use Rattle.session_pump.specs.Hosts.{facts_of}
+use Rattle.session_pump.specs.Pumping.{pumping_of}
 use Rattle.session_pump.specs.declared.hosts.Host.{Host}
 use Rattle.session_pump.specs.declared.pump.Pump.{Pump}
 use Rattle.pump_laws.specs.InTurn.{Every}

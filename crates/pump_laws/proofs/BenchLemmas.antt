@@ -1,6 +1,6 @@
 -- Back ends that are exchanged, and what of what they tell stays.
 use Rattle.std.proofs.Common.{◌≡◌, ◌≤◌, ◌<◌, ◌+◌, ◌-◌, ◌^◌, ℕ, zero, suc, Bool, true, false, cond, List, [], ◌∷◌, ◌++◌, map, take, drop, set, Option, Some, None, IfSome, refl, sym, ◌∙◌, ap, subst, append_assoc, ltb-false, arith}
-use Rattle.std.specs.Prelude.{slice_get, nat_lt, option_map, option_to_list}
+use Rattle.std.specs.Prelude.{slice_get, nat_lt, option_map}
 use Rattle.std.proofs.Math.Seq.{drop-cons}
 use Rattle.std.proofs.lemmas.List.{map-append, take-append-drop, take_more_set}
 use Rattle.std.proofs.lemmas.Option.{get_or_from_slice_get, slice_get_within}
@@ -113,8 +113,8 @@ drift_only_rises wire e f exchanges few = omega (arith, counted_few e.failures (
 -- ---- what was passed on this wire stays
 
 -- where one was passed, and what stands there was exchanged, another one may stand there, which was passed nothing
-pub is_one : (wire : ℕ) (all : List Inward) (kept : Option Inward) (e : Ends) → Every (λ end. IsNothing (passed_on wire end)) e.spares
-    → IfSome (passed_on wire e.standing) (λ passed. all ≡ passed ++ option_to_list kept)
+pub is_one : (wire : ℕ) (all : List Inward) (kept : List Inward) (e : Ends) → Every (λ end. IsNothing (passed_on wire end)) e.spares
+    → IfSome (passed_on wire e.standing) (λ passed. all ≡ passed ++ kept)
     → OneWas (λ passed. Begins passed all) (passed_in_turn wire e)
 is_one wire all kept e spares says =
     let split : Every (λ (end : End). IsNothing (passed_on wire end)) (take e.used e.spares ++ drop e.used e.spares) =
@@ -129,9 +129,9 @@ is_one wire all kept e spares says =
       says = begins (passed_on wire e.standing) says;
     }
   where
-    begins : (o : Option (List Inward)) → IfSome o (λ passed. all ≡ passed ++ option_to_list kept) → IfSome o (λ passed. Begins passed all)
+    begins : (o : Option (List Inward)) → IfSome o (λ passed. all ≡ passed ++ kept) → IfSome o (λ passed. Begins passed all)
     begins None says = tt
-    begins (Some passed) says = (option_to_list kept, says)
+    begins (Some passed) says = (kept, says)
 
 pub standing_nothing : (wire : ℕ) (e : Ends) → Every IsNothing (passed_in_turn wire e) → IsNothing (passed_on wire e.standing)
 standing_nothing wire e none =
@@ -156,11 +156,11 @@ some_number stage on other is also = cc
 pub not_both : (stage : Stage) (on : ℕ) → stage ≡ stages.Unopened → stage ≡ stages.Opened on → ⊥
 not_both stage on is also = cc
 
-pub drift_passed : (wire : ℕ) (all : List Inward) (stage : Stage) (kept : Option Inward) (e f : Ends) → Drift wire e f → CanFail f
+pub drift_passed : (wire : ℕ) (all : List Inward) (stage : Stage) (kept : List Inward) (e f : Ends) → Drift wire e f → CanFail f
     → PassedOf wire all stage kept e → PassedOf wire all stage kept f
 drift_passed wire all stage kept e f drift few (isnt_opened is none whole) = isnt_opened is (drift_nothing wire e f drift none) whole
 drift_passed wire all stage kept e f (stays standing same) few (is_open is spares says) =
-    is_open is spares (subst (λ o. IfSome o (λ passed. all ≡ passed ++ option_to_list kept)) (sym same) says)
+    is_open is spares (subst (λ o. IfSome o (λ passed. all ≡ passed ++ kept)) (sym same) says)
 drift_passed wire all stage kept e f exchanges few (is_open is spares says) =
     is_no_more (λ unopened. not_both stage e.failures unopened is)
     (λ on at. omega (arith, some_number stage on e.failures at is, counted_few e.failures (exchanged e).failures (exchanged_failures e) few))
@@ -182,7 +182,7 @@ pub drifts_one : (wire : ℕ) (e f : Ends) → Drifts wire e f → (Says : List 
 drifts_one wire e f no_drift Says one = one
 drifts_one wire e f (drifts_on {f = g} drifts drift) Says one = one_still wire g f drift Says (drifts_one wire e g drifts Says one)
 
-pub drifts_passed : (wire : ℕ) (all : List Inward) (stage : Stage) (kept : Option Inward) (e f : Ends) → Drifts wire e f → CanFail f
+pub drifts_passed : (wire : ℕ) (all : List Inward) (stage : Stage) (kept : List Inward) (e f : Ends) → Drifts wire e f → CanFail f
     → PassedOf wire all stage kept e → PassedOf wire all stage kept f
 drifts_passed wire all stage kept e f no_drift few passed = passed
 drifts_passed wire all stage kept e f (drifts_on {f = g} drifts drift) few passed =

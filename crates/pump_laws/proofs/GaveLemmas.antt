@@ -1,21 +1,19 @@
--- What back ends gave for a session, and what of that stays.
-use Rattle.std.proofs.Common.{◌≡◌, ◌≢◌, ◌⊎◌, ◌*◌, ◌/◌, ℕ, zero, suc, Bool, true, false, cond, List, [], ◌∷◌, ◌++◌, map, filter, take, drop, Option, Some, None, IfSome, refl, sym, ◌∙◌, ap, subst, inl, inr, append_assoc, append-nil, arith, ne_eqb}
+-- What back ends gave on a wire, and what of that stays.
+use Rattle.std.proofs.Common.{◌≡◌, ◌≢◌, ℕ, zero, suc, Bool, true, false, cond, List, [], ◌∷◌, ◌++◌, map, filter, take, drop, Option, Some, None, IfSome, refl, sym, ◌∙◌, ap, subst, append_assoc, append-nil, arith, ne_eqb, true≢false}
 use Rattle.std.specs.Prelude.{Contains, ◌==◌, option_map, option_to_list}
 use Rattle.std.specs.List.{cons_option}
-use Rattle.std.proofs.Math.Nat.{mul-div_cancel}
-use Rattle.std.proofs.lemmas.Bool.Decides.{eqb_tells}
 use Rattle.std.proofs.lemmas.List.{map-append}
 use Rattle.std.proofs.lemmas.List.Elements.{filter-append, filter_map-append}
-use Rattle.bosh_types.specs.Limits.{most_streams}
 use Rattle.xmpp_backend.specs.Told.{Becomes, Told, WasOpened, given_too, opened_too, wires_of}
 use Rattle.xmpp_backend.specs.declared.backend.Given.{Given}
 use Rattle.session_pump.specs.Ends.{End, Ends, HasFailed}
 use Rattle.session_pump.specs.declared.line.Owing.{Owing}
 use Rattle.session_pump.specs.declared.line.Stage.{Stage}
 use Rattle.session_pump.specs.declared.line.Stage.TheVariants as stages
-use Rattle.pump_laws.specs.Handing.{GaveOf, IsIdle, KeepsNone, ToldFor, gave_nothing, gave_these, stanza_for, stanza_in, stanzas_kept, stanzas_owed, told_by, told_for, told_in_turn}
+use Rattle.pump_laws.specs.Handing.{GaveOf, IsIdle, KeepsNone, ToldFor, is_of, gave_nothing, gave_these, stanza_for, stanza_in, stanzas_kept, stanzas_owed, told_by, told_for, told_in_turn}
 use Rattle.pump_laws.specs.InTurn.{Every}
 use Rattle.pump_laws.proofs.BenchLemmas.{every_first, every_last, exchanged_in_turn}
+use Rattle.pump_laws.proofs.CallLemmas.{is_itself}
 
 -- ---- the one that stands there tells something else
 
@@ -44,39 +42,29 @@ failed_told n e f h =
 
 -- ---- wires that are opened
 
-is_itself : (n : ℕ) → (n == n) ≡ true
-is_itself n = by (eqb_tells n n)
-  where
-    by : (((n == n) ≡ true) × (n ≡ n)) ⊎ (((n == n) ≡ false) × (n ≢ n)) → (n == n) ≡ true
-    by (inl same) = same.0
-    by (inr apart) = absurd (apart.1 refl)
-
-pub of_number : (m : ℕ) → (m * most_streams) / most_streams ≡ m
-of_number m = mul-div_cancel m (omega arith)
-
 opened_more : (n wire : ℕ) (to : List ℕ) (told : Told) → (told_by n (opened_too wire to told)).opened
-    ≡ (told_by n told).opened ++ cond (wire / most_streams == n) (wire ∷ []) []
+    ≡ (told_by n told).opened ++ cond (wire == n) (wire ∷ []) []
 opened_more n wire to told =
-    ap (filter (λ w. w / most_streams == n)) (map-append (λ (opening : ℕ × List ℕ). opening.0) told.opened ((wire, to) ∷ []))
-    ∙ filter-append (λ w. w / most_streams == n) (wires_of told.opened) (wire ∷ [])
+    ap (filter (λ w. w == n)) (map-append (λ (opening : ℕ × List ℕ). opening.0) told.opened ((wire, to) ∷ []))
+    ∙ filter-append (λ w. w == n) (wires_of told.opened) (wire ∷ [])
 
-pub opened_elsewhere : (n wire : ℕ) (to : List ℕ) (told : Told) → wire / most_streams ≢ n → told_by n (opened_too wire to told) ≡ told_by n told
+pub opened_elsewhere : (n wire : ℕ) (to : List ℕ) (told : Told) → wire ≢ n → told_by n (opened_too wire to told) ≡ told_by n told
 opened_elsewhere n wire to told apart =
     ap (λ xs. record { opened = xs; stanzas = (told_by n told).stanzas })
-    (opened_more n wire to told ∙ (ap (λ b. (told_by n told).opened ++ cond b (wire ∷ []) []) (ne_eqb (wire / most_streams) n apart) ∙ append-nil (told_by n told).opened))
+    (opened_more n wire to told ∙ (ap (λ b. (told_by n told).opened ++ cond b (wire ∷ []) []) (ne_eqb wire n apart) ∙ append-nil (told_by n told).opened))
 
 -- ---- stanzas that are given
 
 given_more : (n wire : ℕ) (what : Given) (told : Told) → (told_by n (given_too wire what told)).stanzas ≡ (told_by n told).stanzas ++ cons_option (stanza_for n (wire, what)) []
 given_more n wire what told = filter_map-append (stanza_for n) told.given ((wire, what) ∷ [])
 
-pub given_elsewhere : (n wire : ℕ) (what : Given) (told : Told) → wire / most_streams ≢ n → told_by n (given_too wire what told) ≡ told_by n told
+pub given_elsewhere : (n wire : ℕ) (what : Given) (told : Told) → wire ≢ n → told_by n (given_too wire what told) ≡ told_by n told
 given_elsewhere n wire what told apart =
     ap (λ xs. record { opened = (told_by n told).opened; stanzas = xs })
     (given_more n wire what told
-    ∙ (ap (λ b. (told_by n told).stanzas ++ cons_option (cond b (stanza_in what) None) []) (ne_eqb (wire / most_streams) n apart) ∙ append-nil (told_by n told).stanzas))
+    ∙ (ap (λ b. (told_by n told).stanzas ++ cons_option (cond b (stanza_in what) None) []) (ne_eqb wire n apart) ∙ append-nil (told_by n told).stanzas))
 
-given_here : (n wire : ℕ) (what : Given) (told : Told) → wire / most_streams ≡ n
+given_here : (n wire : ℕ) (what : Given) (told : Told) → wire ≡ n
     → (told_by n (given_too wire what told)).stanzas ≡ (told_by n told).stanzas ++ option_to_list (stanza_in what)
 given_here n wire what told same =
     given_more n wire what told
@@ -101,7 +89,7 @@ contains_kept p (y ∷ ys) x (suc k, in_it, there) says none = by (p y) none (λ
     by true empty next = cc
     by false empty next = next empty
 
-pub isnt_idle : (n wire : ℕ) (end : End) → wire / most_streams ≡ n → WasOpened end.told wire → IsIdle (told_for n end) → ⊥
+pub isnt_idle : (n wire : ℕ) (end : End) → wire ≡ n → WasOpened end.told wire → IsIdle (told_for n end) → ⊥
 isnt_idle n wire end same opened idle = by end.told opened idle
   where
     some_opened : (a b : ToldFor) → Some a ≡ Some b → a.opened ≡ b.opened
@@ -110,7 +98,7 @@ isnt_idle n wire end same opened idle = by end.told opened idle
     by : (o : Option Told) → WasOpened o wire → IsIdle (option_map (told_by n) o) → ⊥
     by None opened idle = cc
     by (Some told) opened idle =
-        contains_kept (λ w. w / most_streams == n) (wires_of told.opened) wire opened (ap (λ k. k == n) same ∙ is_itself n)
+        contains_kept (λ w. w == n) (wires_of told.opened) wire opened (ap (λ k. k == n) same ∙ is_itself n)
         (some_opened (told_by n told) (record { opened = []; stanzas = [] }) idle)
 
 -- ---- where all others are idle, one that isn't is the one
@@ -138,8 +126,8 @@ is_there (w ∷ ws) ys (z ∷ zs) later x one are busy idle_earlier idle_later =
     record { before = ap (λ q. q ∷ ws) (head_is w z (ws ++ x ∷ ys) (zs ++ one ∷ later) are) ∙ ap (λ qs. z ∷ qs) r.before; here = r.here; after = r.after }
 
 -- the one that stands there gave a stanza for this session, which is kept now where nothing was
-pub gave_more : (n wire : ℕ) (what : Given) (all : List (List ℕ)) (stage : Stage) (owed : Option Owing) (kept : Owing) (e : Ends) (standing : End) → wire / most_streams ≡ n
-    → WasOpened e.standing.told wire → Becomes e.standing.told standing.told (given_too wire what) → kept.number ≡ n → kept.given ≡ what
+pub gave_more : (n wire : ℕ) (what : Given) (all : List (List ℕ)) (stage : Stage) (owed : Option Owing) (kept : Owing) (e : Ends) (standing : End) → wire ≡ n
+    → WasOpened e.standing.told wire → Becomes e.standing.told standing.told (given_too wire what) → is_of n kept ≡ true → kept.given ≡ what
     → GaveOf n all stage owed None (told_in_turn n e) → GaveOf n all stage owed (Some kept) (told_in_turn n (record e { standing = standing }))
 gave_more n wire what all stage owed kept e standing same opened becomes number is (gave_nothing unopened idle none owes keeps) =
     absurd (isnt_idle n wire e.standing same opened (every_last IsIdle (front n e) (told_for n e.standing ∷ rear n e) (subst (Every IsIdle) (told_split n e e.standing) idle)).0)
@@ -158,7 +146,7 @@ gave_more n wire what all stage owed kept e standing same opened becomes number 
     })
   where
     kept_so : stanzas_kept n (Some kept) ≡ option_to_list (stanza_in what)
-    kept_so = ap (λ b. cond b (option_to_list (stanza_in kept.given)) []) (ap (λ k. k == n) number ∙ is_itself n) ∙ ap (λ g. option_to_list (stanza_in g)) is
+    kept_so = ap (λ b. cond b (option_to_list (stanza_in kept.given)) []) number ∙ ap (λ g. option_to_list (stanza_in g)) is
 
     by : (old new : Option Told) → Becomes old new (given_too wire what) → IfSome (option_map (told_by n) old) (λ told. told.stanzas ≡ all ++ (stanzas_owed owed ++ []))
         → IfSome (option_map (told_by n) new) (λ told. told.stanzas ≡ all ++ (stanzas_owed owed ++ stanzas_kept n (Some kept)))
@@ -188,7 +176,7 @@ gave_opened n all stage later owed kept e standing change same unopened opened b
   where
     kept_none : (o : Option Owing) → KeepsNone n o → stanzas_kept n o ≡ []
     kept_none None keeps = refl
-    kept_none (Some owing) keeps = ap (λ b. cond b (option_to_list (stanza_in owing.given)) []) (ne_eqb owing.number n keeps)
+    kept_none (Some owing) keeps = ap (λ b. cond b (option_to_list (stanza_in owing.given)) []) keeps
 
     nothing : all ++ (stanzas_owed owed ++ stanzas_kept n kept) ≡ []
     nothing = ap (λ xs. xs ++ (stanzas_owed owed ++ stanzas_kept n kept)) none ∙ (ap (λ o. stanzas_owed o ++ stanzas_kept n kept) owes ∙ kept_none kept keeps)
@@ -232,13 +220,13 @@ owed_opened n all stage owing kept told (gave_nothing unopened idle none owes ke
     some_isnt x e = cc
 owed_opened n all stage owing kept told (gave_these opened one) = opened
 
-pub kept_opened : (n : ℕ) (all : List (List ℕ)) (stage : Stage) (owed : Option Owing) (owing : Owing) (told : List (Option ToldFor)) → owing.number ≡ n
+pub kept_opened : (n : ℕ) (all : List (List ℕ)) (stage : Stage) (owed : Option Owing) (owing : Owing) (told : List (Option ToldFor)) → is_of n owing ≡ true
     → GaveOf n all stage owed (Some owing) told → stage ≢ stages.Unopened
-kept_opened n all stage owed owing told same (gave_nothing unopened idle none owes keeps) = absurd (keeps same)
+kept_opened n all stage owed owing told same (gave_nothing unopened idle none owes keeps) = absurd (true≢false (sym same ∙ keeps))
 kept_opened n all stage owed owing told same (gave_these opened one) = opened
 
-pub kept_for : (n : ℕ) (owing : Owing) → owing.number ≡ n → stanzas_kept n (Some owing) ≡ option_to_list (stanza_in owing.given)
-kept_for n owing same = ap (λ b. cond b (option_to_list (stanza_in owing.given)) []) (ap (λ k. k == n) same ∙ is_itself n)
+pub kept_for : (n : ℕ) (owing : Owing) → is_of n owing ≡ true → stanzas_kept n (Some owing) ≡ option_to_list (stanza_in owing.given)
+kept_for n owing same = ap (λ b. cond b (option_to_list (stanza_in owing.given)) []) same
 
-pub kept_for_other : (n : ℕ) (owing : Owing) → owing.number ≢ n → stanzas_kept n (Some owing) ≡ []
-kept_for_other n owing apart = ap (λ b. cond b (option_to_list (stanza_in owing.given)) []) (ne_eqb owing.number n apart)
+pub kept_for_other : (n : ℕ) (owing : Owing) → is_of n owing ≡ false → stanzas_kept n (Some owing) ≡ []
+kept_for_other n owing apart = ap (λ b. cond b (option_to_list (stanza_in owing.given)) []) apart

@@ -4,6 +4,8 @@ mod GaveLemmas
 mod SideLemmas
 mod NumberLemmas
 mod KeepsLemmas
+mod TakenLemmas
+mod SessionLemmas
 mod StepLemmas
 mod ServingLemmas
 mod PollingLemmas

@@ -1,5 +1,5 @@
 -- Turns, one after the other, and what of one number is kept by them.
-use Rattle.std.proofs.Common.{◌≡◌, ◌≢◌, ◌⊎◌, ◌<◌, ◌^◌, ◌/◌, ℕ, zero, suc, List, [], ◌∷◌, ◌++◌, filter, take, drop, Option, Some, None, IfSome, Result, refl, sym, ◌∙◌, ap, subst, inl, inr, append_assoc, append-nil, true≢false}
+use Rattle.std.proofs.Common.{◌≡◌, ◌≢◌, ◌⊎◌, ◌<◌, ◌^◌, ℕ, zero, suc, List, [], ◌∷◌, ◌++◌, filter, take, drop, Option, Some, None, IfSome, Result, refl, sym, ◌∙◌, ap, subst, inl, inr, append_assoc, append-nil, true≢false}
 use Rattle.std.specs.Prelude.{⊤, IsSome, ◌==◌, option_map, slice_get}
 use Rattle.std.specs.BTreeMap.{is_at}
 use Rattle.std.specs.Map.{lookup}
@@ -18,21 +18,26 @@ use Rattle.session_pump.specs.Dues.{AskDues, AsksDue, asked, asked_none, asked_o
 use Rattle.session_pump.specs.Dues as dues
 use Rattle.session_pump.specs.Ends.{End, Ends}
 use Rattle.session_pump.specs.NumberedTurns.{ServesNumber, TellsFailures, TurnsFor, asked_in_vain, has_no_copy, is_not_live, none_failed, not_begun, not_counted, told_all, told_nobody, turned_for, was_held, was_looked_up}
-use Rattle.session_pump.specs.Pumping.{Each, EachPlace, HostFacts, Pumping, Step, and_one, line_of, next_place, no_place, none_yet}
-use Rattle.session_pump.specs.Turns.{CountsLive, PollsAt, ServesOne, ShutsDown, ShutsOne, TellsOne, Turns, asked_not, counted, not_asked, shut, shut_before, shut_not, shuts_all, shuts_nobody, turned, wanted}
+use Rattle.session_pump.specs.Hosts.{HostFacts}
+use Rattle.session_pump.specs.Sides.{line_facts}
+use Rattle.session_pump.specs.Pumping.{Each, EachPlace, Pumping, Step, and_one, line_of, next_place, no_place, none_yet}
+use Rattle.session_pump.specs.Turns.{CountsLive, PollsAt, ServesOne, ShutsDown, ShutsOne, TellsOne, Turns, asked_not, counted, not_asked, shut, shut_before, shut_not, shuts_all, shuts_nobody, streams_of, turned, wanted}
 use Rattle.session_pump.specs.declared.line.Line.{Line}
-use Rattle.pump_laws.specs.CallsMade.{taken}
-use Rattle.pump_laws.specs.InTurn.{Every, IsNothing, in_turn, passed_in_turn, passed_on}
-use Rattle.pump_laws.specs.Passing.{CanFail, HandsInOrder, PassedOf, PassesInOrder}
+use Rattle.session_pump.specs.declared.line.Side.{Side}
+use Rattle.bosh_types.specs.declared.ending.Closing.TheVariants.{SystemShutdown}
+use Rattle.bosh_types.specs.declared.inward.Inward.{Inward}
+use Rattle.parked_gate.specs.Passes.{known}
+use Rattle.pump_laws.specs.CallsMade.{CallMade, carried, taken}
+use Rattle.pump_laws.specs.InTurn.{Every, IsNothing, ends_at, in_turn, passed_in_turn, passed_on}
+use Rattle.pump_laws.specs.Passing.{CanFail, HandsInOrder, PassedOf, PassesInOrder, StreamHands, StreamPasses}
 use Rattle.session_pump.specs.Rows.{Row, no_call, one_more}
 use Rattle.pump_laws.specs.Rows.{AllTell, IsNew, IsNewHost, IsUnused}
 use Rattle.session_pump.specs.Rows as rows
 use Rattle.pump_laws.proofs.BenchLemmas.{every_append, every_first, every_last, every_mapped}
-use Rattle.pump_laws.proofs.CallLemmas.{carries_closing, carries_look}
-use Rattle.pump_laws.proofs.KeepsLemmas.{Good, IdleAt, Keeps, LineKeeps, host_at, is_gone, none_some, same_of, unmet, was_met}
-use Rattle.pump_laws.proofs.SideLemmas.{wire_of}
+use Rattle.pump_laws.proofs.CallLemmas.{carries_closings, carries_look}
+use Rattle.pump_laws.proofs.KeepsLemmas.{Good, IdleAt, IsProper, IsProperSide, Keeps, LineKeeps, SideKeeps, host_at, is_gone, none_some, same_of, unmet, was_met}
+use Rattle.pump_laws.proofs.SideLemmas.{its_kept, wire_of}
 use Rattle.pump_laws.specs.Handing.{IsIdle, KeepsNone, stanza_for, told_by, told_for, told_in_turn}
-use Rattle.bosh_types.specs.Limits.{most_streams}
 use Rattle.std.specs.List.{filter_map}
 use Rattle.pump_laws.proofs.NumberLemmas.{Has, IsGone, IsOpening, contains_has, has_first, has_last, live_apart, live_isnt_gone, live_opened}
 use Rattle.pump_laws.proofs.PollingLemmas.{polls_at_keeps, polls_at_starts}
@@ -159,8 +164,8 @@ module _ (B : Type 0) (n : ℕ) (small : n < 2 ^ 32) (final : List Entry) (legal
     where
       by : Keeps B G n (held a.sessions n) (line_of a.lines n) (host_at a.hosts) a.directory.seen → IsOpening n sid a.directory.seen
       by (unmet none held_so nothing) = subst (λ t. IsOpening n t a.directory.seen) holds.named (held_so holds.handle holds.is).opened
-      by (was_met h line is there k) =
-          subst (λ t. IsOpening n t a.directory.seen) (ap (λ (x : SessionHandle). x.sid) (same_of (held a.sessions n) h holds.handle is holds.is) ∙ holds.named) k.opened
+      by (was_met h line is there opened k) =
+          subst (λ t. IsOpening n t a.directory.seen) (ap (λ (x : SessionHandle). x.sid) (same_of (held a.sessions n) h holds.handle is holds.is) ∙ holds.named) opened
       by (is_gone none nobody gone why) = absurd (none_some (held a.sessions n) holds.handle nobody holds.is)
 
   number_keeps : (moment : Option ℕ) (m : ℕ) (a b : Pumping) (result : Result ⊤ AllocError) → ServesNumber moment m a b result → StartsWith final b.directory.seen → Good B ⊤ n a → Good B ⊤ n b
@@ -208,7 +213,7 @@ module _ (B : Type 0) (n : ℕ) (small : n < 2 ^ 32) (final : List Entry) (legal
     shuts_keep session a b result is starts (shut_not error asks) g = good_directory n a b (λ k l says. says.begins) asks g
     shuts_keep session a c result is starts (shut {b = b} m finds asks) g =
         let its : m ≡ session.number = found_number log final session m a b is begins legal finds in
-        good_session n m b c (λ k l says. carries_closing moment _ result k l says) asks
+        good_session n m b c (λ k l says. carries_closings moment SystemShutdown k (streams_of (line_of b.lines m)) result l says) asks
         (finds_keeps n m session.sid a b finds log (λ same. subst (λ k. IsOpening k session.sid log) (sym its ∙ same) (live_opened log session is))
         (starts_then log a.directory.seen b.directory.seen starts (finds_starts m session.sid a b finds))
         (λ same gone. live_isnt_gone log session is (subst (λ k. IsGone k log) (sym same ∙ its) gone)) g)
@@ -315,7 +320,7 @@ idle_end n end unused tells = by end.told unused tells
     by : (o : Option Told) → IfSome o (λ (told : Told). (told.opened ≡ []) × (told.passed ≡ []) × (told.given ≡ [])) → IsSome o → IsIdle (option_map (told_by n) o)
     by None unused tells = absurd (true≢false (sym tells))
     by (Some told) (opened, passed, given) tells =
-        ap (λ xs. Some (record { opened = filter (λ wire. wire / most_streams == n) (wires_of xs); stanzas = filter_map (stanza_for n) told.given })) opened
+        ap (λ xs. Some (record { opened = filter (λ other. other == n) (wires_of xs); stanzas = filter_map (stanza_for n) told.given })) opened
         ∙ ap (λ xs. Some (record { opened = []; stanzas = filter_map (stanza_for n) xs })) given
 
 both_every : {A : Type 0} (P Q R : A → Type 0) → ((x : A) → P x → Q x → R x) → (xs : List A) → Every P xs → Every Q xs → Every R xs
@@ -336,15 +341,15 @@ new_idle n host new tell =
 begins_good : (n : ℕ) (a : Pumping) → IsNew a → Good (AllTell a) ⊤ n a
 begins_good n a new = record {
   keeps = unmet (empty_lookup n a.lines.entries new.lines) (λ h is. absurd (none_some (held a.sessions n) h (empty_lookup n a.sessions.entries new.sessions) is))
-      (λ place host is. record {
-        passed = new_nothing (wire_of n) host (every_got IsNewHost a.hosts place host new.hosts is);
+      (λ q small place host is. record {
+        passed = new_nothing (wire_of n q) host (every_got IsNewHost a.hosts place host new.hosts is);
         given = λ tell. record {
-          idle = new_idle n host (every_got IsNewHost a.hosts place host new.hosts is)
+          idle = new_idle (wire_of n q) host (every_got IsNewHost a.hosts place host new.hosts is)
               (every_got (λ (host : HostFacts). Every (λ (end : End). IsSome end.told) (host.ends.standing ∷ host.ends.spares)) a.hosts place host tell is);
-          none = subst (KeepsNone n) (sym (every_got IsNewHost a.hosts place host new.hosts is).kept) tt;
+          none = subst (KeepsNone (wire_of n q)) (sym (every_got IsNewHost a.hosts place host new.hosts is).kept) tt;
         };
       });
-  wires = λ m line is. absurd (none_some (line_of a.lines m) line (empty_lookup m a.lines.entries new.lines) is);
+  proper = λ m line is. absurd (none_some (line_of a.lines m) line (empty_lookup m a.lines.entries new.lines) is);
 }
 
 row_good : (B : Type 0) (n : ℕ) → n < 2 ^ 32 → (final : List Entry) → IsLegal final → (a b : Pumping) → Row a b → StartsWith final b.directory.seen → Good B ⊤ n a → Good B ⊤ n b
@@ -357,23 +362,48 @@ row_good B n small final legal a c (one_more {b = b} row calls) starts g =
 pub record HasMet (B : Type 0) (n : ℕ) (b : Pumping) (line : Line) : Type 0 where
   pub handle : SessionHandle
   pub at : held b.sessions n ≡ Some handle
-  pub wire : line.wire ≡ wire_of n
-  pub keeps : LineKeeps B n (host_at b.hosts) b.directory.seen line handle
+  pub proper : IsProper n (line_facts line)
+  pub keeps : LineKeeps B n (host_at b.hosts) (line_facts line) (known handle.pass).mine
 
 row_met : (a b : Pumping) → IsNew a → Row a b → IsLegal b.directory.seen → (n : ℕ) (line : Line) → n < 2 ^ 32 → line_of b.lines n ≡ Some line → HasMet (AllTell a) n b line
 row_met a b new row legal n line small is =
     let g : Good (AllTell a) ⊤ n b = row_good (AllTell a) n small b.directory.seen legal a b row (starts_same b.directory.seen) (begins_good n a new) in
-    by (g.wires n line is) g.keeps
+    by (g.proper n line is) g.keeps
   where
-    by : line.wire ≡ wire_of n → Keeps (AllTell a) ⊤ n (held b.sessions n) (line_of b.lines n) (host_at b.hosts) b.directory.seen → HasMet (AllTell a) n b line
-    by wire (unmet none held_so nothing) = absurd (none_some (line_of b.lines n) line none is)
-    by wire (was_met h other at there k) = record {
+    by : IsProper n (line_facts line) → Keeps (AllTell a) ⊤ n (held b.sessions n) (line_of b.lines n) (host_at b.hosts) b.directory.seen → HasMet (AllTell a) n b line
+    by proper (unmet none held_so nothing) = absurd (none_some (line_of b.lines n) line none is)
+    by proper (was_met h other at there opened k) = record {
       handle = h;
       at = at;
-      wire = wire;
-      keeps = subst (λ x. LineKeeps (AllTell a) n (host_at b.hosts) b.directory.seen x h) (same_of (line_of b.lines n) other line there is) k;
+      proper = proper;
+      keeps = subst (λ (x : Line). LineKeeps (AllTell a) n (host_at b.hosts) (line_facts x) (known h.pass).mine) (same_of (line_of b.lines n) other line there is) k;
     }
-    by wire (is_gone none nobody gone why) = absurd (none_some (line_of b.lines n) line none is)
+    by proper (is_gone none nobody gone why) = absurd (none_some (line_of b.lines n) line none is)
+
+-- a host by its back ends
+record HostOf (hosts : List HostFacts) (place : ℕ) (ends : Ends) : Type 0 where
+  host : HostFacts
+  there : host_at hosts place ≡ Some host
+  its : host.ends ≡ ends
+
+host_of : (hosts : List HostFacts) (place : ℕ) (ends : Ends) → ends_at hosts place ≡ Some ends → HostOf hosts place ends
+host_of hosts place ends is = by (slice_get hosts place) refl is
+  where
+    by : (o : Option HostFacts) → slice_get hosts place ≡ o → option_map (λ (host : HostFacts). host.ends) o ≡ Some ends → HostOf hosts place ends
+    by None got is = absurd (none_some None ends refl is)
+    by (Some host) got is = record { host = host; there = got; its = same_of (Some host.ends) host.ends ends refl is }
+
+stream_passes : (B : Type 0) (b : Pumping) (n : ℕ) (made : List CallMade) (kept : Option Inward) (side : Side) → IsProperSide n side → SideKeeps B (host_at b.hosts) made kept side
+    → StreamPasses b n (taken made) kept side
+stream_passes B b n made kept side p k = record {
+  wire = p.wire;
+  here = λ place ends its_ends to few.
+      let h : HostOf b.hosts place ends = host_of b.hosts place ends its_ends in
+      subst (PassedOf side.wire (carried side.stream (taken made)) side.stage (its_kept side.stream kept)) h.its (k.here place h.host h.there to (subst CanFail (sym h.its) few));
+  elsewhere = λ place ends its_ends away.
+      let h : HostOf b.hosts place ends = host_of b.hosts place ends its_ends in
+      subst (λ e. Every IsNothing (passed_in_turn side.wire e)) h.its (k.elsewhere place h.host h.there away).passed;
+}
 
 pub row_passes : (a b : Pumping) → IsNew a → Row a b → IsLegal b.directory.seen → (number : ℕ) (line : Line) → number < 2 ^ 32 → line_of b.lines number ≡ Some line
     → PassesInOrder b number line
@@ -382,27 +412,14 @@ row_passes a b new row legal n line small is =
     record {
       handle = m.handle;
       held_as = m.at;
-      wire = m.wire;
       calls = m.keeps.calls;
       made = m.keeps.made;
-      here = λ place ends its_ends host few. by m place ends (slice_get b.hosts place) refl its_ends host few;
-      elsewhere = λ place ends its_ends host. away m place ends (slice_get b.hosts place) refl its_ends host;
+      once = m.keeps.once;
+      streams = λ place side there. stream_passes (AllTell a) b n m.keeps.calls line.kept side (m.proper.sides place side there) (m.keeps.has place side there);
+      unmet = λ stream few none place ends its_ends.
+          let h : HostOf b.hosts place ends = host_of b.hosts place ends its_ends in
+          subst (λ e. Every IsNothing (passed_in_turn (wire_of n stream) e)) h.its ((m.keeps.hasnt stream few none).nothing place h.host h.there).passed;
     }
-  where
-    by : (m : HasMet (AllTell a) n b line) → (place : ℕ) (ends : Ends) (o : Option HostFacts) → slice_get b.hosts place ≡ o → option_map (λ (host : HostFacts). host.ends) o ≡ Some ends → line.host ≡ Some place
-        → CanFail ends → PassedOf line.wire (taken m.keeps.calls) line.stage line.kept ends
-    by m place ends None got is at few = absurd (none_some None ends refl is)
-    by m place ends (Some host) got is at few =
-        let same : host.ends ≡ ends = same_of (Some host.ends) host.ends ends refl is in
-        subst (λ e. PassedOf line.wire (taken m.keeps.calls) line.stage line.kept e) same
-        (subst (λ w. PassedOf w (taken m.keeps.calls) line.stage line.kept host.ends) (sym m.wire) (m.keeps.here place host got at (subst CanFail (sym same) few)))
-
-    away : (m : HasMet (AllTell a) n b line) → (place : ℕ) (ends : Ends) (o : Option HostFacts) → slice_get b.hosts place ≡ o → option_map (λ (host : HostFacts). host.ends) o ≡ Some ends → line.host ≢ Some place
-        → Every IsNothing (passed_in_turn line.wire ends)
-    away m place ends None got is apart = absurd (none_some None ends refl is)
-    away m place ends (Some host) got is apart =
-        subst (λ e. Every IsNothing (passed_in_turn line.wire e)) (same_of (Some host.ends) host.ends ends refl is)
-        (subst (λ w. Every IsNothing (passed_in_turn w host.ends)) (sym m.wire) (m.keeps.elsewhere place host got apart).passed)
 
 pub row_hands : (a b : Pumping) → IsNew a → AllTell a → Row a b → IsLegal b.directory.seen → (number : ℕ) (line : Line) → number < 2 ^ 32 → line_of b.lines number ≡ Some line
     → HandsInOrder b number line
@@ -413,8 +430,15 @@ row_hands a b new tell row legal n line small is =
       held_as = m.at;
       calls = m.keeps.calls;
       made = m.keeps.made;
-      here = λ place host its_host at. m.keeps.gives place host its_host at tell;
-      elsewhere = λ place host its_host apart.
-          let i : IdleAt n host = (m.keeps.elsewhere place host its_host apart).given tell in
+      streams = λ place side there.
+          let k : SideKeeps (AllTell a) (host_at b.hosts) m.keeps.calls line.kept side = m.keeps.has place side there in
+          record {
+            here = λ q host its_host to. k.gives q host its_host to tell;
+            elsewhere = λ q host its_host away.
+                let i : IdleAt side.wire host = (k.elsewhere q host its_host away).given tell in
+                (i.idle, i.none);
+          };
+      unmet = λ stream few none place host its_host.
+          let i : IdleAt (wire_of n stream) host = ((m.keeps.hasnt stream few none).nothing place host its_host).given tell in
           (i.idle, i.none);
     }

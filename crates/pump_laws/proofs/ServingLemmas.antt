@@ -1,17 +1,15 @@
 -- A session is served, and what of one number is kept by it.
-use Rattle.std.proofs.Common.{◌≡◌, ◌≢◌, ◌⊎◌, ◌≤◌, ◌<◌, ◌^◌, ℕ, cond, List, [], ◌∷◌, ◌++◌, length, Option, Some, None, IfSome, Result, Ok, Err, refl, sym, ◌∙◌, ap, subst, inl, inr, arith}
-use Rattle.std.specs.Prelude.{⊤, option_to_list}
-use Rattle.std.proofs.lemmas.Option.{slice_get_within}
+use Rattle.std.proofs.Common.{◌≡◌, ◌≢◌, ◌⊎◌, ◌≤◌, ◌<◌, ◌^◌, ℕ, zero, suc, false, cond, List, [], ◌∷◌, ◌++◌, Option, Some, None, Result, Ok, Err, refl, sym, ◌∙◌, ap, subst, inl, inr, arith}
+use Rattle.std.specs.Prelude.{⊤, ◌||◌, ◌==◌, option_to_list, slice_get}
 use Rattle.std.specs.BTreeMap.{is_at}
 use Rattle.std.specs.Map.{lookup}
 use Rattle.std.specs.Ordering.{nat_cmp}
 use Rattle.std.proofs.lemmas.Slice.Eq.{bytes_eq-Decides}
 use Rattle.std.specs.declared.alloc.AllocError.{AllocError}
+use Rattle.bosh_types.specs.Limits.{most_streams}
 use Rattle.parked_gate.specs.Histories.{Appends, StartsWith}
 use Rattle.parked_gate.specs.Passes.{Known, known}
 use Rattle.session_journal.specs.declared.asking.State.{State}
-use Rattle.session_journal.specs.declared.call.Call.TheVariants as calls
-use Rattle.session_journal.specs.declared.call.Reply.TheVariants as journal_replies
 use Rattle.session_journal.specs.declared.entry.Entry as journal
 use Rattle.session_table.specs.declared.calls.DirectoryCall.TheVariants as directory_calls
 use Rattle.session_table.specs.declared.calls.DirectoryReply.{DirectoryReply}
@@ -22,100 +20,44 @@ use Rattle.session_table.specs.declared.handle.SessionHandle.{SessionHandle}
 use Rattle.session_table.specs.History.{IsLegal}
 use Rattle.session_table.specs.Purses.{OthersStay, Sessions, Turned, held, own_entries}
 use Rattle.session_table.specs.Replies.{RepliesTo, live_sessions}
+use Rattle.session_pump.specs.Hosts.{HostFacts}
 use Rattle.session_pump.specs.NumberedTurns.{ServesHeld}
-use Rattle.session_pump.specs.Pumping.{HostFacts, HasNoHost, OnLine, Pumping, Then, alone, line_of, on_host, stopped, went_on}
-use Rattle.session_pump.specs.Sides.{PassesAll, Serves}
-use Rattle.session_pump.specs.Turns.{AnswersState, ClosesWire, FindsSession, IsNewLine, LeavesAlone, Meets, Notes, Removes, RemovesEnded, ServesAlone, ServesMet, ServesOne, Takes, TakesAll, TellsCut, TellsOne, found, goes_on, has_ended, left_alone, live_no_longer, met, met_not, no_time, not_found, not_held, noted, noted_not, refused, removed, removed_not, taken_none, ticked, told_where_cut, too_large, took, was_served}
+use Rattle.session_pump.specs.Pumping.{HasNoLine, OnLine, Pumping, Then, alone, line_of, on_line, stopped, went_on}
+use Rattle.session_pump.specs.Sides.{PassesAll, Serves, TellsCut, is_met, line_facts}
+use Rattle.session_pump.specs.Turns.{AnswersState, ClosesWires, FindsSession, IsNewLine, LeavesAlone, Meets, Notes, Removes, RemovesEnded, ServesAlone, ServesMet, ServesOne, TakesAll, TellsOne, first_stage, found, goes_on, has_ended, left_alone, live_no_longer, met, met_not, not_found, not_held, noted, noted_not, refused, removed, removed_not, told_where_cut, too_large, was_served}
 use Rattle.session_pump.specs.Turns as turns
 use Rattle.session_pump.specs.declared.line.Line.{Line}
-use Rattle.pump_laws.specs.CallsMade.{CallMade, MadeBy, made_none}
+use Rattle.session_pump.specs.declared.line.Side.{Side}
+use Rattle.pump_laws.specs.CallsMade.{MadeBy, carried, handed, made_none, taken}
 use Rattle.pump_laws.specs.Handing.{gave_nothing}
 use Rattle.pump_laws.specs.Passing.{isnt_opened}
-use Rattle.pump_laws.proofs.CallLemmas.{Carries, Goes, carries_same, carries_look, carries_ticks, one_more_made}
-use Rattle.pump_laws.proofs.KeepsLemmas.{Good, IdleAt, IsUnmet, Keeps, LineKeeps, host_at, is_gone, keeps_as, keeps_follows, keeps_later, none_some, same_of, same_or_apart, unmet, was_met}
+use Rattle.pump_laws.proofs.CallLemmas.{Carries, carries_same, carries_look}
+use Rattle.pump_laws.proofs.KeepsLemmas.{Good, IdleAt, IsProper, IsProperSide, IsUnmet, Keeps, LineKeeps, NoneAt, NothingPassed, SideKeeps, host_at, is_gone, keeps_as, keeps_follows, keeps_later, none_some, same_of, same_or_apart, unmet, was_met}
 use Rattle.pump_laws.proofs.NumberLemmas.{Has, IsGone, IsOpening, live_opened, name_tells, not_live_is_gone, one_name, opening_later, removed_is_gone}
-use Rattle.pump_laws.proofs.SideLemmas.{wire_of, closes_keep, passes_all_keep, serves_keep, tells_keep}
-use Rattle.pump_laws.proofs.StepLemmas.{HasLine, called_starts, good_as, good_directory, good_noted, good_session, good_sessions, met_line, on_line_keeps, session_starts, starts_same, starts_then}
+use Rattle.pump_laws.proofs.SessionLemmas.{closes_keep, new_proper, passes_all_keep, serves_keep, tells_keep}
+use Rattle.pump_laws.proofs.SideLemmas.{its_kept, wire_of}
+use Rattle.pump_laws.proofs.StepLemmas.{HasLine, called_starts, good_as, good_directory, good_noted, good_session, good_sessions, on_line_keeps, session_starts, starts_same, starts_then}
+use Rattle.pump_laws.proofs.TakenLemmas.{nothing_carried}
 
--- ---- a session without a host
+-- ---- a session without a line
 
--- further calls were made
-pub record Goes_on (mine : List journal.Entry) : Type 0 where
-  pub calls : List CallMade
-  pub made : MadeBy calls mine
-
-abbrev Makes : Known journal.Entry → Known journal.Entry → Type 0
-Makes old new = (made : List CallMade) → MadeBy made old.mine → Goes_on new.mine
-
-makes_carried : (old new : Known journal.Entry) → Carries old new → Makes old new
-makes_carried old new carries made by_these =
-    let g : Goes made new.mine = carries made by_these in
-    record { calls = g.calls; made = g.by_these }
-
-makes_then : (k l m : Known journal.Entry) → Makes k l → Makes l m → Makes k m
-makes_then k l m first second made by_these =
-    let g : Goes_on l.mine = first made by_these in
-    second g.calls g.made
-
-makes_taken : (k l : Known journal.Entry) → Takes k l → Makes k l
-makes_taken k l taken_none made by_these = record { calls = made; made = by_these }
-makes_taken k l (took {l = m} item before c) made by_these =
-    let g : Goes_on m.mine = makes_taken k m before made by_these in
-    record { calls = g.calls ++ (calls.TakeInward, Ok (journal_replies.TakeInward (Some item))) ∷ []; made = one_more_made g.calls calls.TakeInward (Ok (journal_replies.TakeInward (Some item))) m l g.made c }
-
-makes_all : (k m : Known journal.Entry) (result : Result ⊤ AllocError) → TakesAll k m result → Makes k m
-makes_all k m (Ok done) (l, takes, c) made by_these =
-    let g : Goes_on l.mine = makes_taken k l takes made by_these in
-    record { calls = g.calls ++ (calls.TakeInward, Ok (journal_replies.TakeInward None)) ∷ []; made = one_more_made g.calls calls.TakeInward (Ok (journal_replies.TakeInward None)) l m g.made c }
-makes_all k m (Err error) (l, wanted, takes, c) made by_these =
-    let g : Goes_on l.mine = makes_taken k l takes made by_these in
-    record { calls = g.calls ++ (calls.TakeInward, Err wanted) ∷ []; made = one_more_made g.calls calls.TakeInward (Err wanted) l m g.made c }
-
-makes_alone : (moment : Option ℕ) (k m : Known journal.Entry) (result : Result ⊤ AllocError) → ServesAlone moment k m result → Makes k m
-makes_alone moment k m result (no_time error other ticks) = makes_carried k m (carries_ticks moment (Err error) k m ticks)
-makes_alone moment k m result (ticked {l = l} ticks all) =
-    makes_then k l m (makes_carried k l (carries_ticks moment (Ok tt) k l ticks)) (makes_all l m result all)
-
--- what is taken of a session without a host goes nowhere
-alone_keeps : {B G : Type 0} (n m : ℕ) (a : Pumping) (Alone : Known journal.Entry → Known journal.Entry → Type 0) → ((k l : Known journal.Entry) → Alone k l → Makes k l)
-    → (m ≡ n → HasLine n a) → (sessions : Sessions) → HasNoHost a m → Turned m a.sessions sessions Alone → OthersStay m a.sessions sessions → Good B G n a
-    → Good B G n (record a { sessions = sessions })
-alone_keeps {B} {G} n m a Alone makes lined sessions no_host t others g = by (same_or_apart m n)
+-- one that has a line isn't one of these
+alone_keeps : {B G : Type 0} (n m : ℕ) (a : Pumping) (Alone : Known journal.Entry → Known journal.Entry → Type 0) → (m ≡ n → HasLine n a) → (sessions : Sessions) → HasNoLine a m
+    → Turned m a.sessions sessions Alone → OthersStay m a.sessions sessions → Good B G n a → Good B G n (record a { sessions = sessions })
+alone_keeps {B} {G} n m a Alone lined sessions no_line t others g = by (same_or_apart m n)
   where
-    own : m ≡ n → HasLine n a → Keeps B G n (held sessions n) (line_of a.lines n) (host_at a.hosts) a.directory.seen
-    own same (line, is) =
-        let k : LineKeeps B n (host_at a.hosts) a.directory.seen line t.before =
-        met_line n a line t.before is (ap (held a.sessions) (sym same) ∙ t.was) g.keeps in
-        let further : Goes_on (known t.after.pass).mine = makes (known t.before.pass) (known t.after.pass) t.says k.calls k.made in
-        was_met t.after line (ap (held sessions) (sym same) ∙ t.is) is (record {
-          opened = subst (λ sid. IsOpening n sid a.directory.seen) (sym t.of_same.sid) k.opened;
-          calls = further.calls;
-          made = further.made;
-          here = λ place host at there few. absurd (nowhere place host at there (within_none));
-          elsewhere = k.elsewhere;
-          gives = λ place host at there b. absurd (nowhere place host at there (within_none));
-        })
-      where
-        within_none : IfSome line.host (λ place. length a.hosts ≤ place)
-        within_none = subst (λ o. IfSome o (λ line. IfSome line.host (λ place. length a.hosts ≤ place))) (ap (line_of a.lines) same ∙ is) no_host
-
-        nowhere : (place : ℕ) (host : HostFacts) → host_at a.hosts place ≡ Some host → line.host ≡ Some place → IfSome line.host (λ place. length a.hosts ≤ place) → ⊥
-        nowhere place host at there past =
-            let beyond : length a.hosts ≤ place = subst (λ o. IfSome o (λ place. length a.hosts ≤ place)) there past in
-            omega (arith, beyond, slice_get_within a.hosts place host at)
-
     by : (m ≡ n) ⊎ (m ≢ n) → Good B G n (record a { sessions = sessions })
-    by (inl same) = record { keeps = own same (lined same); wires = g.wires }
+    by (inl same) = absurd (none_some (line_of a.lines n) (lined same).0 (ap (line_of a.lines) (sym same) ∙ no_line) (lined same).1)
     by (inr apart) = record {
       keeps = subst (λ o. Keeps B G n o (line_of a.lines n) (host_at a.hosts) a.directory.seen) (sym (others n (λ same. apart (sym same)))) g.keeps;
-      wires = g.wires;
+      proper = g.proper;
     }
 
 -- where nothing is done to it, nothing is
-still_keeps : {B G : Type 0} (n m : ℕ) (a : Pumping) (result : Result ⊤ AllocError) (sessions : Sessions) → HasNoHost a m
+still_keeps : {B G : Type 0} (n m : ℕ) (a : Pumping) (result : Result ⊤ AllocError) (sessions : Sessions) → HasNoLine a m
     → Turned m a.sessions sessions (λ k l. (l ≡ k) × (result ≡ Ok tt)) → OthersStay m a.sessions sessions → Good B G n a
     → Good B G n (record a { sessions = sessions })
-still_keeps n m a result sessions no_host t others g =
+still_keeps n m a result sessions no_line t others g =
     good_sessions n m a sessions (λ k l. (l ≡ k) × (result ≡ Ok tt)) (λ k l says. carries_same k l (ap (λ (x : Known journal.Entry). x.mine) says.0)) t others g
 
 -- ---- a session is met
@@ -130,41 +72,79 @@ meets_keeps {B} {G} n m a b result small (met {b = c} name lines line none asks 
     its_lines : c.lines ≡ a.lines
     its_lines = ap (λ (p : Pumping). p.lines) asks.same
 
+    -- its first stream
+    first_side : n ≡ m → (u : IsUnmet B n c.directory.seen asks.turned.after) → NothingPassed B n (host_at c.hosts) → SideKeeps B (host_at c.hosts) u.calls line.kept new.side
+    first_side same u nothing =
+        let its_wire : new.side.wire ≡ wire_of n 0 = new.new.wire ∙ ap (λ k. wire_of k 0) (sym same) in
+        let there : (place : ℕ) (host : HostFacts) → host_at c.hosts place ≡ Some host → NoneAt B new.side.wire host =
+        λ (place : ℕ) (host : HostFacts) (got : host_at c.hosts place ≡ Some host). subst (λ w. NoneAt B w host) (sym its_wire) (nothing 0 (omega arith) place host got) in
+        record {
+          begun = inl new.new.of;
+          here = λ place host got at few. isnt_opened (new.stage ∙ ap first_stage at) (there place host got).passed
+              (ap (carried new.side.stream) u.nothing ∙ (nothing_carried new.side.stream ∙ sym (ap (its_kept new.side.stream) new.kept)));
+          elsewhere = λ place host got away. there place host got;
+          gives = λ place host got at b.
+              let i : IdleAt new.side.wire host = (there place host got).given b in
+              gave_nothing (new.stage ∙ ap first_stage at) i.idle (ap (λ q. handed q u.calls) new.new.of ∙ u.unhanded 0 (omega arith) b) new.new.owed i.none;
+        }
+
+    only_side : (p : ℕ) (x : Side) → slice_get line.sides.items p ≡ Some x → (p ≡ 0) × (new.side ≡ x)
+    only_side p x got = by p (ap (λ xs. slice_get xs p) (sym new.alone) ∙ got)
+      where
+        by : (p : ℕ) → slice_get (new.side ∷ []) p ≡ Some x → (p ≡ 0) × (new.side ≡ x)
+        by zero got = (refl, same_of (Some new.side) new.side x refl got)
+        by (suc p) got = absurd (none_some None x refl got)
+
+    first_line : n ≡ m → IsUnmet B n c.directory.seen asks.turned.after → NothingPassed B n (host_at c.hosts)
+        → LineKeeps B n (host_at c.hosts) (line_facts line) (known asks.turned.after.pass).mine
+    first_line same u nothing = record {
+      calls = u.calls;
+      made = u.made;
+      zeroth = ap (is_met 0) new.alone ∙ ap (λ q. (q == 0) || false) new.new.of;
+      once = λ p q x y at_p at_q together. (only_side p x at_p).0 ∙ sym (only_side q y at_q).0;
+      has = λ p x got. subst (SideKeeps B (host_at c.hosts) u.calls line.kept) (only_side p x got).1 (first_side same u nothing);
+      hasnt = λ q few none. record {
+        nothing = nothing q few;
+        earlier = [];
+        are = u.nothing ∙ sym (ap option_to_list new.kept);
+        unopened = refl;
+        unhanded = λ b. u.unhanded q few b;
+      };
+    }
+
     begin : n ≡ m → Keeps B G n (held c.sessions n) (line_of c.lines n) (host_at c.hosts) c.directory.seen → Keeps B G n (held c.sessions n) (line_of lines n) (host_at c.hosts) c.directory.seen
     begin same (unmet empty held_so nothing) =
         let at : held c.sessions n ≡ Some asks.turned.after = ap (held c.sessions) same ∙ asks.turned.is in
         let u : IsUnmet B n c.directory.seen asks.turned.after = held_so asks.turned.after at in
-        was_met asks.turned.after line at (ap (line_of lines) same ∙ is) (record {
-          opened = u.opened;
-          calls = u.calls;
-          made = u.made;
-          here = λ place host there at few. isnt_opened new.stage (nothing place host there).passed (u.nothing ∙ sym (ap option_to_list new.kept));
-          elsewhere = λ place host there at. nothing place host there;
-          gives = λ place host there at b.
-              let i : IdleAt n host = (nothing place host there).given b in
-              gave_nothing new.stage i.idle (u.unhanded b) new.owed i.none;
-        })
-    begin same (was_met h other at there k) =
+        was_met asks.turned.after line at (ap (line_of lines) same ∙ is) u.opened (first_line same u nothing)
+    begin same (was_met h other at there opened k) =
         absurd (none_some (line_of c.lines n) other (ap (line_of c.lines) same ∙ (ap (λ ls. line_of ls m) its_lines ∙ none)) there)
     begin same (is_gone empty nobody gone why) = absurd (none_some (held c.sessions n) asks.turned.after nobody (ap (held c.sessions) same ∙ asks.turned.is))
 
-    its_wire : (k : ℕ) (x : Line) → line_of lines k ≡ Some x → (k ≡ m) ⊎ (k ≢ m) → x.wire ≡ wire_of k
-    its_wire k x there (inl same) =
-        ap (λ (y : Line). y.wire) (same_of (line_of lines m) x line (ap (line_of lines) (sym same) ∙ there) is) ∙ (new.wire ∙ ap wire_of (sym same))
-    its_wire k x there (inr apart) = g.wires k x (sym (beside k apart) ∙ there)
+    new_line : IsProper m (line_facts line)
+    new_line = record {
+      opening = new.opening;
+      sides = λ p x got. subst (IsProperSide m) (only_side p x got).1 (new_proper m 0 name a.hosts m new.side refl new.new);
+    }
+
+    its_line : (k : ℕ) (x : Line) → line_of lines k ≡ Some x → (k ≡ m) ⊎ (k ≢ m) → IsProper k (line_facts x)
+    its_line k x there (inl same) =
+        subst (λ (j : ℕ). IsProper j (line_facts x)) (sym same)
+        (subst (λ (y : Line). IsProper m (line_facts y)) (same_of (line_of lines m) line x is (ap (line_of lines) (sym same) ∙ there)) new_line)
+    its_line k x there (inr apart) = g.proper k x (sym (beside k apart) ∙ there)
 
     by : (n ≡ m) ⊎ (n ≢ m) → Good B G n (record c { lines = lines })
-    by (inl same) = record { keeps = begin same asked.keeps; wires = λ k x there. its_wire k x there (same_or_apart k m) }
+    by (inl same) = record { keeps = begin same asked.keeps; proper = λ k x there. its_line k x there (same_or_apart k m) }
     by (inr apart) = record {
       keeps = subst (λ l. Keeps B G n (held c.sessions n) l (host_at c.hosts) c.directory.seen) (sym (beside n apart ∙ sym (ap (λ ls. line_of ls n) its_lines))) asked.keeps;
-      wires = λ k x there. its_wire k x there (same_or_apart k m);
+      proper = λ k x there. its_line k x there (same_or_apart k m);
     }
 meets_keeps n m a b result small (too_large asks large) g = good_session n m a b (λ k l says. carries_look k l says) asks g
 meets_keeps {B} {G} n m a b result small (met_not {b = c} error lines asks unchanged) g =
     let asked : Good B G n c = good_session n m a c (λ k l says. carries_look k l says) asks g in
     record {
       keeps = subst (λ l. Keeps B G n (held c.sessions n) l (host_at c.hosts) c.directory.seen) (sym (ap (lookup (is_at (nat_cmp n))) unchanged)) asked.keeps;
-      wires = λ k x there. asked.wires k x (sym (ap (lookup (is_at (nat_cmp k))) unchanged) ∙ there);
+      proper = λ k x there. asked.proper k x (sym (ap (lookup (is_at (nat_cmp k))) unchanged) ∙ there);
     }
 
 -- and has a line then
@@ -180,17 +160,17 @@ meets_starts m a b result (too_large asks large) = session_starts m a b asks
 meets_starts m a b result (met_not {b = c} error lines asks unchanged) = session_starts m a c asks
 
 on_line_starts : (OnHost : _) (Alone : _) (m : ℕ) (a b : Pumping) (result : Result ⊤ AllocError) → OnLine OnHost Alone m a b result → StartsWith b.directory.seen a.directory.seen
-on_line_starts OnHost Alone m a b result (on_host sessions lines hosts place line later host ends l at still turns t others) = starts_same a.directory.seen
-on_line_starts OnHost Alone m a b result (alone sessions no_host t others) = starts_same a.directory.seen
+on_line_starts OnHost Alone m a b result (on_line sessions lines hosts line later l t others) = starts_same a.directory.seen
+on_line_starts OnHost Alone m a b result (alone sessions no_line t others) = starts_same a.directory.seen
 
 -- who has a line keeps it while something is done at it
 on_line_line : (OnHost : _) (Alone : _) (n m : ℕ) (a b : Pumping) (result : Result ⊤ AllocError) → OnLine OnHost Alone m a b result → HasLine n a → HasLine n b
-on_line_line OnHost Alone n m a b result (on_host sessions lines hosts place line later host ends l at still turns t others) (x, is) = by (same_or_apart n m)
+on_line_line OnHost Alone n m a b result (on_line sessions lines hosts line later l t others) (x, is) = by (same_or_apart n m)
   where
     by : (n ≡ m) ⊎ (n ≢ m) → HasLine n (record a { sessions = sessions; lines = lines; hosts = hosts })
     by (inl same) = (later, ap (line_of lines) same ∙ l.after)
     by (inr apart) = (x, l.others n apart ∙ is)
-on_line_line OnHost Alone n m a b result (alone sessions no_host t others) lined = lined
+on_line_line OnHost Alone n m a b result (alone sessions no_line t others) lined = lined
 
 -- ---- a session is removed
 
@@ -209,15 +189,15 @@ removes_keeps : {B G : Type 0} (n m : ℕ) (sid : List ℕ) (a b : Pumping) (res
     → Good B G n a → Good B (G ⊎ (m ≡ n)) n b
 removes_keeps {B} {G} n m sid a b result named (removed directory sessions lines dues reply c none beside nobody others forgotten) g = by (same_or_apart m n)
   where
-    wires : (k : ℕ) (x : Line) → line_of lines k ≡ Some x → (k ≡ m) ⊎ (k ≢ m) → x.wire ≡ wire_of k
-    wires k x there (inl same) = absurd (none_some (line_of lines m) x none (ap (line_of lines) (sym same) ∙ there))
-    wires k x there (inr apart) = g.wires k x (sym (beside k apart) ∙ there)
+    proper : (k : ℕ) (x : Line) → line_of lines k ≡ Some x → (k ≡ m) ⊎ (k ≢ m) → IsProper k (line_facts x)
+    proper k x there (inl same) = absurd (none_some (line_of lines m) x none (ap (line_of lines) (sym same) ∙ there))
+    proper k x there (inr apart) = g.proper k x (sym (beside k apart) ∙ there)
 
     by : (m ≡ n) ⊎ (m ≢ n) → Good B (G ⊎ (m ≡ n)) n (record a { directory = directory; sessions = sessions; lines = lines; dues = dues })
     by (inl same) = record {
       keeps = is_gone (ap (line_of lines) (sym same) ∙ none) (ap (held sessions) (sym same) ∙ nobody)
           (gone_by n sid a.directory.number c.before directory.seen c.made reply (opening_later n sid a.directory.seen c.before c.begins (named same)) c.says c.seen) (inr same);
-      wires = λ k x there. wires k x there (same_or_apart k m);
+      proper = λ k x there. proper k x there (same_or_apart k m);
     }
     by (inr apart) =
         let away : n ≢ m = λ same. apart (sym same) in
@@ -226,7 +206,7 @@ removes_keeps {B} {G} n m sid a b result named (removed directory sessions lines
               (subst (λ l. Keeps B (G ⊎ (m ≡ n)) n (held a.sessions n) l (host_at a.hosts) directory.seen) (sym (beside n away))
               (keeps_later n (held a.sessions n) (line_of a.lines n) (host_at a.hosts) a.directory.seen directory.seen (called_starts _ a.directory directory c)
               (keeps_as n (held a.sessions n) (line_of a.lines n) (host_at a.hosts) a.directory.seen (λ gone why. inl why) g.keeps)));
-          wires = λ k x there. wires k x there (same_or_apart k m);
+          proper = λ k x there. proper k x there (same_or_apart k m);
         }
 removes_keeps n m sid a b result named (removed_not error) g = good_as n a (λ gone why. inl why) g
 removes_keeps n m sid a b result named (refused error asks) g = good_as n b (λ gone why. inl why) (good_directory n a b (λ k l says. called_starts _ k l says) asks g)
@@ -249,7 +229,7 @@ module _ {B G : Type 0} (n m : ℕ) (sid : List ℕ) (a b : Pumping) (finds : Fi
   mid : Good B G n (record a { directory = b.directory })
   mid = record {
     keeps = keeps_later n (held a.sessions n) (line_of a.lines n) (host_at a.hosts) a.directory.seen b.directory.seen finds.learns.begins g.keeps;
-    wires = g.wires;
+    proper = g.proper;
   }
 
   own : m ≡ n → held b.sessions n ≡ Some found_handle → own_entries sid (held b.sessions n) ≡ own_entries sid (held a.sessions n)
@@ -265,7 +245,7 @@ module _ {B G : Type 0} (n m : ℕ) (sid : List ℕ) (a b : Pumping) (finds : Fi
         calls = [];
         made = subst (MadeBy []) (sym (sym (some_mine sid found_handle finds.found.holds.named) ∙ (ap (own_entries sid) (sym at) ∙ (mine ∙ ap (own_entries sid) nobody)))) made_none;
         nothing = refl;
-        unhanded = λ b. refl;
+        unhanded = λ q few b. refl;
       }
 
       by : (o : Option SessionHandle) → held a.sessions n ≡ o → Keeps B G n (held b.sessions n) (line_of a.lines n) (host_at a.hosts) b.directory.seen
@@ -277,18 +257,18 @@ module _ {B G : Type 0} (n m : ℕ) (sid : List ℕ) (a b : Pumping) (finds : Fi
             carries = carries_same (known h.pass) (known found_handle.pass) (sym (some_mine sid found_handle finds.found.holds.named)
                 ∙ (ap (own_entries sid) (sym at) ∙ (mine ∙ (ap (own_entries sid) somebody ∙ some_mine sid h its_name))));
           }) (unmet none held_so nothing)
-  own same at mine (was_met h line is there k) =
+  own same at mine (was_met h line is there named k) =
       let here : IsOpening n sid b.directory.seen = opening_later n sid later b.directory.seen starts (opened same) in
-      let its_name : h.sid ≡ sid = one_name n b.directory.seen h.sid sid k.opened here in
+      let its_name : h.sid ≡ sid = one_name n b.directory.seen h.sid sid named here in
       keeps_follows n (held a.sessions n) (held b.sessions n) (line_of a.lines n) (host_at a.hosts) b.directory.seen h found_handle is at (record {
         sid = finds.found.holds.named ∙ sym its_name;
         carries = carries_same (known h.pass) (known found_handle.pass) (sym (some_mine sid found_handle finds.found.holds.named)
             ∙ (ap (own_entries sid) (sym at) ∙ (mine ∙ (ap (own_entries sid) is ∙ some_mine sid h its_name))));
-      }) (was_met h line is there k)
+      }) (was_met h line is there named k)
   own same at mine (is_gone none nobody gone why) = absurd (not_gone same why)
 
   pub finds_keeps : Good B G n b
-  finds_keeps = subst (Good B G n) (sym finds.same) (record { keeps = by (same_or_apart m n); wires = g.wires })
+  finds_keeps = subst (Good B G n) (sym finds.same) (record { keeps = by (same_or_apart m n); proper = g.proper })
     where
       by : (m ≡ n) ⊎ (m ≢ n) → Keeps B G n (held b.sessions n) (line_of a.lines n) (host_at a.hosts) b.directory.seen
       by (inl same) =
@@ -327,24 +307,24 @@ removes_ended_keeps {B} {G} moment n m sid a c result named lined (has_ended {b 
     passes : (d : Pumping) (r : Result ⊤ AllocError) → OnLine (PassesAll moment) TakesAll m b d r → Good B G n d
     passes d r step =
         on_line_keeps n moment (PassesAll moment) (λ P kept s t r says p. passes_all_keep moment P kept s t r says p) m b d TakesAll r
-        (λ sessions no_host t others good. alone_keeps n m b (λ k l. TakesAll k l r) (λ k l says. makes_all k l r says) line_there sessions no_host t others good) step asked
+        (λ sessions no_line t others good. alone_keeps n m b (λ k l. TakesAll k l r) line_there sessions no_line t others good) step asked
 
-    closes : (d e : Pumping) (r : Result ⊤ AllocError) → OnLine ClosesWire (λ k l done. (l ≡ k) × (done ≡ Ok tt)) m d e r → Good B G n d → Good B G n e
+    closes : (d e : Pumping) (r : Result ⊤ AllocError) → OnLine ClosesWires (λ k l done. (l ≡ k) × (done ≡ Ok tt)) m d e r → Good B G n d → Good B G n e
     closes d e r step good =
-        on_line_keeps n moment ClosesWire (λ P kept s t r says p. closes_keep moment P kept s t r says p) m d e (λ k l done. (l ≡ k) × (done ≡ Ok tt)) r
-        (λ sessions no_host t others good. still_keeps n m d r sessions no_host t others good) step good
+        on_line_keeps n moment ClosesWires (λ P kept s t r says p. closes_keep moment P kept s t r says p) m d e (λ k l done. (l ≡ k) × (done ≡ Ok tt)) r
+        (λ sessions no_line t others good. still_keeps n m d r sessions no_line t others good) step good
 
     named_at : (d e : Pumping) → StartsWith d.directory.seen b.directory.seen → StartsWith e.directory.seen d.directory.seen → m ≡ n → IsOpening n sid e.directory.seen
     named_at d e first second same =
         opening_later n sid a.directory.seen e.directory.seen (starts_then a.directory.seen b.directory.seen e.directory.seen (session_starts m a b asks)
         (starts_then b.directory.seen d.directory.seen e.directory.seen first second)) (named same)
 
-    by : (r : Result ⊤ AllocError) → Then (OnLine (PassesAll moment) TakesAll m) (Then (OnLine ClosesWire (λ k l done. (l ≡ k) × (done ≡ Ok tt)) m) (Removes m sid)) b c r → Good B (G ⊎ (m ≡ n)) n c
+    by : (r : Result ⊤ AllocError) → Then (OnLine (PassesAll moment) TakesAll m) (Then (OnLine ClosesWires (λ k l done. (l ≡ k) × (done ≡ Ok tt)) m) (Removes m sid)) b c r → Good B (G ⊎ (m ≡ n)) n c
     by r (stopped error other first) = good_as n c (λ gone why. inl why) (passes c (Err error) first)
     by r (went_on {b = d} first (stopped error other second)) = good_as n c (λ gone why. inl why) (closes d c (Err error) second (passes d (Ok tt) first))
     by r (went_on {b = d} first (went_on {b = e} second third)) =
         removes_keeps n m sid e c r
-        (named_at d e (on_line_starts (PassesAll moment) TakesAll m b d (Ok tt) first) (on_line_starts ClosesWire (λ k l done. (l ≡ k) × (done ≡ Ok tt)) m d e (Ok tt) second))
+        (named_at d e (on_line_starts (PassesAll moment) TakesAll m b d (Ok tt) first) (on_line_starts ClosesWires (λ k l done. (l ≡ k) × (done ≡ Ok tt)) m d e (Ok tt) second))
         third (closes d e (Ok tt) second (passes d (Ok tt) first))
 
 removes_ended_starts : (moment : Option ℕ) (m : ℕ) (sid : List ℕ) (a b : Pumping) (result : Result ⊤ AllocError) → RemovesEnded moment m sid a b result → StartsWith b.directory.seen a.directory.seen
@@ -352,14 +332,14 @@ removes_ended_starts moment m sid a c result (goes_on {b = b} state asks on note
     starts_then a.directory.seen b.directory.seen c.directory.seen (session_starts m a b asks) (notes_start m state.due b c result notes)
 removes_ended_starts moment m sid a c result (has_ended {b = b} state asks over then_) = starts_then a.directory.seen b.directory.seen c.directory.seen (session_starts m a b asks) (by result then_)
   where
-    by : (r : Result ⊤ AllocError) → Then (OnLine (PassesAll moment) TakesAll m) (Then (OnLine ClosesWire (λ k l done. (l ≡ k) × (done ≡ Ok tt)) m) (Removes m sid)) b c r → StartsWith c.directory.seen b.directory.seen
+    by : (r : Result ⊤ AllocError) → Then (OnLine (PassesAll moment) TakesAll m) (Then (OnLine ClosesWires (λ k l done. (l ≡ k) × (done ≡ Ok tt)) m) (Removes m sid)) b c r → StartsWith c.directory.seen b.directory.seen
     by r (stopped error other first) = on_line_starts (PassesAll moment) TakesAll m b c (Err error) first
     by r (went_on {b = d} first (stopped error other second)) =
         starts_then b.directory.seen d.directory.seen c.directory.seen (on_line_starts (PassesAll moment) TakesAll m b d (Ok tt) first)
-        (on_line_starts ClosesWire (λ k l done. (l ≡ k) × (done ≡ Ok tt)) m d c (Err error) second)
+        (on_line_starts ClosesWires (λ k l done. (l ≡ k) × (done ≡ Ok tt)) m d c (Err error) second)
     by r (went_on {b = d} first (went_on {b = e} second third)) =
         starts_then b.directory.seen d.directory.seen c.directory.seen (on_line_starts (PassesAll moment) TakesAll m b d (Ok tt) first)
-        (starts_then d.directory.seen e.directory.seen c.directory.seen (on_line_starts ClosesWire (λ k l done. (l ≡ k) × (done ≡ Ok tt)) m d e (Ok tt) second) (removes_starts m sid e c r third))
+        (starts_then d.directory.seen e.directory.seen c.directory.seen (on_line_starts ClosesWires (λ k l done. (l ≡ k) × (done ≡ Ok tt)) m d e (Ok tt) second) (removes_starts m sid e c r third))
 
 -- ---- a session is left alone
 
@@ -384,7 +364,7 @@ serves_held_keeps {B} {G} moment n m sid a f result small named then_ g = by res
     serves : (b c : Pumping) (r : Result ⊤ AllocError) → (m ≡ n → HasLine n b) → OnLine (Serves moment) (ServesAlone moment) m b c r → Good B G n b → Good B G n c
     serves b c r line_there step good =
         on_line_keeps n moment (Serves moment) (λ P kept s t r says p. serves_keep moment P kept s t r says p) m b c (ServesAlone moment) r
-        (λ sessions no_host t others good. alone_keeps n m b (λ k l. ServesAlone moment k l r) (λ k l says. makes_alone moment k l r says) line_there sessions no_host t others good) step good
+        (λ sessions no_line t others good. alone_keeps n m b (λ k l. ServesAlone moment k l r) line_there sessions no_line t others good) step good
 
     -- what was met is asked, and keeps its line
     asked : (b d : Pumping) (state : State) → Meets m a b (Ok tt) → AnswersState state m b d → Good B G n d
@@ -464,7 +444,7 @@ pub tells_one_keeps : {B G : Type 0} (moment : Option ℕ) (n : ℕ) (session : 
 tells_one_keeps moment n session a b result (not_held nobody) g = g
 tells_one_keeps moment n session a b result (told_where_cut step) g =
     on_line_keeps n moment (TellsCut moment) (λ P kept s t r says p. tells_keep moment P kept s t r says p) session.number a b (λ k l done. (l ≡ k) × (done ≡ Ok tt)) result
-    (λ sessions no_host t others good. still_keeps n session.number a result sessions no_host t others good) step g
+    (λ sessions no_line t others good. still_keeps n session.number a result sessions no_line t others good) step g
 
 pub tells_one_starts : (moment : Option ℕ) (session : LiveSession) (a b : Pumping) (result : Result ⊤ AllocError) → TellsOne moment session a b result → StartsWith b.directory.seen a.directory.seen
 tells_one_starts moment session a b result (not_held nobody) = starts_same a.directory.seen

@@ -12,19 +12,16 @@ use Rattle.session_table.specs.declared.entry.Entry.{Entry}
 use Rattle.session_table.specs.declared.handle.SessionHandle.{SessionHandle}
 use Rattle.session_table.specs.Purses.{OthersStay, Sessions, Turned, held}
 use Rattle.session_pump.specs.Dues.{Dues}
-use Rattle.session_pump.specs.Ends.{Ends}
-use Rattle.session_pump.specs.Pumping.{AsksDirectory, AsksSession, HasNoHost, HostFacts, HostTurns, LineTurns, Lines, OnLine, Pumping, alone, line_of, on_host, side}
-use Rattle.session_pump.specs.Sides.{Side}
+use Rattle.session_pump.specs.Hosts.{HostFacts}
+use Rattle.session_pump.specs.Pumping.{AsksDirectory, AsksSession, HasNoLine, LineTurns, Lines, OnLine, Pumping, alone, line_of, on_line}
+use Rattle.session_pump.specs.Sides.{Served, line_facts, served}
 use Rattle.session_pump.specs.declared.line.Line.{Line}
-use Rattle.pump_laws.specs.CallsMade.{handed, taken}
-use Rattle.pump_laws.specs.Handing.{GaveOf, IsIdle, told_in_turn}
-use Rattle.pump_laws.specs.InTurn.{Every}
-use Rattle.pump_laws.specs.Passing.{CanFail, PassedOf}
-use Rattle.pump_laws.proofs.BenchLemmas.{no_drift}
+use Rattle.bosh_types.specs.Limits.{most_streams}
 use Rattle.pump_laws.proofs.CallLemmas.{Carries}
-use Rattle.pump_laws.proofs.KeepsLemmas.{Good, HostTurn, Keeps, Leaves, LineKeeps, NoneAt, host_at, host_turned, is_gone, keeps_as, keeps_drifts, keeps_later, keeps_turned, none_some, same_of, same_or_apart, unmet, was_met}
+use Rattle.pump_laws.proofs.KeepsLemmas.{AllLeave, Good, IsProper, Keeps, LineKeeps, all_same, host_at, is_gone, keeps_as, keeps_later, keeps_left, keeps_turned, none_some, same_of, same_or_apart, unmet, was_met}
 use Rattle.pump_laws.proofs.NumberLemmas.{IsGone, IsOpening}
-use Rattle.pump_laws.proofs.SideLemmas.{IsKept, OtherKeeps, SideKeeps, other_is_kept, own_is_kept, wire_of}
+use Rattle.pump_laws.proofs.SessionLemmas.{IsKept, Other, Own, other_is_kept, own_is_kept}
+use Rattle.pump_laws.proofs.SideLemmas.{wire_of, wires_apart}
 
 -- ---- histories
 
@@ -51,14 +48,14 @@ session_starts m a b asks = subst (λ k. StartsWith k.seen a.directory.seen) (sy
 -- ---- the directory and a session are asked
 
 pub good_as : {B G H : Type 0} (n : ℕ) (a : Pumping) → (IsGone n a.directory.seen → G → H) → Good B G n a → Good B H n a
-good_as n a so g = record { keeps = keeps_as n (held a.sessions n) (line_of a.lines n) (host_at a.hosts) a.directory.seen so g.keeps; wires = g.wires }
+good_as n a so g = record { keeps = keeps_as n (held a.sessions n) (line_of a.lines n) (host_at a.hosts) a.directory.seen so g.keeps; proper = g.proper }
 
 pub good_directory : {B G : Type 0} {Says : Known Entry → Known Entry → Type 0} (n : ℕ) (a b : Pumping) → ((k l : Known Entry) → Says k l → StartsWith l.seen k.seen)
     → AsksDirectory Says a b → Good B G n a → Good B G n b
 good_directory {B} {G} n a b starts d g = subst (Good B G n) (sym d.same) (record {
   keeps = subst (λ o. Keeps B G n o (line_of a.lines n) (host_at a.hosts) b.directory.seen) (sym (ap (lookup (is_at (nat_cmp n))) d.sessions))
       (keeps_later n (held a.sessions n) (line_of a.lines n) (host_at a.hosts) a.directory.seen b.directory.seen (starts a.directory b.directory d.learns) g.keeps);
-  wires = g.wires;
+  proper = g.proper;
 })
 
 pub good_sessions : {B G : Type 0} (n m : ℕ) (a : Pumping) (sessions : Sessions) (Says : Known journal.Entry → Known journal.Entry → Type 0)
@@ -66,12 +63,12 @@ pub good_sessions : {B G : Type 0} (n m : ℕ) (a : Pumping) (sessions : Session
     → Good B G n (record a { sessions = sessions })
 good_sessions n m a sessions Says carries t others g = record {
   keeps = keeps_turned n m a.sessions sessions Says carries t others (line_of a.lines n) (host_at a.hosts) a.directory.seen g.keeps;
-  wires = g.wires;
+  proper = g.proper;
 }
 
 -- whatever is noted of when sessions are due
 pub good_noted : {B G : Type 0} (n : ℕ) (a : Pumping) (dues : Dues) → Good B G n a → Good B G n (record a { dues = dues })
-good_noted n a dues g = record { keeps = g.keeps; wires = g.wires }
+good_noted n a dues g = record { keeps = g.keeps; proper = g.proper }
 
 pub good_session : {B G : Type 0} {Says : Known journal.Entry → Known journal.Entry → Type 0} (n m : ℕ) (a b : Pumping)
     → ((k l : Known journal.Entry) → Says k l → Carries k l) → AsksSession Says m a b → Good B G n a → Good B G n b
@@ -84,110 +81,66 @@ good_session {B} {G} {Says} n m a b carries asks g =
 abbrev pub HasLine : ℕ → Pumping → Type 0
 HasLine n a = (line : Line) × (line_of a.lines n ≡ Some line)
 
+-- what is kept of a session that has a line and is held
+pub record IsMet (B : Type 0) (n : ℕ) (a : Pumping) (line : Line) (h : SessionHandle) : Type 0 where
+  pub opened : IsOpening n h.sid a.directory.seen
+  pub keeps : LineKeeps B n (host_at a.hosts) (line_facts line) (known h.pass).mine
+
 pub met_line : {B G : Type 0} (n : ℕ) (a : Pumping) (line : Line) (h : SessionHandle) → line_of a.lines n ≡ Some line → held a.sessions n ≡ Some h
-    → Keeps B G n (held a.sessions n) (line_of a.lines n) (host_at a.hosts) a.directory.seen → LineKeeps B n (host_at a.hosts) a.directory.seen line h
+    → Keeps B G n (held a.sessions n) (line_of a.lines n) (host_at a.hosts) a.directory.seen → IsMet B n a line h
 met_line {B} n a line h is at (unmet none held_so nothing) = absurd (none_some (line_of a.lines n) line none is)
-met_line {B} n a line h is at (was_met i other at' is' k) =
-    subst (λ x. LineKeeps B n (host_at a.hosts) a.directory.seen x h) (same_of (line_of a.lines n) other line is' is)
-    (subst (λ x. LineKeeps B n (host_at a.hosts) a.directory.seen other x) (same_of (held a.sessions n) i h at' at) k)
+met_line {B} n a line h is at (was_met i other at' is' opened k) =
+    subst (λ (x : Line). IsMet B n a x h) (same_of (line_of a.lines n) other line is' is)
+    (subst (λ (x : SessionHandle). IsMet B n a other x) (same_of (held a.sessions n) i h at' at) (record { opened = opened; keeps = k }))
 met_line {B} n a line h is at (is_gone none nobody gone why) = absurd (none_some (line_of a.lines n) line none is)
 
-module _ {B G : Type 0} (n : ℕ) (moment : Option ℕ) (OnHost : Side → Side → Result ⊤ AllocError → Type 0)
-    (preserves : (P : Side → Type 0) → IsKept moment P → (s t : Side) (result : Result ⊤ AllocError) → OnHost s t result → P s → P t) where
-  module _ (a : Pumping) (sessions : Sessions) (lines : Lines) (hosts : List HostFacts) (place : ℕ) (line later : Line) (host : HostFacts) (ends : Ends)
-      (result : Result ⊤ AllocError) (at : line.host ≡ Some place) (still : later.host ≡ Some place)
-      (turns : HostTurns place a.hosts hosts host (record host { ends = ends })) (g : Good B G n a) where
-    turn : HostTurn place host (record host { ends = ends }) (host_at a.hosts) (host_at hosts)
-    turn = host_turned place a.hosts hosts host (record host { ends = ends }) turns
+module _ {B G : Type 0} (n : ℕ) (moment : Option ℕ) (OnHosts : Served → Served → Result ⊤ AllocError → Type 0)
+    (preserves : (P : Served → Type 0) → IsKept moment P → (s t : Served) (result : Result ⊤ AllocError) → OnHosts s t result → P s → P t) where
+  module _ (a : Pumping) (sessions : Sessions) (lines : Lines) (hosts : List HostFacts) (line later : Line) (result : Result ⊤ AllocError) (g : Good B G n a) where
+    -- the lines of others are as before
+    lines_proper : (m : ℕ) → LineTurns m a.lines lines line later → IsProper m (line_facts later) → (k : ℕ) (x : Line) → line_of lines k ≡ Some x → (k ≡ m) ⊎ (k ≢ m) → IsProper k (line_facts x)
+    lines_proper m l p k x is (inl same) =
+        subst (λ (j : ℕ). IsProper j (line_facts x)) (sym same)
+        (subst (λ (y : Line). IsProper m (line_facts y)) (same_of (line_of lines m) later x l.after (ap (line_of lines) (sym same) ∙ is)) p)
+    lines_proper m l p k x is (inr apart) = g.proper k x (sym (l.others k apart) ∙ is)
 
-    own_line : LineTurns n a.lines lines line later → (t : Turned n a.sessions sessions (λ old new. OnHost (side old line host.ends) (side new later ends) result))
+    own_line : LineTurns n a.lines lines line later → Turned n a.sessions sessions (λ old new. OnHosts (served old line a.hosts) (served new later hosts) result)
         → Good B G n (record a { sessions = sessions; lines = lines; hosts = hosts })
     own_line l t =
-        let k : LineKeeps B n (host_at a.hosts) a.directory.seen line t.before = met_line n a line t.before l.before t.was g.keeps in
-        let start : SideKeeps B n host.kept (side (known t.before.pass) line host.ends) = record {
-          calls = k.calls;
-          made = k.made;
-          passed = λ few. k.here place host turn.was at few;
-          on = g.wires n line l.before;
-          gives = λ b. k.gives place host turn.was at b;
-        } in
-        let end : SideKeeps B n host.kept (side (known t.after.pass) later ends) =
-        preserves (SideKeeps B n host.kept) (own_is_kept moment B n host.kept) (side (known t.before.pass) line host.ends) (side (known t.after.pass) later ends) result t.says start in
+        let m : IsMet B n a line t.before = met_line n a line t.before l.before t.was g.keeps in
+        let end : Own B n (served (known t.after.pass) later hosts) =
+        preserves (Own B n) (own_is_kept moment B n) (served (known t.before.pass) line a.hosts) (served (known t.after.pass) later hosts) result t.says
+        (record { proper = g.proper n line l.before; keeps = m.keeps }) in
         record {
-          keeps = was_met t.after later t.is l.after (record {
-            opened = subst (λ sid. IsOpening n sid a.directory.seen) (sym t.of_same.sid) k.opened;
-            calls = end.calls;
-            made = end.made;
-            here = λ q x is away few. here_at end q x is away few;
-            elsewhere = λ q x is away. elsewhere_at k q x is away;
-            gives = λ q x is away b. gives_at end q x is away b;
-          });
-          wires = λ m x is. wire_at end m x is (same_or_apart m n);
+          keeps = was_met t.after later t.is l.after (subst (λ sid. IsOpening n sid a.directory.seen) (sym t.of_same.sid) m.opened) end.keeps;
+          proper = λ k x is. lines_proper n l end.proper k x is (same_or_apart k n);
         }
-      where
-        its : (q : ℕ) (x : HostFacts) → host_at hosts q ≡ Some x → later.host ≡ Some q → record host { ends = ends } ≡ x
-        its q x is away =
-            let it : place ≡ q = same_of later.host place q still away in
-            same_of (host_at hosts place) (record host { ends = ends }) x turn.is (ap (host_at hosts) it ∙ is)
 
-        here_at : (end : SideKeeps B n host.kept (side (known t.after.pass) later ends)) → (q : ℕ) (x : HostFacts) → host_at hosts q ≡ Some x → later.host ≡ Some q → CanFail x.ends
-            → PassedOf (wire_of n) (taken end.calls) later.stage later.kept x.ends
-        here_at end q x is away few =
-            let same : record host { ends = ends } ≡ x = its q x is away in
-            subst (λ (y : HostFacts). PassedOf (wire_of n) (taken end.calls) later.stage later.kept y.ends) same (end.passed (subst (λ (y : HostFacts). CanFail y.ends) (sym same) few))
-
-        gives_at : (end : SideKeeps B n host.kept (side (known t.after.pass) later ends)) → (q : ℕ) (x : HostFacts) → host_at hosts q ≡ Some x → later.host ≡ Some q → B
-            → GaveOf n (handed end.calls) later.stage later.owed x.kept (told_in_turn n x.ends)
-        gives_at end q x is away b =
-            subst (λ (y : HostFacts). GaveOf n (handed end.calls) later.stage later.owed y.kept (told_in_turn n y.ends)) (its q x is away) (end.gives b)
-
-        elsewhere_at : LineKeeps B n (host_at a.hosts) a.directory.seen line t.before → (q : ℕ) (x : HostFacts) → host_at hosts q ≡ Some x → later.host ≢ Some q → NoneAt B n x
-        elsewhere_at k q x is away =
-            let apart : q ≢ place = λ same. away (still ∙ ap Some (sym same)) in
-            k.elsewhere q x (sym (turn.others q apart) ∙ is) (λ same. apart (same_of line.host q place same at))
-
-        wire_at : SideKeeps B n host.kept (side (known t.after.pass) later ends) → (m : ℕ) (x : Line) → line_of lines m ≡ Some x → (m ≡ n) ⊎ (m ≢ n) → x.wire ≡ wire_of m
-        wire_at end m x is (inl same) =
-            ap (λ (y : Line). y.wire) (same_of (line_of lines n) x later (ap (line_of lines) (sym same) ∙ is) l.after) ∙ (end.on ∙ ap wire_of (sym same))
-        wire_at end m x is (inr apart) = g.wires m x (sym (l.others m apart) ∙ is)
-
-    other_line : (m : ℕ) → m ≢ n → LineTurns m a.lines lines line later → (t : Turned m a.sessions sessions (λ old new. OnHost (side old line host.ends) (side new later ends) result))
+    other_line : (m : ℕ) → m ≢ n → LineTurns m a.lines lines line later → Turned m a.sessions sessions (λ old new. OnHosts (served old line a.hosts) (served new later hosts) result)
         → OthersStay m a.sessions sessions → Good B G n (record a { sessions = sessions; lines = lines; hosts = hosts })
     other_line m apart l t others =
-        let start : OtherKeeps n m host.ends (side (known t.before.pass) line host.ends) = record { on = g.wires m line l.before; drifts = no_drift; told = refl } in
-        let end : OtherKeeps n m host.ends (side (known t.after.pass) later ends) =
-        preserves (OtherKeeps n m host.ends) (other_is_kept moment n m host.ends apart)
-        (side (known t.before.pass) line host.ends) (side (known t.after.pass) later ends) result t.says start in
+        let end : Other B n m a.hosts (served (known t.after.pass) later hosts) =
+        preserves (Other B n m a.hosts) (other_is_kept moment B n m a.hosts (λ q r small also. wires_apart n m q r small also apart))
+        (served (known t.before.pass) line a.hosts) (served (known t.after.pass) later hosts) result t.says
+        (record { proper = g.proper m line l.before; leaves = λ q small. all_same B (wire_of n q) (host_at a.hosts) }) in
         let away : n ≢ m = λ same. apart (sym same) in
         record {
           keeps = subst (λ o. Keeps B G n o (line_of lines n) (host_at hosts) a.directory.seen) (sym (others n away))
               (subst (λ x. Keeps B G n (held a.sessions n) x (host_at hosts) a.directory.seen) (sym (l.others n away))
-              (keeps_drifts n (held a.sessions n) (line_of a.lines n) (host_at a.hosts) (host_at hosts) a.directory.seen place host (record host { ends = ends }) turn (leaves end) g.keeps));
-          wires = λ k x is. wire_at end k x is (same_or_apart k m);
+              (keeps_left n (held a.sessions n) (line_of a.lines n) (host_at a.hosts) (host_at hosts) a.directory.seen (λ x is. g.proper n x is) end.leaves g.keeps));
+          proper = λ k x is. lines_proper m l end.proper k x is (same_or_apart k m);
         }
-      where
-        leaves : OtherKeeps n m host.ends (side (known t.after.pass) later ends) → Leaves B n host (record host { ends = ends })
-        leaves end = record {
-          drifts = end.drifts;
-          idle = λ b idle. record { idle = subst (Every IsIdle) (sym end.told) idle.idle; none = idle.none };
-          gives = λ all stage owed b gave. subst (GaveOf n all stage owed host.kept) (sym end.told) gave;
-        }
-
-        wire_at : OtherKeeps n m host.ends (side (known t.after.pass) later ends) → (k : ℕ) (x : Line) → line_of lines k ≡ Some x → (k ≡ m) ⊎ (k ≢ m) → x.wire ≡ wire_of k
-        wire_at end k x is (inl same) =
-            ap (λ (y : Line). y.wire) (same_of (line_of lines m) x later (ap (line_of lines) (sym same) ∙ is) l.after) ∙ (end.on ∙ ap wire_of (sym same))
-        wire_at end k x is (inr away) = g.wires k x (sym (l.others k away) ∙ is)
 
   pub on_line_keeps : (m : ℕ) (a b : Pumping) (Alone : Known journal.Entry → Known journal.Entry → Result ⊤ AllocError → Type 0) (result : Result ⊤ AllocError)
-      → ((sessions : Sessions) → HasNoHost a m → Turned m a.sessions sessions (λ old new. Alone old new result) → OthersStay m a.sessions sessions → Good B G n a
+      → ((sessions : Sessions) → HasNoLine a m → Turned m a.sessions sessions (λ old new. Alone old new result) → OthersStay m a.sessions sessions → Good B G n a
       → Good B G n (record a { sessions = sessions }))
-      → OnLine OnHost Alone m a b result → Good B G n a → Good B G n b
-  on_line_keeps m a b Alone result by_itself (on_host sessions lines hosts place line later host ends l at still turns t others) g = by (same_or_apart m n)
+      → OnLine OnHosts Alone m a b result → Good B G n a → Good B G n b
+  on_line_keeps m a b Alone result by_itself (on_line sessions lines hosts line later l t others) g = by (same_or_apart m n)
     where
       by : (m ≡ n) ⊎ (m ≢ n) → Good B G n (record a { sessions = sessions; lines = lines; hosts = hosts })
       by (inl same) =
-          own_line a sessions lines hosts place line later host ends result at still turns g
+          own_line a sessions lines hosts line later result g
           (subst (λ k. LineTurns k a.lines lines line later) same l)
-          (subst (λ k. Turned k a.sessions sessions (λ old new. OnHost (side old line host.ends) (side new later ends) result)) same t)
-      by (inr apart) = other_line a sessions lines hosts place line later host ends result at still turns g m apart l t others
-  on_line_keeps m a b Alone result by_itself (alone sessions no_host t others) g = by_itself sessions no_host t others g
+          (subst (λ k. Turned k a.sessions sessions (λ old new. OnHosts (served old line a.hosts) (served new later hosts) result)) same t)
+      by (inr apart) = other_line a sessions lines hosts line later result g m apart l t others
+  on_line_keeps m a b Alone result by_itself (alone sessions no_line t others) g = by_itself sessions no_line t others g

@@ -1,5 +1,5 @@
--- What the back ends of a host gave for a session, and what became of it.
-use Rattle.std.specs.Prelude.{◌≡◌, ◌≢◌, ◌/◌, ◌==◌, ℕ, List, [], ◌∷◌, ◌++◌, map, filter, Option, Some, None, IfSome, if◌then◌else◌, option_map, option_to_list}
+-- What the back ends of a host gave on the wire of a stream, and what became of it.
+use Rattle.std.specs.Prelude.{◌≡◌, ◌≢◌, ◌==◌, ◌&&◌, ◌/◌, ◌%◌, ℕ, Bool, false, List, [], ◌∷◌, ◌++◌, map, filter, Option, Some, None, IfSome, if◌then◌else◌, option_map, option_to_list}
 use Rattle.std.specs.List.{filter_map}
 use Rattle.bosh_types.specs.Limits.{most_streams}
 use Rattle.xmpp_backend.specs.Told.{Told, wires_of}
@@ -15,29 +15,29 @@ abbrev pub stanza_in : Given → Option (List ℕ)
 stanza_in (given.Stanza text) = Some text
 stanza_in (given.Closed closing) = None
 
--- the stanza that was given on this wire, where that is one of the session of this number
+-- the stanza that was given on this wire
 abbrev pub stanza_for : ℕ → ℕ × Given → Option (List ℕ)
-stanza_for number entry = if entry.0 / most_streams == number then stanza_in entry.1 else None
+stanza_for wire entry = if entry.0 == wire then stanza_in entry.1 else None
 
--- what a back end tells of a session: which of its wires were opened there, and the stanzas that polls gave on them, in order
+-- what a back end tells of a wire: how often it was opened there, and the stanzas that polls gave on it, in order
 pub record ToldFor : Type 0 where
   pub opened : List ℕ
   pub stanzas : List (List ℕ)
 
 abbrev pub told_by : ℕ → Told → ToldFor
-told_by number told = record {
-  opened = filter (λ wire. wire / most_streams == number) (wires_of told.opened);
-  stanzas = filter_map (stanza_for number) told.given;
+told_by wire told = record {
+  opened = filter (λ other. other == wire) (wires_of told.opened);
+  stanzas = filter_map (stanza_for wire) told.given;
 }
 
 abbrev pub told_for : ℕ → End → Option ToldFor
-told_for number end = option_map (told_by number) end.told
+told_for wire end = option_map (told_by wire) end.told
 
 -- and what each of a host's tells
 abbrev pub told_in_turn : ℕ → Ends → List (Option ToldFor)
-told_in_turn number ends = map (told_for number) (in_turn ends)
+told_in_turn wire ends = map (told_for wire) (in_turn ends)
 
--- none of its wires was opened there, and no stanza was given
+-- it wasn't opened there, and no stanza was given
 abbrev pub IsIdle : Option ToldFor → Type 0
 IsIdle told = told ≡ Some (record { opened = []; stanzas = [] })
 
@@ -46,14 +46,18 @@ abbrev pub stanzas_owed : Option Owing → List (List ℕ)
 stanzas_owed None = []
 stanzas_owed (Some owing) = option_to_list (stanza_in owing.given)
 
--- the stanza that is kept for this session
-abbrev pub stanzas_kept : ℕ → Option Owing → List (List ℕ)
-stanzas_kept number None = []
-stanzas_kept number (Some owing) = if owing.number == number then option_to_list (stanza_in owing.given) else []
+-- it is for the session and the stream of this wire
+abbrev pub is_of : ℕ → Owing → Bool
+is_of wire owing = (owing.number == wire / most_streams) && (owing.stream == wire % most_streams)
 
--- nothing is kept for it
+-- the stanza that is kept for them
+abbrev pub stanzas_kept : ℕ → Option Owing → List (List ℕ)
+stanzas_kept wire None = []
+stanzas_kept wire (Some owing) = if is_of wire owing then option_to_list (stanza_in owing.given) else []
+
+-- nothing is kept for them
 abbrev pub KeepsNone : ℕ → Option Owing → Type 0
-KeepsNone number kept = IfSome kept (λ owing. owing.number ≢ number)
+KeepsNone wire kept = IfSome kept (λ owing. is_of wire owing ≡ false)
 
 -- one back end gave what is said, and each other nothing
 pub record OneGave (Says : List (List ℕ) → Type 0) (told : List (Option ToldFor)) : Type 0 where
@@ -65,10 +69,10 @@ pub record OneGave (Says : List (List ℕ) → Type 0) (told : List (Option Told
   pub idle_later : Every IsIdle later
   pub says : IfSome one (λ told. Says told.stanzas)
 
--- What the back ends of a session's host gave for it, by the stanzas that were given to the session, what its line owes, and what the host keeps: nothing
--- before its wire was opened; and then one of them gave the stanzas that were given to the session, the one that its line owes, and the one
--- that the host keeps for it, in this order
-pub data GaveOf (number : ℕ) (all : List (List ℕ)) (stage : Stage) (owed kept : Option Owing) (told : List (Option ToldFor)) : Type 0 where
-  gave_nothing : stage ≡ stages.Unopened → Every IsIdle told → all ≡ [] → owed ≡ None → KeepsNone number kept → GaveOf number all stage owed kept told
-  gave_these : stage ≢ stages.Unopened → OneGave (λ stanzas. stanzas ≡ all ++ (stanzas_owed owed ++ stanzas_kept number kept)) told
-      → GaveOf number all stage owed kept told
+-- What the back ends of a stream's host gave on its wire, by the stanzas that were given to the session on that stream, what its side owes, and what the
+-- host keeps: nothing before its wire was opened; and then one of them gave the stanzas that were given to the session on it, the one that its side owes,
+-- and the one that the host keeps for it, in this order
+pub data GaveOf (wire : ℕ) (all : List (List ℕ)) (stage : Stage) (owed kept : Option Owing) (told : List (Option ToldFor)) : Type 0 where
+  gave_nothing : stage ≡ stages.Unopened → Every IsIdle told → all ≡ [] → owed ≡ None → KeepsNone wire kept → GaveOf wire all stage owed kept told
+  gave_these : stage ≢ stages.Unopened → OneGave (λ stanzas. stanzas ≡ all ++ (stanzas_owed owed ++ stanzas_kept wire kept)) told
+      → GaveOf wire all stage owed kept told

@@ -3,7 +3,7 @@ use Rattle.std.specs.Prelude.{◌≡◌, ℕ, List, [], ◌∷◌, ◌++◌, map
 use Rattle.bosh_types.specs.declared.inward.Inward.{Inward}
 use Rattle.xmpp_backend.specs.Told.{Told, on_wire}
 use Rattle.session_pump.specs.Ends.{End, Ends}
-use Rattle.session_pump.specs.Pumping.{HostFacts}
+use Rattle.session_pump.specs.Hosts.{HostFacts}
 
 -- it is true of each of these
 abbrev pub Every : {A : Type 0} → (A → Type 0) → List A → Type 0

@@ -3,7 +3,8 @@ use Rattle.std.specs.Prelude.{◌≡◌, [], ◌∷◌, None, IfSome, IsSome}
 use Rattle.std.specs.BTreeMap.{IsEmpty}
 use Rattle.xmpp_backend.specs.Told.{Told}
 use Rattle.session_pump.specs.Ends.{End}
-use Rattle.session_pump.specs.Pumping.{HostFacts, Pumping}
+use Rattle.session_pump.specs.Hosts.{HostFacts}
+use Rattle.session_pump.specs.Pumping.{Pumping}
 use Rattle.pump_laws.specs.InTurn.{Every}
 
 -- a back end that was called by nobody yet

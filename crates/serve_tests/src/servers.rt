@@ -2,3 +2,4 @@ mod ends;
 mod ports;
 mod rows;
 mod same;
+mod streams;

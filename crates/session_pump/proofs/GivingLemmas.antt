@@ -1,7 +1,9 @@
 -- What becomes of what is given to a session, and moves with it.
-use Rattle.std.proofs.Common.{◌≡◌, ◌≢◌, ◌/◌, ◌+◌, ℕ, List, length, Option, Some, None, Result, Ok, Err, refl, sym, subst, ap, ◌∙◌, false, true≢false}
+use Rattle.std.proofs.Common.{◌≡◌, ◌≢◌, ◌/◌, ◌+◌, ◌<◌, ℕ, zero, suc, Bool, List, [], ◌∷◌, length, Option, Some, None, Result, Ok, Err, refl, sym, subst, ap, ◌∙◌, false, true≢false}
 use Rattle.std.specs.Bool.{⊤}
-use Rattle.std.specs.Prelude.{IfSome, is_some, ◌||◌, true}
+use Rattle.std.specs.Prelude.{IfSome, is_some, not, ◌||◌, ◌&&◌, ◌==◌, ◌%◌, true, slice_get}
+use Rattle.std.specs.List.{list_any}
+use Rattle.std.proofs.lemmas.Option.{none-some, same_Some}
 use Rattle.std.specs.Result.{IsErr}
 use Rattle.std.specs.declared.alloc.AllocError.{AllocError}
 use Rattle.bosh_types.specs.declared.ending.Closing.{Closing}
@@ -26,10 +28,11 @@ use Rattle.xmpp_backend.specs.declared.backend.Given.{Given}
 use Rattle.xmpp_backend.specs.declared.backend.Given.TheVariants as given
 use Rattle.session_pump.specs.Ends.{Changes, Ends, GivesOn, HasFailed, Shifts, answering, idling}
 use Rattle.session_pump.specs.Taking.{FindsNoRoom, Gives, HasRoom, IsAsked, IsReady, LacksRoom, OnceReady, Refuses, Takes, Tried, called, finds_room, has_room, is_full, lacks_room}
-use Rattle.session_pump.specs.Giving.{ComesFirst, GiveMoves, GivesOnce, GivesTimes, HadNoRoom, HostSide, PollGave, PollsHost, RunsDry, again, asks, does_nothing, fails, finds_nothing, gives, had_no_room, had_nothing, had_one_before, has_failed, is_held, is_refused, lets_go, more, most_polls, moves, never, none, polls, wants_memory}
+use Rattle.session_pump.specs.Giving.{ComesFirst, is_open_here, is_opened_at, owes_on, GiveMoves, GivesOnce, GivesTimes, HadNoRoom, HostSide, PollGave, PollsHost, RunsDry, again, asks, does_nothing, fails, finds_nothing, gives, had_no_room, had_nothing, had_one_before, has_failed, is_held, is_refused, lets_go, more, most_polls, moves, never, none, polls, wants_memory}
 use Rattle.session_pump.specs.Pumping.{LineTurns, Lines, line_of}
 use Rattle.session_pump.specs.declared.line.Line.{Line}
-use Rattle.session_pump.specs.declared.line.Stage.TheVariants as stages
+use Rattle.session_pump.specs.declared.line.Side.{Side}
+use Rattle.session_pump.specs.Sides.{line_facts, with_side}
 use Rattle.session_pump.specs.Calling.{Called, ClosesStream, IsAt}
 use Rattle.bosh_types.specs.Limits.{most_streams}
 use Rattle.session_pump.specs.declared.line.Owing.{Owing}
@@ -38,23 +41,23 @@ use Rattle.session_pump.specs.declared.giving.Giving.TheVariants as givings
 use Rattle.session_pump.proofs.MovesLemmas.{ends_are}
 use Rattle.session_pump.proofs.TurnedLemmas.{some_same, turned_as, turned_then}
 
-says_so : (moment : Option ℕ) (now : ℕ) (text : List ℕ) (giving : Giving) (reply : Reply) (k m : Known Entry)
+says_so : (moment : Option ℕ) (now stream : ℕ) (text : List ℕ) (giving : Giving) (reply : Reply) (k m : Known Entry)
     → (giving ≡ givings.Done → (taken : Taken) × (reply ≡ replies.Back taken) × (taken ≢ takings.Full)) → (giving ≡ givings.Full → reply ≡ replies.Back takings.Full)
-    → IsAt moment now → Called (calls.Back 0 text now) (Ok reply) k m → Gives moment (given.Stanza text) (Ok giving) k m
-says_so moment now text givings.Done reply k m done full at call =
+    → IsAt moment now → Called (calls.Back stream text now) (Ok reply) k m → Gives moment stream (given.Stanza text) (Ok giving) k m
+says_so moment now stream text givings.Done reply k m done full at call =
     let taken = done refl in
-    (now, taken.0, at, taken.2, subst (λ r. Called (calls.Back 0 text now) (Ok r) k m) taken.1 call)
-says_so moment now text givings.Full reply k m done full at call = (now, at, subst (λ r. Called (calls.Back 0 text now) (Ok r) k m) (full refl) call)
+    (now, taken.0, at, taken.2, subst (λ r. Called (calls.Back stream text now) (Ok r) k m) taken.1 call)
+says_so moment now stream text givings.Full reply k m done full at call = (now, at, subst (λ r. Called (calls.Back stream text now) (Ok r) k m) (full refl) call)
 
 -- a stanza was given
 pub given_so : (moment : Option ℕ) (number now stream : ℕ) (text text' : List ℕ) (giving : Giving) (reply : Reply) (a b : Sessions)
     → (giving ≡ givings.Done → (taken : Taken) × (reply ≡ replies.Back taken) × (taken ≢ takings.Full)) → (giving ≡ givings.Full → reply ≡ replies.Back takings.Full)
-    → text' ≡ text → stream ≡ 0 → IsAt moment now → Turned number a b (Called (calls.Back stream text' now) (Ok reply))
-    → Turned number a b (Gives moment (given.Stanza text) (Ok giving))
-given_so moment number now stream text text' giving reply a b done full same unnamed at turned =
-    turned_as number a b (Called (calls.Back stream text' now) (Ok reply)) (Gives moment (given.Stanza text) (Ok giving))
-    (λ k m call. says_so moment now text giving reply k m done full at
-    (subst (λ t. Called (calls.Back 0 t now) (Ok reply) k m) same (subst (λ s. Called (calls.Back s text' now) (Ok reply) k m) unnamed call)))
+    → text' ≡ text → IsAt moment now → Turned number a b (Called (calls.Back stream text' now) (Ok reply))
+    → Turned number a b (Gives moment stream (given.Stanza text) (Ok giving))
+given_so moment number now stream text text' giving reply a b done full same at turned =
+    turned_as number a b (Called (calls.Back stream text' now) (Ok reply)) (Gives moment stream (given.Stanza text) (Ok giving))
+    (λ k m call. says_so moment now stream text giving reply k m done full at
+    (subst (λ t. Called (calls.Back stream t now) (Ok reply) k m) same call))
     turned
 
 -- there was no memory for the call
@@ -62,9 +65,23 @@ pub tried_so : (number : ℕ) (a b : Sessions) (call : Call) (error : AllocError
 tried_so number a b call error turned = turned_as number a b (Called call (Err error)) Tried (λ k m made. called call error made) turned
 
 -- the stream was to be closed, and there was no memory
-pub close_tried : (moment : Option ℕ) (number : ℕ) (closing : Closing) (a b : Sessions) (error : AllocError) → Turned number a b (ClosesStream moment closing (Err error)) → Turned number a b Tried
-close_tried moment number closing a b error turned =
-    turned_as number a b (ClosesStream moment closing (Err error)) Tried (λ k m made. called (calls.BackClosed 0 closing made.0) error made.1) turned
+pub close_tried : (moment : Option ℕ) (number stream : ℕ) (closing : Closing) (a b : Sessions) (error : AllocError) → Turned number a b (ClosesStream moment stream closing (Err error)) → Turned number a b Tried
+close_tried moment number stream closing a b error turned =
+    turned_as number a b (ClosesStream moment stream closing (Err error)) Tried (λ k m made. called (calls.BackClosed stream closing made.0) error made.1) turned
+
+-- what isn't so for the one is so for the other
+pub owing_so : (b : Bool) → not b ≡ false → b ≡ true
+owing_so true is = refl
+owing_so false is = absurd (true≢false is)
+
+-- a side that was found stands in the line that the session has
+pub found_here : (lines : Lines) (number stream place failures : ℕ) (line : Line) (found : Option ℕ) → line_of lines number ≡ Some line
+    → IfSome found (λ at. at < length line.sides.items)
+    → IfSome found (λ at. (side : Side) × (slice_get line.sides.items at ≡ Some side) × (is_open_here stream place failures side ≡ true))
+    → IfSome found (λ at. (line : Line) × (side : Side) × (line_of lines number ≡ Some line) × (at < length line.sides.items)
+    × (slice_get line.sides.items at ≡ Some side) × (is_open_here stream place failures side ≡ true))
+found_here lines number stream place failures line None is within here = tt
+found_here lines number stream place failures line (Some at) is within here = (line, here.0, is, within, here.1, here.2)
 
 -- a host at this place with this kept, these back ends, sessions and lines
 abbrev pub host : ℕ → Option Owing → Ends → Sessions → Lines → HostSide
@@ -92,6 +109,40 @@ idled_as place R kept kept' e f s l same shifts is =
     subst (λ (k : Option Owing). R (host place k f s l)) (sym same)
     (subst (λ (ends : Ends). R (host place kept ends s l)) (ends_are (λ told. told) counted_on (λ count. count) e f shifts) is)
 
+and_left : (x y : Bool) → (x && y) ≡ true → x ≡ true
+and_left true y is = refl
+and_left false y is = is
+
+-- nothing waits with the side of this stream
+owes_none : (stream : ℕ) (sides : List Side) (at : ℕ) (side : Side) → list_any (owes_on stream) sides ≡ false → slice_get sides at ≡ Some side → (side.stream == stream) ≡ true
+    → side.owed ≡ None
+owes_none stream [] at side clear is of = absurd (none-some side is)
+owes_none stream (x ∷ xs) zero side clear is of =
+    by side.owed (subst (λ (b : Bool). (b && is_some side.owed) ≡ false) of
+    (subst (λ (y : Side). owes_on stream y ≡ false) (same_Some x side is) (or_left (owes_on stream x) (list_any (owes_on stream) xs) clear)))
+  where
+    by : (o : Option Owing) → is_some o ≡ false → o ≡ None
+    by None is = refl
+    by (Some owing) is = absurd (true≢false is)
+
+    or_left : (x y : Bool) → (x || y) ≡ false → x ≡ false
+    or_left false y is = refl
+    or_left true y is = absurd (true≢false is)
+owes_none stream (x ∷ xs) (suc at) side clear is of = owes_none stream xs at side (or_right (owes_on stream x) (list_any (owes_on stream) xs) clear) is of
+  where
+    or_right : (x y : Bool) → (x || y) ≡ false → y ≡ false
+    or_right false y is = is
+    or_right true y is = absurd (true≢false is)
+
+-- the side that was found is the one that was lent
+pub here_so : (place : ℕ) (l : Lines) (number stream failures at : ℕ) (line : Line) (side : Side)
+    → (found : Line) × (it : Side) × (line_of l number ≡ Some found) × (at < length found.sides.items) × (slice_get found.sides.items at ≡ Some it)
+    × (is_open_here stream place failures it ≡ true) → line_of l number ≡ Some line → slice_get line.sides.items at ≡ Some side → is_open_here stream place failures side ≡ true
+here_so place l number stream failures at line side found is there =
+    let same : found.0 ≡ line = some_same found.0 line (sym found.2 ∙ is) in
+    let it : found.1 ≡ side = some_same found.1 side (sym found.4 ∙ subst (λ (x : Line). slice_get x.sides.items at ≡ Some side) (sym same) there) in
+    subst (λ (s : Side). is_open_here stream place failures s ≡ true) it found.5
+
 module _ {moment : Option ℕ} {place : ℕ} where
   -- its session is no more
   pub is_gone : (kept : Option Owing) (owing : Owing) (ends : Ends) (s : Sessions) (l : Lines) → kept ≡ Some owing → held s owing.number ≡ None
@@ -109,25 +160,25 @@ module _ {moment : Option ℕ} {place : ℕ} where
 
   -- its session took it
   pub is_taken : (kept : Option Owing) (owing : Owing) (ends : Ends) (s t u : Sessions) (l : Lines) (giving : Giving) → kept ≡ Some owing → giving ≡ givings.Done
-      → ComesFirst owing.number l → Turned owing.number s t (IsReady owing) → OthersStay owing.number s t
-      → Turned owing.number t u (Gives moment owing.given (Ok giving)) → OthersStay owing.number t u
+      → ComesFirst owing.number owing.stream l → Turned owing.number s t (IsReady owing) → OthersStay owing.number s t
+      → Turned owing.number t u (Gives moment owing.stream owing.given (Ok giving)) → OthersStay owing.number t u
       → GiveMoves moment (host place kept ends s l) (host place None ends u l)
   is_taken kept owing ends s t u l giving is done first ready stay turned others =
       kept_by kept owing ends s l (host place None ends u l) is
       (more none (gives owing u refl first
-      (once_ready owing.number owing s t u (Takes moment owing.given) ready (subst (λ g. Turned owing.number t u (Gives moment owing.given (Ok g))) done turned))
+      (once_ready owing.number owing s t u (Takes moment owing.stream owing.given) ready (subst (λ g. Turned owing.number t u (Gives moment owing.stream owing.given (Ok g))) done turned))
       (both_stay owing.number s t u stay others)))
 
   -- its session has no room
   pub is_full_for : (kept : Option Owing) (owing later : Owing) (ends : Ends) (s t u : Sessions) (l : Lines) (giving : Giving) → kept ≡ Some owing → giving ≡ givings.Full
-      → ComesFirst owing.number l → later.number ≡ owing.number → later.wire ≡ owing.wire → later.given ≡ owing.given → later.was_refused ≡ true
+      → ComesFirst owing.number owing.stream l → later.number ≡ owing.number → later.stream ≡ owing.stream → later.wire ≡ owing.wire → later.given ≡ owing.given → later.was_refused ≡ true
       → Turned owing.number s t (IsReady owing) → OthersStay owing.number s t
-      → Turned owing.number t u (Gives moment owing.given (Ok giving)) → OthersStay owing.number t u
+      → Turned owing.number t u (Gives moment owing.stream owing.given (Ok giving)) → OthersStay owing.number t u
       → GiveMoves moment (host place kept ends s l) (host place (Some later) ends u l)
-  is_full_for kept owing later ends s t u l giving is full first number wire same marked ready stay turned others =
+  is_full_for kept owing later ends s t u l giving is full first number of wire same marked ready stay turned others =
       kept_by kept owing ends s l (host place (Some later) ends u l) is
-      (more none (is_refused owing later u refl first number wire same marked
-      (once_ready owing.number owing s t u (Refuses moment owing.given) ready (subst (λ g. Turned owing.number t u (Gives moment owing.given (Ok g))) full turned))
+      (more none (is_refused owing later u refl first number of wire same marked
+      (once_ready owing.number owing s t u (Refuses moment owing.stream owing.given) ready (subst (λ g. Turned owing.number t u (Gives moment owing.stream owing.given (Ok g))) full turned))
       (both_stay owing.number s t u stay others)))
 
   -- there was no memory for it
@@ -167,38 +218,38 @@ module _ {moment : Option ℕ} {place : ℕ} where
   failure_moves kept kept' e f s l empty same failed =
       subst (λ (k : Option Owing). GiveMoves moment (host place kept e s l) (host place k f s l)) (sym same) (more none (fails f empty failed))
 
-  -- it is kept with the line, and its wire is held
-  pub held_back : (kept : Option Owing) (owing : Owing) (e f : Ends) (s : Sessions) (l l' : Lines) (line : Line) → kept ≡ Some owing → owing.was_refused ≡ true
-      → line_of l owing.number ≡ Some line → line.host ≡ Some place → line.stage ≡ stages.Opened e.failures → line.owed ≡ None
-      → LineTurns owing.number l l' line (record line { owed = Some owing }) → Changes (held_too owing.wire) e f
+  -- it is kept with the side of its stream, and its wire is held
+  pub held_back : (kept : Option Owing) (owing : Owing) (e f : Ends) (s : Sessions) (l l' : Lines) (line later : Line) (at : ℕ) (side : Side) → kept ≡ Some owing → owing.was_refused ≡ true
+      → line_of l owing.number ≡ Some line → slice_get line.sides.items at ≡ Some side → is_open_here owing.stream place e.failures side ≡ true → side.owed ≡ None
+      → LineTurns owing.number l l' line later → line_facts later ≡ with_side at (record side { owed = Some owing }) (line_facts line) → Changes (held_too owing.wire) e f
       → GiveMoves moment (host place kept e s l) (host place None f s l')
-  held_back kept owing e f s l l' line is marked before at opened empty turns changes =
+  held_back kept owing e f s l l' line later at side is marked before there here empty turns same changes =
       subst (λ (ends : Ends). GiveMoves moment (host place kept e s l) (host place None ends s l')) (ends_are (held_too owing.wire) (λ count. count) (λ count. count) e f changes)
-      (more none (is_held owing line l' f.standing.told is marked (record { is = before; host = at; opened = opened }) empty turns changes.told))
+      (more none (is_held owing line later at side l' f.standing.told is marked (record { is = before; there = there; open_here = here }) empty turns same changes.told))
 
-  pub held_back_by : (kept kept' : Option Owing) (number : ℕ) (owing : Owing) (e f : Ends) (s : Sessions) (l l' : Lines) (line : Line)
-      → (other : Owing) × (kept ≡ Some other) × (other.number ≡ number) × (other.was_refused ≡ true) → kept ≡ Some owing → line_of l number ≡ Some line
-      → (found : Line) × (line_of l number ≡ Some found) × (found.host ≡ Some place) × (found.stage ≡ stages.Opened e.failures) → ComesFirst number l
-      → LineTurns number l l' line (record line { owed = Some owing }) → Changes (held_too owing.wire) e f → kept' ≡ None
+  pub held_back_by : (kept kept' : Option Owing) (number stream : ℕ) (owing : Owing) (e f : Ends) (s : Sessions) (l l' : Lines) (line later : Line) (at : ℕ) (side : Side)
+      → (other : Owing) × (kept ≡ Some other) × (other.number ≡ number) × (other.stream ≡ stream) × (other.was_refused ≡ true) → kept ≡ Some owing → line_of l number ≡ Some line
+      → slice_get line.sides.items at ≡ Some side → is_open_here stream place e.failures side ≡ true → ComesFirst number stream l
+      → LineTurns number l l' line later → line_facts later ≡ with_side at (record side { owed = Some owing }) (line_facts line) → Changes (held_too owing.wire) e f → kept' ≡ None
       → GiveMoves moment (host place kept e s l) (host place kept' f s l')
-  held_back_by kept kept' number owing e f s l l' line was is before found first turns changes empty =
-      let same : was.0 ≡ owing = some_same was.0 owing (sym was.1 ∙ is) in
-      let numbered : number ≡ owing.number = sym was.2 ∙ ap (λ (o : Owing). o.number) same in
-      let marked : owing.was_refused ≡ true = subst (λ (o : Owing). o.was_refused ≡ true) same was.3 in
-      let it : found.0 ≡ line = some_same found.0 line (sym found.1 ∙ before) in
-      let at : line.host ≡ Some place = subst (λ (x : Line). x.host ≡ Some place) it found.2 in
-      let opened : line.stage ≡ stages.Opened e.failures = subst (λ (x : Line). x.stage ≡ stages.Opened e.failures) it found.3 in
-      let nothing : line.owed ≡ None = subst (λ (o : Option Line). IfSome o (λ line. line.owed ≡ None)) before first in
+  held_back_by kept kept' number stream owing e f s l l' line later at side was is before there here first turns same changes empty =
+      let it : was.0 ≡ owing = some_same was.0 owing (sym was.1 ∙ is) in
+      let numbered : number ≡ owing.number = sym was.2 ∙ ap (λ (o : Owing). o.number) it in
+      let of : stream ≡ owing.stream = sym was.3 ∙ ap (λ (o : Owing). o.stream) it in
+      let marked : owing.was_refused ≡ true = subst (λ (o : Owing). o.was_refused ≡ true) it was.4 in
+      let nothing : side.owed ≡ None = owes_none stream line.sides.items at side (subst (λ (o : Option Line). IfSome o (λ line. list_any (owes_on stream) line.sides.items ≡ false)) before first) there
+      (and_left (side.stream == stream) (is_opened_at place e.failures side.host side.stage) here) in
       subst (λ (k : Option Owing). GiveMoves moment (host place kept e s l) (host place k f s l')) (sym empty)
-      (held_back kept owing e f s l l' line is marked (subst (λ n. line_of l n ≡ Some line) numbered before) at opened nothing
-      (subst (λ n. LineTurns n l l' line (record line { owed = Some owing })) numbered turns) changes)
+      (held_back kept owing e f s l l' line later at side is marked (subst (λ n. line_of l n ≡ Some line) numbered before) there
+      (subst (λ n. is_open_here n place e.failures side ≡ true) of here) nothing
+      (subst (λ n. LineTurns n l l' line later) numbered turns) same changes)
 
   -- something waits before what is kept
   pub waits_behind : (kept : Option Owing) (owing : Owing) (ends : Ends) (s : Sessions) (l : Lines) → kept ≡ Some owing
-      → (line : Line) × (first : Owing) × (line_of l owing.number ≡ Some line) × (line.owed ≡ Some first)
+      → (line : Line) × (line_of l owing.number ≡ Some line) × (list_any (owes_on owing.stream) line.sides.items ≡ true)
       → RunsDry moment (host place kept ends s l) (host place (Some owing) ends s l)
   waits_behind kept owing ends s l is waits =
-      subst (λ (k : Option Owing). RunsDry moment (host place kept ends s l) (host place k ends s l)) is (had_one_before owing waits.1 waits.0 none is waits.2 waits.3)
+      subst (λ (k : Option Owing). RunsDry moment (host place kept ends s l) (host place k ends s l)) is (had_one_before owing waits.0 none is waits.1 waits.2)
 
   -- nothing of the host changed since
   pub over_still : {h : HostSide} (kept kept' : Option Owing) (e e' : Ends) (s : Sessions) (l l' : Lines) → kept' ≡ kept → e' ≡ e → l' ≡ l
@@ -211,7 +262,7 @@ module _ {moment : Option ℕ} {place : ℕ} where
   -- there is no room for what is kept, by what the session answered, and its wire isn't open here
   pub has_no_room : (kept : Option Owing) (owing : Owing) (ends : Ends) (s t : Sessions) (l : Lines) → kept ≡ Some owing
       → Turned owing.number s t (Looks (LacksRoom owing.given)) → OthersStay owing.number s t
-      → ((line : Line) → line_of l owing.number ≡ Some line → line.host ≡ Some place → line.stage ≢ stages.Opened ends.failures)
+      → IfSome (line_of l owing.number) (λ line. list_any (is_open_here owing.stream place ends.failures) line.sides.items ≡ false)
       → RunsDry moment (host place kept ends s l) (host place (Some owing) ends t l)
   has_no_room kept owing ends s t l is asked others elsewhere = had_no_room (record {
     before = host place kept ends s l;
@@ -221,20 +272,21 @@ module _ {moment : Option ℕ} {place : ℕ} where
     sessions = t;
     kept = is;
     number = refl;
+    stream = refl;
     given = refl;
     found = turned_as owing.number s t (Looks (LacksRoom owing.given)) (FindsNoRoom moment owing) (λ k m looks. lacks_room looks) asked;
     others = others;
-    elsewhere = λ line here. elsewhere line here.is here.host here.opened;
+    elsewhere = elsewhere;
     is = refl;
   })
 
   -- its session refused it
   pub was_refused : (kept : Option Owing) (owing later : Owing) (ends : Ends) (s t u : Sessions) (l : Lines) (giving : Giving) → kept ≡ Some owing → giving ≡ givings.Full
-      → later.number ≡ owing.number → later.given ≡ owing.given → Turned owing.number s t (IsReady owing) → OthersStay owing.number s t
-      → Turned owing.number t u (Gives moment owing.given (Ok giving)) → OthersStay owing.number t u
-      → ((line : Line) → line_of l owing.number ≡ Some line → line.host ≡ Some place → line.stage ≢ stages.Opened ends.failures)
+      → later.number ≡ owing.number → later.stream ≡ owing.stream → later.given ≡ owing.given → Turned owing.number s t (IsReady owing) → OthersStay owing.number s t
+      → Turned owing.number t u (Gives moment owing.stream owing.given (Ok giving)) → OthersStay owing.number t u
+      → IfSome (line_of l owing.number) (λ line. list_any (is_open_here owing.stream place ends.failures) line.sides.items ≡ false)
       → RunsDry moment (host place kept ends s l) (host place (Some later) ends u l)
-  was_refused kept owing later ends s t u l giving is full number same ready stay turned others elsewhere = had_no_room (record {
+  was_refused kept owing later ends s t u l giving is full number of same ready stay turned others elsewhere = had_no_room (record {
     before = host place kept ends s l;
     moves = none;
     owing = owing;
@@ -242,11 +294,12 @@ module _ {moment : Option ℕ} {place : ℕ} where
     sessions = u;
     kept = is;
     number = number;
+    stream = of;
     given = same;
-    found = turned_as owing.number s u (OnceReady owing (Refuses moment owing.given)) (FindsNoRoom moment owing) (λ k m refuses. is_full refuses)
-        (once_ready owing.number owing s t u (Refuses moment owing.given) ready (subst (λ g. Turned owing.number t u (Gives moment owing.given (Ok g))) full turned));
+    found = turned_as owing.number s u (OnceReady owing (Refuses moment owing.stream owing.given)) (FindsNoRoom moment owing) (λ k m refuses. is_full refuses)
+        (once_ready owing.number owing s t u (Refuses moment owing.stream owing.given) ready (subst (λ g. Turned owing.number t u (Gives moment owing.stream owing.given (Ok g))) full turned));
     others = both_stay owing.number s t u stay others;
-    elsewhere = λ line here. elsewhere line here.is here.host here.opened;
+    elsewhere = elsewhere;
     is = refl;
   })
 
@@ -256,9 +309,9 @@ polled_as place kept owing e f s l same = ap (λ (ends : Ends). host place (Some
 
 -- the back end gave something on a wire that was opened
 pub has_polled : (place : ℕ) (kept kept' : Option Owing) (owing : Owing) (wire : ℕ) (what : Given) (e f : Ends) (s : Sessions) (l : Lines) → kept ≡ None → kept' ≡ Some owing
-    → owing.number ≡ wire / most_streams → owing.wire ≡ wire → owing.given ≡ what → owing.was_refused ≡ false → GivesOn wire what e f
+    → owing.number ≡ wire / most_streams → owing.stream ≡ wire % most_streams → owing.wire ≡ wire → owing.given ≡ what → owing.was_refused ≡ false → GivesOn wire what e f
     → PollGave (host place kept e s l) (host place kept' f s l)
-has_polled place kept kept' owing wire what e f s l empty is number on same fresh found =
+has_polled place kept kept' owing wire what e f s l empty is number of on same fresh found =
     let shifts = subst (λ g. Shifts (given_too wire g) (λ count. count) counted_on e f) (sym same) found.2 in
     record {
       owing = owing;
@@ -266,6 +319,7 @@ has_polled place kept kept' owing wire what e f s l empty is number on same fres
       told = f.standing.told;
       empty = empty;
       number = number;
+      stream = of;
       on = on;
       fresh = fresh;
       opened = found.0;
@@ -301,6 +355,7 @@ no_room_after first full = record {
   sessions = full.sessions;
   kept = full.kept;
   number = full.number;
+  stream = full.stream;
   given = full.given;
   found = full.found;
   others = full.others;
@@ -312,7 +367,7 @@ no_room_after first full = record {
 pub over_after : {moment : Option ℕ} {h i j : HostSide} → GiveMoves moment h i → RunsDry moment i j → RunsDry moment h j
 over_after first (had_nothing told rest empty stays) = had_nothing told (gives_then first rest) empty stays
 over_after first (has_failed ends rest empty failed) = has_failed ends (gives_then first rest) empty failed
-over_after first (had_one_before owing before line rest kept is waits) = had_one_before owing before line (gives_then first rest) kept is waits
+over_after first (had_one_before owing line rest kept is waits) = had_one_before owing line (gives_then first rest) kept is waits
 over_after first (had_no_room full) = had_no_room (no_room_after first full)
 
 pub looks_as : {P Q : List Entry → Type 0} {k m : Known Entry} → ((log : List Entry) → P log → Q log) → Looks P k m → Looks Q k m

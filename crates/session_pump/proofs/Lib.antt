@@ -1,4 +1,5 @@
 mod TurnedLemmas
+mod ListLemmas
 mod MovesLemmas
 mod PassingLemmas
 mod ServingLemmas
@@ -9,3 +10,4 @@ mod TurnLemmas
 mod LeavingLemmas
 mod NumberedLemmas
 mod DueLemmas
+mod StreamRows

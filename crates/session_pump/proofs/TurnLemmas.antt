@@ -1,6 +1,6 @@
 -- Steps of a turn, one after the other.
-use Rattle.std.proofs.Common.{◌≡◌, ◌≢◌, ◌+◌, ◌*◌, ◌<◌, ◌≤◌, ℕ, zero, suc, Bool, false, List, [], ◌∷◌, ◌++◌, length, map, take, set, get_or, Option, Some, None, IfSome, IfNone, IsSome, Result, Ok, Err, refl, sym, subst, ap, ◌∙◌, true≢false, arith, ne_eqb}
-use Rattle.std.specs.Prelude.{◌||◌, bytes_eq, is_some}
+use Rattle.std.proofs.Common.{◌≡◌, ◌≢◌, ◌+◌, ◌*◌, ◌<◌, ◌≤◌, ℕ, false, List, [], ◌∷◌, ◌++◌, length, map, take, set, get_or, Option, Some, None, IfSome, IfNone, IsSome, Result, Ok, Err, refl, sym, subst, ap, ◌∙◌, true≢false, arith, ne_eqb}
+use Rattle.std.specs.Prelude.{bytes_eq, is_some, slice_get}
 use Rattle.std.specs.List.{list_any}
 use Rattle.bosh_types.specs.Limits.{most_streams}
 use Rattle.std.proofs.lemmas.List.{get_or-map, length-map, map-set, take_all, take_more}
@@ -11,6 +11,7 @@ use Rattle.std.specs.Cmp.{unsigned_tied}
 use Rattle.std.specs.Ordering.{nat_cmp}
 use Rattle.std.specs.Result.{IsErr, OnErr, OnOk}
 use Rattle.std.specs.declared.alloc.AllocError.{AllocError}
+use Rattle.bosh_types.specs.declared.ending.Closing.{Closing}
 use Rattle.bosh_types.specs.declared.inward.Inward.{Inward}
 use Rattle.parked_gate.specs.Passes.{Calls, Known, Looks}
 use Rattle.session_journal.specs.declared.asking.Answer.{Answer}
@@ -32,15 +33,19 @@ use Rattle.session_pump.specs.Dues.{Dues, IsNotedAs}
 use Rattle.session_pump.specs.Ends.{Changes, Ends, telling}
 use Rattle.session_pump.specs.Giving.{PollsHost}
 use Rattle.session_pump.specs.Places.{IsFirstPlace}
-use Rattle.session_pump.specs.Calling.{Called, Ticks}
-use Rattle.session_pump.specs.Sides.{Moves, Side}
+use Rattle.session_pump.specs.Calling.{Called, ClosesEach, ClosesStream, Ticks, both, closed_none, closed_one}
+use Rattle.session_pump.specs.Hosts.{HostFacts, HostTurns}
+use Rattle.session_pump.specs.Sides.{AreOpened, HasNoHost, IsOpenAmong, LineFacts, Served, Strand, on_strand, served, serving, strand, with_side}
+use Rattle.session_pump.specs.declared.line.Side.{Side}
 use Rattle.session_pump.specs.declared.line.Stage.TheVariants as stages
-use Rattle.session_pump.specs.Pumping.{AsksDirectory, AsksSession, Each, EachPlace, HasOpened, HostFacts, HostTurns, LineTurns, Lines, OnLine, Pumping, Step, Then, alone, and_one, both, line_of, next_place, on_host, side, stopped}
-use Rattle.session_pump.specs.Turns.{AsksLive, ClosesWire, CountsLive, IsNewLine, Meets, PollsAt, Removes, ServesAlone, ShutsDown, Takes, TakesAll, TellsCut, Turns, closes_it, counted, met, met_not, no_time, not_asked, refused, removed, removed_not, shuts_nobody, ticked, took, wants_memory, was_met}
+use Rattle.session_pump.specs.Pumping.{AsksDirectory, AsksSession, Each, EachPlace, HasOpened, LineTurns, Lines, OnLine, Pumping, Step, Then, alone, and_one, line_of, next_place, on_line, stopped}
+use Rattle.session_pump.specs.Turns.{AsksLive, ClosesAt, ClosesBelow, ClosesWire, ClosesWires, CountsLive, IsNewLine, Meets, PollsAt, Removes, ServesAlone, ShutsDown, Takes, TakesAll, Turns, closes_it, counted, first_stage, is_open, isnt_open, met, met_not, no_time, not_asked, refused, removed, removed_not, shuts_nobody, streams_of, ticked, took, wants_memory, was_met}
 use Rattle.session_pump.specs.declared.line.Line.{Line}
 use Rattle.session_pump.proofs.GivingLemmas.{looks_as}
+use Rattle.session_pump.proofs.ListLemmas.{got_map, got_past, set_same}
 use Rattle.session_pump.proofs.MovesLemmas.{ends_are}
-use Rattle.session_pump.proofs.TurnedLemmas.{some_same, turned_as, turned_then}
+use Rattle.session_pump.proofs.PassingLemmas.{left_as, new_side}
+use Rattle.session_pump.proofs.TurnedLemmas.{some_same, turned_as, turned_none, turned_then}
 
 abbrev pub pumping : Dues → Known Entry → Sessions → Lines → List HostFacts → Pumping
 pumping dues directory sessions lines hosts = record { directory = directory; sessions = sessions; lines = lines; hosts = hosts; dues = dues }
@@ -68,37 +73,26 @@ host_turns facts stands place was is within read = record {
   after = map-set facts stands place is;
 }
 
-same_but_ends : (h i : HostFacts) → i.kept ≡ h.kept → i ≡ record h { ends = i.ends }
-same_but_ends h i kept = ap (λ k. record { kept = k; ends = i.ends }) kept
-
-module _ {OnHost : Side → Side → Result ⊤ AllocError → Type 0} {Alone : Known journal.Entry → Known journal.Entry → Result ⊤ AllocError → Type 0} where
+module _ {OnHosts : Served → Served → Result ⊤ AllocError → Type 0} {Alone : Known journal.Entry → Known journal.Entry → Result ⊤ AllocError → Type 0} where
   -- something was done to a session on its line
-  pub on_host_of : {dues : Dues} {X : Type 0} (facts : X → HostFacts) (number : ℕ) (d d' : Known Entry) (s s' : Sessions) (l l' : Lines) (stands : List X) (place : ℕ)
-      (line later : Line) (was is : X) (result : Result ⊤ AllocError)
-      → d' ≡ d → line_of l number ≡ Some line → WritesThrough nat_cmp (nat_cmp number) l later l' → line.host ≡ Some place → later.host ≡ line.host
-      → place < length stands → was ≡ get_or stands place was → (facts is).kept ≡ (facts was).kept
-      → Turned number s s' (λ old new. OnHost (side old line (facts was).ends) (side new later (facts is).ends) result) → OthersStay number s s'
-      → OnLine OnHost Alone number (pumping dues d s l (map facts stands)) (pumping dues d' s' l' (map facts (set stands place is))) result
-  on_host_of {dues} facts number d d' s s' l l' stands place line later was is result same before written host stays within read kept turned others =
-      subst (λ (k : Known Entry). OnLine OnHost Alone number (pumping dues d s l (map facts stands)) (pumping dues k s' l' (map facts (set stands place is))) result) (sym same)
-      (on_host s' l' (map facts (set stands place is)) place line later (facts was) (facts is).ends
-      (line_turns number l l' line later before written) host (stays ∙ host)
-      (subst (λ (h : HostFacts). HostTurns place (map facts stands) (map facts (set stands place is)) (facts was) h)
-      (same_but_ends (facts was) (facts is) kept) (host_turns facts stands place was is within read))
-      turned others)
+  pub on_line_of : {dues : Dues} {X : Type 0} (facts : X → HostFacts) (number : ℕ) (d d' : Known Entry) (s s' : Sessions) (l l' : Lines) (stands stands' : List X)
+      (line later : Line) (result : Result ⊤ AllocError)
+      → d' ≡ d → line_of l number ≡ Some line → WritesThrough nat_cmp (nat_cmp number) l later l'
+      → Turned number s s' (λ old new. OnHosts (served old line (map facts stands)) (served new later (map facts stands')) result) → OthersStay number s s'
+      → OnLine OnHosts Alone number (pumping dues d s l (map facts stands)) (pumping dues d' s' l' (map facts stands')) result
+  on_line_of {dues} facts number d d' s s' l l' stands stands' line later result same before written turned others =
+      subst (λ (k : Known Entry). OnLine OnHosts Alone number (pumping dues d s l (map facts stands)) (pumping dues k s' l' (map facts stands')) result) (sym same)
+      (on_line s' l' (map facts stands') line later (line_turns number l l' line later before written) turned others)
 
   -- or to it alone
-  pub alone_of : {dues : Dues} {X : Type 0} (facts : X → HostFacts) (number : ℕ) (d d' : Known Entry) (s s' : Sessions) (l : Lines) (stands : List X) (result : Result ⊤ AllocError)
-      → d' ≡ d → IfSome (line_of l number) (λ line. IfSome line.host (λ place. length stands ≤ place))
+  pub alone_of : {dues : Dues} {X : Type 0} (facts : X → HostFacts) (number : ℕ) (d d' : Known Entry) (s s' : Sessions) (l l' : Lines) (stands : List X) (result : Result ⊤ AllocError)
+      → d' ≡ d → l' ≡ l → line_of l number ≡ None
       → Turned number s s' (λ old new. Alone old new result) → OthersStay number s s'
-      → OnLine OnHost Alone number (pumping dues d s l (map facts stands)) (pumping dues d' s' l (map facts stands)) result
-  alone_of {dues} facts number d d' s s' l stands result same nowhere turned others =
-      subst (λ (k : Known Entry). OnLine OnHost Alone number (pumping dues d s l (map facts stands)) (pumping dues k s' l (map facts stands)) result) (sym same)
-      (alone s' (subst (λ (n : ℕ). IfSome (line_of l number) (λ line. IfSome line.host (λ place. n ≤ place))) (sym (length-map stands facts)) nowhere) turned others)
-
--- the line that was lent is the one to that host
-pub same_host : {o : Option Line} {place : ℕ} {line : Line} → (other : Line) × (o ≡ Some other) × (other.host ≡ Some place) → o ≡ Some line → line.host ≡ Some place
-same_host {place = place} {line = line} found is = subst (λ (x : Line). x.host ≡ Some place) (some_same found.0 line (sym found.1 ∙ is)) found.2
+      → OnLine OnHosts Alone number (pumping dues d s l (map facts stands)) (pumping dues d' s' l' (map facts stands)) result
+  alone_of {dues} facts number d d' s s' l l' stands result same unchanged nowhere turned others =
+      subst (λ (k : Known Entry). OnLine OnHosts Alone number (pumping dues d s l (map facts stands)) (pumping dues k s' l' (map facts stands)) result) (sym same)
+      (subst (λ (lines : Lines). OnLine OnHosts Alone number (pumping dues d s l (map facts stands)) (pumping dues d s' lines (map facts stands)) result) (sym unchanged)
+      (alone s' nowhere turned others))
 
 -- ---- no memory
 
@@ -222,35 +216,64 @@ polls_of {dues} facts moment place d d' s s' l l' stands was is result same with
       same = ap (λ (k : Known Entry). pumping dues k s' l' (map facts (set stands place is))) same;
     }
 
--- a session was told, and its wire isn't cut
-pub tells_of : (moment : Option ℕ) (number : ℕ) (a b : Sessions) (line later : Line) (ends : Ends) (result : Result ⊤ AllocError)
-    → OnOk result ((on : ℕ) → later.stage ≡ stages.Opened on → on ≡ ends.failures)
-    → Turned number a b (λ old new. Moves moment (side old line ends) (side new later ends))
-    → Turned number a b (λ old new. TellsCut moment (side old line ends) (side new later ends) result)
-tells_of moment number a b line later ends result uncut turned =
-    turned_as number a b (λ old new. Moves moment (side old line ends) (side new later ends)) (λ old new. TellsCut moment (side old line ends) (side new later ends) result)
-    (λ k m moves. by k m result uncut moves) turned
-  where
-    by : (k m : Known journal.Entry) (result : Result ⊤ AllocError) → OnOk result ((on : ℕ) → later.stage ≡ stages.Opened on → on ≡ ends.failures)
-        → Moves moment (side k line ends) (side m later ends) → TellsCut moment (side k line ends) (side m later ends) result
-    by k m (Ok done) uncut moves = (moves, λ cut. cut.2 (uncut cut.0 cut.1))
-    by k m (Err error) uncut moves = moves
-
 -- ---- a wire is closed
 
-closes_as : (R : Side → Type 0) (change : Told → Told) (known : Known journal.Entry) (line : Line) (e f : Ends) → Changes change e f
-    → R (side known line (telling f.standing.told e)) → R (side known line f)
-closes_as R change known line e f changes is = subst (λ (ends : Ends). R (side known line ends)) (ends_are change (λ count. count) (λ count. count) e f changes) is
+closes_as : (R : Strand → Type 0) (change : Told → Told) (known : Known journal.Entry) (kept : Option Inward) (side : Side) (e f : Ends) → Changes change e f
+    → R (strand known kept side (telling f.standing.told e)) → R (strand known kept side f)
+closes_as R change known kept side e f changes is = subst (λ (ends : Ends). R (strand known kept side ends)) (ends_are change (λ count. count) (λ count. count) e f changes) is
 
-pub wire_closed : (known : Known journal.Entry) (line : Line) (e f : Ends) → line.stage ≡ stages.Opened e.failures → Changes (closed_too line.wire) e f
-    → ClosesWire (side known line e) (side known (record line { stage = stages.Lost }) f) (Ok tt)
-wire_closed known line e f is changes =
-    closes_as (λ t. ClosesWire (side known line e) t (Ok tt)) (closed_too line.wire) known (record line { stage = stages.Lost }) e f changes (closes_it f.standing.told is changes.told)
+pub wire_closed : (known : Known journal.Entry) (kept : Option Inward) (side : Side) (e f : Ends) → side.stage ≡ stages.Opened e.failures → Changes (closed_too side.wire) e f
+    → ClosesWire (strand known kept side e) (strand known kept (record side { stage = stages.Lost }) f) (Ok tt)
+wire_closed known kept side e f is changes =
+    closes_as (λ t. ClosesWire (strand known kept side e) t (Ok tt)) (closed_too side.wire) known kept (record side { stage = stages.Lost }) e f changes (closes_it f.standing.told is changes.told)
 
-pub wire_not : (known : Known journal.Entry) (line : Line) (e f : Ends) (error : AllocError) → Changes (λ told. told) e f
-    → ClosesWire (side known line e) (side known line f) (Err error)
-wire_not known line e f error changes =
-    closes_as (λ t. ClosesWire (side known line e) t (Err error)) (λ told. told) known line e f changes (wants_memory f.standing.told error changes.told)
+pub wire_not : (known : Known journal.Entry) (kept : Option Inward) (side : Side) (e f : Ends) (error : AllocError) → Changes (λ told. told) e f
+    → ClosesWire (strand known kept side e) (strand known kept side f) (Err error)
+wire_not known kept side e f error changes =
+    closes_as (λ t. ClosesWire (strand known kept side e) t (Err error)) (λ told. told) known kept side e f changes (wants_memory f.standing.told error changes.told)
+
+-- that of the stream at this place, at its host that was lent
+pub closed_at : {X : Type 0} (facts : X → HostFacts) (stands : List X) (place at : ℕ) (known : Known journal.Entry) (line : LineFacts) (side side' : Side) (stand stand' : X) (result : Result ⊤ AllocError)
+    → slice_get line.sides place ≡ Some side → side.host ≡ Some at → slice_get stands at ≡ Some stand → (facts stand').kept ≡ (facts stand).kept
+    → ClosesWire (strand known line.kept side (facts stand).ends) (strand known line.kept side' (facts stand').ends) result
+    → ClosesAt place (serving known line (map facts stands)) (serving known (with_side place side' line) (map facts (set stands at stand'))) result
+closed_at facts stands place at known line side side' stand stand' result is to there kept closed =
+    subst (λ (s : Served). ClosesAt place (serving known line (map facts stands)) s result)
+    (left_as facts stands place at line stand stand' (strand known line.kept side' (facts stand').ends) kept refl)
+    (is_open (on_strand side at (facts stand) is to (got_map facts stands at stand there) closed))
+
+-- nothing was closed
+pub closed_nothing : (place : ℕ) (known : Known journal.Entry) (line : LineFacts) (side : Side) (h : List HostFacts) → slice_get line.sides place ≡ Some side
+    → (IsOpenAmong h side → ⊥) → ClosesAt place (serving known line h) (serving known (with_side place side line) h) (Ok tt)
+closed_nothing place known line side h is shut =
+    subst (λ (sides : List Side). ClosesAt place (serving known line h) (serving known (record line { sides = sides }) h) (Ok tt)) (sym (set_same line.sides place side is))
+    (isnt_open side is shut)
+
+pub wires_closed : (place : ℕ) (s t : Served) → place ≡ length s.line.sides → ClosesBelow s place t → ClosesWires s t (Ok tt)
+wires_closed place s t whole closed = subst (λ (n : ℕ). ClosesBelow s n t) whole closed
+
+pub wires_not : (place : ℕ) (s t u : Served) (error : AllocError) (result : Result ⊤ AllocError) → IsErr result → ClosesBelow s place t → ClosesAt place t u (Err error) → ClosesWires s u result
+wires_not place s t u error (Ok done) err before last = absurd (true≢false (sym err))
+wires_not place s t u error (Err other) err before last = (place, t, error, before, last)
+
+pub open_nowhere : (h : List HostFacts) (side : Side) → HasNoHost h side → IsOpenAmong h side → ⊥
+open_nowhere h side nowhere found =
+    none-some found.host (sym (got_past h found.at (subst (λ (o : Option ℕ). IfSome o (λ at. length h ≤ at)) found.to nowhere)) ∙ found.there)
+
+pub open_not : {X : Type 0} (facts : X → HostFacts) (stands : List X) (side : Side) (at : ℕ) (stand : X) → side.host ≡ Some at → slice_get stands at ≡ Some stand
+    → side.stage ≢ stages.Opened (facts stand).ends.failures → IsOpenAmong (map facts stands) side → ⊥
+open_not facts stands side at stand to there closed found =
+    let here : found.at ≡ at = some_same found.at at (sym found.to ∙ to) in
+    let host : found.host ≡ facts stand = some_same found.host (facts stand) (sym found.there ∙ ap (slice_get (map facts stands)) here ∙ got_map facts stands at stand there) in
+    closed (found.opened ∙ ap (λ (h : HostFacts). stages.Opened h.ends.failures) host)
+
+-- nothing was closed at a host that was lent, since the wire isn't open there
+pub closed_not : {X : Type 0} (facts : X → HostFacts) (stands : List X) (place at : ℕ) (known : Known journal.Entry) (line : LineFacts) (side : Side) (stand : X)
+    → slice_get line.sides place ≡ Some side → side.host ≡ Some at → slice_get stands at ≡ Some stand → side.stage ≢ stages.Opened (facts stand).ends.failures
+    → ClosesAt place (serving known line (map facts stands)) (serving known (with_side place side line) (map facts (set stands at stand))) (Ok tt)
+closed_not facts stands place at known line side stand is to there closed =
+    subst (λ xs. ClosesAt place (serving known line (map facts stands)) (serving known (with_side place side line) (map facts xs)) (Ok tt)) (sym (set_same stands at stand there))
+    (closed_nothing place known line side (map facts stands) is (open_not facts stands side at stand to there closed))
 
 -- ---- the directory
 
@@ -269,42 +292,21 @@ pub meets_not : {dues : Dues} (number : ℕ) (d d' : Known Entry) (s s' : Sessio
 meets_not {dues} number d d' s s' l h (Ok done) err same asked others = absurd (true≢false (sym err))
 meets_not {dues} number d d' s s' l h (Err error) err same asked others = met_not error l (asks_of number d d' s s' l h same asked others) refl
 
--- the first that passes the test, where each is known by something else
-first_of_map : {A B : Type 0} (test : B → Bool) (f : A → B) (xs : List A) (place : ℕ) → IsFirstPlace (λ x. test (f x)) xs place → IsFirstPlace test (map f xs) place
-first_of_map test f [] place first = first
-first_of_map test f (x ∷ xs) zero first = first
-first_of_map test f (x ∷ xs) (suc place) first = (first.0, first_of_map test f xs place first.1)
-
-any_of_map : {A B : Type 0} (test : B → Bool) (f : A → B) (xs : List A) → list_any test (map f xs) ≡ list_any (λ x. test (f x)) xs
-any_of_map test f [] = refl
-any_of_map test f (x ∷ xs) = ap (λ (b : Bool). test (f x) || b) (any_of_map test f xs)
-
 -- a new line, to the first host of that name
-pub new_line : {X : Type 0} (facts : X → HostFacts) (number opening : ℕ) (text name : List ℕ) (stands : List X) (found : Option ℕ) (line : Line) → text ≡ name → opening ≡ number
+pub new_line : {X : Type 0} (facts : X → HostFacts) (number opening : ℕ) (text name : List ℕ) (stands : List X) (found : Option ℕ) (line : Line) (side : Side) → text ≡ name → opening ≡ number
     → IfSome found (λ place. IsFirstPlace (λ stand. bytes_eq (facts stand).ends.name text) stands place)
     → IfNone found (list_any (λ stand. bytes_eq (facts stand).ends.name text) stands ≡ false)
-    → line.host ≡ found → line.wire ≡ opening * most_streams → line.stage ≡ stages.Unopened → line.kept ≡ None → line.owed ≡ None
-    → IsNewLine number name (map facts stands) line
-new_line facts number opening text name stands found line same small first none host wire stage kept owed =
-    subst (λ (n : List ℕ). IsNewLine number n (map facts stands) line) same
-    (record {
-      wire = wire ∙ ap (λ (n : ℕ). n * most_streams) small;
-      stage = stage;
+    → line.opening ≡ opening → line.kept ≡ None → line.sides.items ≡ side ∷ [] → side.host ≡ found → side.stream ≡ 0 → side.wire ≡ opening * most_streams + 0 → side.owed ≡ None
+    → side.stage ≡ first_stage found → IsNewLine number name (map facts stands) line
+new_line facts number opening text name stands found line side same small first none opened kept only host of wire owed stage =
+    record {
+      opening = opened ∙ small;
       kept = kept;
-      owed = owed;
-      place = subst (λ (o : Option ℕ). IfSome o (λ place. IsFirstPlace (λ h. bytes_eq h.ends.name text) (map facts stands) place)) (sym host) (placed found first);
-      nowhere = λ is. any_of_map (λ h. bytes_eq h.ends.name text) facts stands ∙ (missing found (sym host ∙ is) none);
-    })
-  where
-    placed : (o : Option ℕ) → IfSome o (λ place. IsFirstPlace (λ stand. bytes_eq (facts stand).ends.name text) stands place)
-        → IfSome o (λ place. IsFirstPlace (λ h. bytes_eq h.ends.name text) (map facts stands) place)
-    placed None told = tt
-    placed (Some place) told = first_of_map (λ h. bytes_eq h.ends.name text) facts stands place told
-
-    missing : (o : Option ℕ) → o ≡ None → IfNone o (list_any (λ stand. bytes_eq (facts stand).ends.name text) stands ≡ false)
-        → list_any (λ stand. bytes_eq (facts stand).ends.name text) stands ≡ false
-    missing None is told = told
-    missing (Some place) is told = absurd (none-some place (sym is))
+      side = side;
+      alone = only;
+      new = new_side facts number 0 text name stands found side same (omega arith) first none host of (wire ∙ ap (λ (n : ℕ). n * most_streams + 0) small) owed;
+      stage = stage ∙ ap first_stage (sym host);
+    }
 
 -- the line of a session was made and kept, or there was no memory for that
 pub meets_so : {dues : Dues} (number : ℕ) (name : List ℕ) (d d' : Known Entry) (s s' : Sessions) (l l' : Lines) (h : List HostFacts) (line : Line) (result : Result ⊤ AllocError) → line_of l number ≡ None → d' ≡ d
@@ -326,33 +328,24 @@ pub ok_so : {P Q : Type 0} (result : Result ⊤ AllocError) → (P → Q) → On
 ok_so (Ok done) by p = by p
 ok_so (Err error) by p = tt
 
--- a session has no host among these
-pub opened_nowhere : (o : Option Line) (count : ℕ) → IfSome o (λ line. IfSome line.host (λ place. count ≤ place))
-    → IfSome o (λ line. IfSome line.host (λ place. place < count → line.stage ≢ stages.Unopened))
-opened_nowhere None count none = tt
-opened_nowhere (Some line) count none = by line.host none
-  where
-    by : (host : Option ℕ) → IfSome host (λ place. count ≤ place) → IfSome host (λ place. place < count → line.stage ≢ stages.Unopened)
-    by None none = tt
-    by (Some place) none = λ less. absurd (omega (arith, none, less))
+-- a session that has no line
+pub opened_nowhere : (number : ℕ) (lines later : Lines) → later ≡ lines → line_of lines number ≡ None → HasOpened number later
+opened_nowhere number lines later unchanged is =
+    subst (λ (l : Lines). HasOpened number l) (sym unchanged) (subst (λ (o : Option Line). IfSome o (λ line. AreOpened line.sides.items)) (sym is) tt)
 
 -- a line that was lent is opened
-pub opened_line : (number : ℕ) (old new : Lines) (was is : Line) (count : ℕ) → line_of old number ≡ Some was → WritesThrough nat_cmp (nat_cmp number) old is new
-    → is.stage ≢ stages.Unopened → HasOpened number new count
-opened_line number old new was is count before written opened =
-    subst (λ (o : Option Line). IfSome o (λ line. IfSome line.host (λ place. place < count → line.stage ≢ stages.Unopened)))
-    (sym (line_turns number old new was is before written).after) (by is.host)
-  where
-    by : (host : Option ℕ) → IfSome host (λ place. place < count → is.stage ≢ stages.Unopened)
-    by None = tt
-    by (Some place) = λ less. opened
+pub opened_line : (number : ℕ) (old new : Lines) (was is : Line) → line_of old number ≡ Some was → WritesThrough nat_cmp (nat_cmp number) old is new
+    → AreOpened is.sides.items → HasOpened number new
+opened_line number old new was is before written opened =
+    subst (λ (o : Option Line). IfSome o (λ line. AreOpened line.sides.items)) (sym (line_turns number old new was is before written).after) opened
 
 -- the line that is lent was opened
-pub was_opened : {o : Option Line} {count place : ℕ} (line : Line) → IfSome o (λ line. IfSome line.host (λ place. place < count → line.stage ≢ stages.Unopened))
-    → o ≡ Some line → line.host ≡ Some place → place < count → line.stage ≢ stages.Unopened
-was_opened {o} {count} {place} line opened is host less =
-    subst (λ (h : Option ℕ). IfSome h (λ place. place < count → line.stage ≢ stages.Unopened)) host
-    (subst (λ (x : Option Line). IfSome x (λ line. IfSome line.host (λ place. place < count → line.stage ≢ stages.Unopened))) is opened) less
+pub was_opened : (number : ℕ) (lines : Lines) (line : Line) → HasOpened number lines → line_of lines number ≡ Some line → AreOpened line.sides.items
+was_opened number lines line opened is = subst (λ (o : Option Line). IfSome o (λ line. AreOpened line.sides.items)) is opened
+
+pub no_line : (o : Option Line) → ((x : Line) → o ≡ Some x → ⊥) → o ≡ None
+no_line None nothing = refl
+no_line (Some x) nothing = absurd (nothing x refl)
 
 -- ---- a removal
 
@@ -418,3 +411,44 @@ counted_live {b} a done live count is same asks =
 pub all_places : {Does : ℕ → Step} {X : Type 0} (facts : X → HostFacts) {a b : Pumping} {result : Result ⊤ AllocError} (stands : List X) → EachPlace Does a (length stands) b result
     → EachPlace Does a (length (map facts stands)) b result
 all_places {Does} facts {a} {b} {result} stands each = subst (λ (n : ℕ). EachPlace Does a n b result) (sym (length-map stands facts)) each
+
+-- ---- a session is told of each of its streams that the server goes away
+
+abbrev pub ClosesOf : Option ℕ → Closing → List ℕ → Result ⊤ AllocError → Known journal.Entry → Known journal.Entry → Type 0
+ClosesOf moment closing streams result old new = ClosesEach moment closing old streams result new
+
+pub shuts_line : (moment : Option ℕ) (closing : Closing) (number : ℕ) (a b : Sessions) (o : Option Line) (line : Line) (result : Result ⊤ AllocError) → o ≡ Some line
+    → Turned number a b (ClosesOf moment closing (streams_of (Some line)) result) → Turned number a b (ClosesOf moment closing (streams_of o) result)
+shuts_line moment closing number a b o line result is turned = subst (λ (x : Option Line). Turned number a b (ClosesOf moment closing (streams_of x) result)) (sym is) turned
+
+pub shuts_alone : (moment : Option ℕ) (closing : Closing) (number : ℕ) (a b : Sessions) (o : Option Line) (stream : ℕ) (result : Result ⊤ AllocError) → o ≡ None → stream ≡ 0
+    → Turned number a b (ClosesStream moment stream closing result) → Turned number a b (ClosesOf moment closing (streams_of o) result)
+shuts_alone moment closing number a b o stream result is unnamed turned =
+    subst (λ (x : Option Line). Turned number a b (ClosesOf moment closing (streams_of x) result)) (sym is)
+    (turned_as number a b (ClosesStream moment 0 closing result) (ClosesOf moment closing (0 ∷ []) result) (λ k m closed. closed_one 0 result closed_none closed)
+    (subst (λ (s : ℕ). Turned number a b (ClosesStream moment s closing result)) unnamed turned))
+
+pub closes_none : (moment : Option ℕ) (closing : Closing) (number : ℕ) (a : Sessions) → IsSome (held a number) → Turned number a a (ClosesOf moment closing [] (Ok tt))
+closes_none moment closing number a some = turned_none number a (ClosesOf moment closing [] (Ok tt)) some (λ k. closed_none)
+
+streams_more : (xs : List Side) (y : Side) → map (λ side. side.stream) (xs ++ y ∷ []) ≡ map (λ side. side.stream) xs ++ y.stream ∷ []
+streams_more [] y = refl
+streams_more (x ∷ xs) y = ap (λ rest. x.stream ∷ rest) (streams_more xs y)
+
+pub closes_more : (moment : Option ℕ) (closing : Closing) (number : ℕ) (a b c : Sessions) (first next result : Result ⊤ AllocError) (xs ys : List Side) (i : ℕ) (x : Side)
+    → result ≡ both first next → ys ≡ xs → i < length ys → x ≡ get_or ys i x
+    → Turned number a b (ClosesOf moment closing (map (λ side. side.stream) (take i xs)) first) → Turned number b c (ClosesStream moment x.stream closing next)
+    → Turned number a c (ClosesOf moment closing (map (λ side. side.stream) (take (i + 1) xs)) result)
+closes_more moment closing number a b c first next result xs ys i x is same inside item before last =
+    let within : i < length xs = subst (λ (zs : List Side). i < length zs) same inside in
+    let read : x ≡ get_or xs i x = subst (λ (zs : List Side). x ≡ get_or zs i x) same item in
+    subst (λ (r : Result ⊤ AllocError). Turned number a c (ClosesOf moment closing (map (λ side. side.stream) (take (i + 1) xs)) r)) (sym is)
+    (subst (λ (zs : List ℕ). Turned number a c (ClosesOf moment closing zs (both first next)))
+    (sym (ap (map (λ side. side.stream)) (take_more xs i x within ∙ ap (λ (y : Side). take i xs ++ y ∷ []) (sym read)) ∙ streams_more (take i xs) x))
+    (turned_then number a b c (ClosesOf moment closing (map (λ side. side.stream) (take i xs)) first) (ClosesStream moment x.stream closing next)
+    (ClosesOf moment closing (map (λ side. side.stream) (take i xs) ++ x.stream ∷ []) (both first next)) (λ k l m y z. closed_one x.stream next y z) before last))
+
+pub closes_all : (moment : Option ℕ) (closing : Closing) (number : ℕ) (a b : Sessions) (xs : List Side) (i : ℕ) (result : Result ⊤ AllocError) → length xs ≤ i
+    → Turned number a b (ClosesOf moment closing (map (λ side. side.stream) (take i xs)) result) → Turned number a b (ClosesOf moment closing (map (λ side. side.stream) xs) result)
+closes_all moment closing number a b xs i result whole turned =
+    subst (λ (ys : List Side). Turned number a b (ClosesOf moment closing (map (λ side. side.stream) ys) result)) (take_all i xs whole) turned

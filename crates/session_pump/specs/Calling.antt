@@ -1,5 +1,5 @@
 -- Calls of a session that the pump makes.
-use Rattle.std.specs.Prelude.{◌≡◌, ℕ, ⊤, List, Option, IfSome, Result, Ok, Err}
+use Rattle.std.specs.Prelude.{◌≡◌, ◌++◌, ◌∷◌, ℕ, ⊤, List, [], Option, IfSome, Result, Ok, Err}
 use Rattle.std.specs.declared.alloc.AllocError.{AllocError}
 use Rattle.bosh_types.specs.declared.ending.Closing.{Closing}
 use Rattle.bosh_types.specs.declared.inward.Inward.{Inward}
@@ -29,11 +29,20 @@ abbrev pub Ticks : Option ℕ → Result ⊤ AllocError → Known Entry → Know
 Ticks moment (Ok done) old new = (now : ℕ) × (reply : Reply) × IsAt moment now × Called (calls.Tick now) (Ok reply) old new
 Ticks moment (Err error) old new = (now : ℕ) × Called (calls.Tick now) (Err error) old new
 
--- its stream was closed, or there was no memory
-abbrev pub ClosesStream : Option ℕ → Closing → Result ⊤ AllocError → Known Entry → Known Entry → Type 0
-ClosesStream moment closing (Ok done) old new = (now : ℕ) × (reply : Reply) × IsAt moment now × Called (calls.BackClosed 0 closing now) (Ok reply) old new
-ClosesStream moment closing (Err error) old new = (now : ℕ) × Called (calls.BackClosed 0 closing now) (Err error) old new
+-- this stream of it was closed, or there was no memory
+abbrev pub ClosesStream : Option ℕ → ℕ → Closing → Result ⊤ AllocError → Known Entry → Known Entry → Type 0
+ClosesStream moment stream closing (Ok done) old new =
+    (now : ℕ) × (reply : Reply) × IsAt moment now × Called (calls.BackClosed stream closing now) (Ok reply) old new
+ClosesStream moment stream closing (Err error) old new = (now : ℕ) × Called (calls.BackClosed stream closing now) (Err error) old new
 
--- the session was given a stanza, or there was no memory
-abbrev pub GivesStanza : Option ℕ → List ℕ → Result Reply AllocError → Known Entry → Known Entry → Type 0
-GivesStanza moment stanza result old new = (now : ℕ) × IsAt moment now × Called (calls.Back 0 stanza now) result old new
+-- what is answered for two things that were both tried
+abbrev pub both : Result ⊤ AllocError → Result ⊤ AllocError → Result ⊤ AllocError
+both (Ok done) second = second
+both (Err error) second = Err error
+
+-- these streams of it were closed in turn, each though there was no memory for one before
+pub data ClosesEach (moment : Option ℕ) (closing : Closing) (old : Known Entry) : List ℕ → Result ⊤ AllocError → Known Entry → Type 0 where
+  closed_none : ClosesEach moment closing old [] (Ok tt) old
+  closed_one : {streams : List ℕ} {first : Result ⊤ AllocError} {mid new : Known Entry} (stream : ℕ) (next : Result ⊤ AllocError)
+      → ClosesEach moment closing old streams first mid → ClosesStream moment stream closing next mid new
+      → ClosesEach moment closing old (streams ++ stream ∷ []) (both first next) new

@@ -2,6 +2,7 @@ pub mod Calling
 pub mod Ends
 pub mod Dues
 pub mod Giving
+pub mod Hosts
 pub mod Leaving
 pub mod News
 pub mod NumberedTurns

@@ -1,5 +1,5 @@
 -- All that a pump has, and how parts of it change: what is done, to whom, and that nothing else does.
-use Rattle.std.specs.Prelude.{◌≡◌, ◌≢◌, ◌≤◌, ◌<◌, ◌+◌, ℕ, ⊤, List, [], ◌∷◌, ◌++◌, length, Option, Some, IfSome, Result, Ok, Err, get_or, map, slice_set}
+use Rattle.std.specs.Prelude.{◌≡◌, ◌≢◌, ◌+◌, ℕ, ⊤, List, [], ◌∷◌, ◌++◌, Option, Some, None, IfSome, Result, Ok, Err}
 use Rattle.std.specs.BTreeMap.{BTreeMap, IsUnchanged, get}
 use Rattle.std.specs.Ordering.{nat_cmp}
 use Rattle.std.specs.declared.alloc.AllocError.{AllocError}
@@ -10,22 +10,11 @@ use Rattle.session_table.specs.Purses.{OthersStay, Sessions, Turned}
 use Rattle.xmpp_backend.specs.Counts.{Counts}
 use Rattle.xmpp_backend.specs.Told.{Told}
 use Rattle.session_pump.specs.Dues.{Dues}
-use Rattle.session_pump.specs.Ends.{Ends, ends_of}
-use Rattle.session_pump.specs.Sides.{Side}
-use Rattle.session_pump.specs.declared.hosts.Stand.{Stand}
+pub use Rattle.session_pump.specs.Calling.{both}
+pub use Rattle.session_pump.specs.Hosts.{HostFacts, HostTurns, facts_of, hosts_of}
+use Rattle.session_pump.specs.Sides.{AreOpened, Served, served}
 use Rattle.session_pump.specs.declared.line.Line.{Line}
-use Rattle.session_pump.specs.declared.line.Owing.{Owing}
-use Rattle.session_pump.specs.declared.line.Stage.TheVariants as stages
 use Rattle.session_pump.specs.declared.pump.Pump.{Pump}
-
--- a host: what is kept of what its back end gave, and its back ends
-pub record HostFacts : Type 0 where
-  pub kept : Option Owing
-  pub ends : Ends
-
--- by what its back ends tell and count
-abbrev pub facts_of : {E : Type 0} → (E → Option Told) → (E → Counts) → Stand E → HostFacts
-facts_of told counts stand = record { kept = stand.kept; ends = ends_of told counts stand }
 
 abbrev pub Lines : Type 0
 Lines = BTreeMap ℕ Line
@@ -49,18 +38,13 @@ pumping_of told counts pump = record {
   directory = known pump.purse.directory;
   sessions = pump.purse.sessions;
   lines = pump.lines;
-  hosts = map (facts_of told counts) pump.hosts.stands.items;
+  hosts = hosts_of told counts pump.hosts;
   dues = pump.dues;
 }
 
 -- something that a pump does, and whether there was memory for it
 abbrev pub Step : Type 1
 Step = Pumping → Pumping → Result ⊤ AllocError → Type 0
-
--- what is answered for two things that were both tried
-abbrev pub both : Result ⊤ AllocError → Result ⊤ AllocError → Result ⊤ AllocError
-both (Ok done) second = second
-both (Err error) second = Err error
 
 -- the one and then the other; the other isn't tried where there was no memory for the one
 pub data Then (First Second : Step) (a : Pumping) : Pumping → Result ⊤ AllocError → Type 0 where
@@ -85,37 +69,27 @@ pub record LineTurns (number : ℕ) (old new : Lines) (was is : Line) : Type 0 w
   pub after : line_of new number ≡ Some is
   pub others : (other : ℕ) → other ≢ number → line_of new other ≡ line_of old other
 
--- the host at this place was this and is that, and the other hosts are as before
-pub record HostTurns (place : ℕ) (old new : List HostFacts) (was is : HostFacts) : Type 0 where
-  pub within : place < length old
-  pub before : was ≡ get_or old place was
-  pub after : new ≡ slice_set old place is
+-- the session has no line
+abbrev pub HasNoLine : Pumping → ℕ → Type 0
+HasNoLine a number = line_of a.lines number ≡ None
 
-abbrev pub side : Known journal.Entry → Line → Ends → Side
-side known line ends = record { known = known; line = line; ends = ends }
+-- each stream of the session under this number was opened, where it has a line
+abbrev pub HasOpened : ℕ → Lines → Type 0
+HasOpened number lines = IfSome (line_of lines number) (λ line. AreOpened line.sides.items)
 
--- the session has no line to a host
-abbrev pub HasNoHost : Pumping → ℕ → Type 0
-HasNoHost a number = IfSome (line_of a.lines number) (λ line. IfSome line.host (λ place. length a.hosts ≤ place))
-
--- the wire of the session under this number was opened at its host, where it has one among so many
-abbrev pub HasOpened : ℕ → Lines → ℕ → Type 0
-HasOpened number lines count = IfSome (line_of lines number) (λ line. IfSome line.host (λ place. place < count → line.stage ≢ stages.Unopened))
-
--- something is done to the session under this number: to it, its line and the back ends of its host; or to it alone, where it has
--- no host. Nothing else changes
-pub data OnLine (OnHost : Side → Side → Result ⊤ AllocError → Type 0)
+-- something is done to the session under this number: to it, its line and the back ends of its streams' hosts; or to it alone, where it has
+-- no line. Nothing else changes
+pub data OnLine (OnHosts : Served → Served → Result ⊤ AllocError → Type 0)
     (Alone : Known journal.Entry → Known journal.Entry → Result ⊤ AllocError → Type 0)
     (number : ℕ) (a : Pumping) : Pumping → Result ⊤ AllocError → Type 0 where
-  on_host : {result : Result ⊤ AllocError} (sessions : Sessions) (lines : Lines) (hosts : List HostFacts) (place : ℕ) (line later : Line) (host : HostFacts) (ends : Ends)
-      → LineTurns number a.lines lines line later → line.host ≡ Some place → later.host ≡ Some place
-      → HostTurns place a.hosts hosts host (record host { ends = ends })
-      → Turned number a.sessions sessions (λ old new. OnHost (side old line host.ends) (side new later ends) result)
+  on_line : {result : Result ⊤ AllocError} (sessions : Sessions) (lines : Lines) (hosts : List HostFacts) (line later : Line)
+      → LineTurns number a.lines lines line later
+      → Turned number a.sessions sessions (λ old new. OnHosts (served old line a.hosts) (served new later hosts) result)
       → OthersStay number a.sessions sessions
-      → OnLine OnHost Alone number a (record a { sessions = sessions; lines = lines; hosts = hosts }) result
-  alone : {result : Result ⊤ AllocError} (sessions : Sessions) → HasNoHost a number
+      → OnLine OnHosts Alone number a (record a { sessions = sessions; lines = lines; hosts = hosts }) result
+  alone : {result : Result ⊤ AllocError} (sessions : Sessions) → HasNoLine a number
       → Turned number a.sessions sessions (λ old new. Alone old new result) → OthersStay number a.sessions sessions
-      → OnLine OnHost Alone number a (record a { sessions = sessions }) result
+      → OnLine OnHosts Alone number a (record a { sessions = sessions }) result
 
 -- the session under this number was called or asked so, and nothing else changed
 pub record AsksSession (Says : Known journal.Entry → Known journal.Entry → Type 0) (number : ℕ) (a b : Pumping) : Type 0 where

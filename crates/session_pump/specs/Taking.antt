@@ -21,16 +21,17 @@ use Rattle.session_pump.specs.declared.giving.Giving.{Giving}
 use Rattle.session_pump.specs.declared.giving.Giving.TheVariants as givings
 use Rattle.session_pump.specs.declared.line.Owing.{Owing}
 
--- the session took the stanza, or has ended or its stream was closed; or its stream was closed
-abbrev pub Takes : Option ℕ → Given → Known Entry → Known Entry → Type 0
-Takes moment (given.Stanza text) old new =
-    (now : ℕ) × (taken : Taken) × IsAt moment now × (taken ≢ takings.Full) × Called (calls.Back 0 text now) (Ok (replies.Back taken)) old new
-Takes moment (given.Closed closing) old new = ClosesStream moment closing (Ok tt) old new
+-- the session took the stanza on this stream, or has ended or that stream isn't open; or the stream was closed
+abbrev pub Takes : Option ℕ → ℕ → Given → Known Entry → Known Entry → Type 0
+Takes moment stream (given.Stanza text) old new =
+    (now : ℕ) × (taken : Taken) × IsAt moment now × (taken ≢ takings.Full) × Called (calls.Back stream text now) (Ok (replies.Back taken)) old new
+Takes moment stream (given.Closed closing) old new = ClosesStream moment stream closing (Ok tt) old new
 
 -- the session has no room for the stanza
-abbrev pub Refuses : Option ℕ → Given → Known Entry → Known Entry → Type 0
-Refuses moment (given.Stanza text) old new = (now : ℕ) × IsAt moment now × Called (calls.Back 0 text now) (Ok (replies.Back takings.Full)) old new
-Refuses moment (given.Closed closing) old new = ⊥
+abbrev pub Refuses : Option ℕ → ℕ → Given → Known Entry → Known Entry → Type 0
+Refuses moment stream (given.Stanza text) old new =
+    (now : ℕ) × IsAt moment now × Called (calls.Back stream text now) (Ok (replies.Back takings.Full)) old new
+Refuses moment stream (given.Closed closing) old new = ⊥
 
 -- the session wasn't asked, or was asked and nothing was added
 pub data IsAsked : Known Entry → Known Entry → Type 0 where
@@ -43,10 +44,10 @@ pub data Tried : Known Entry → Known Entry → Type 0 where
   called : {k m : Known Entry} (call : Call) (error : AllocError) → Called call (Err error) k m → Tried k m
 
 -- what became of what was given
-abbrev pub Gives : Option ℕ → Given → Result Giving AllocError → Known Entry → Known Entry → Type 0
-Gives moment what (Ok givings.Done) old new = Takes moment what old new
-Gives moment what (Ok givings.Full) old new = Refuses moment what old new
-Gives moment what (Err error) old new = Tried old new
+abbrev pub Gives : Option ℕ → ℕ → Given → Result Giving AllocError → Known Entry → Known Entry → Type 0
+Gives moment stream what (Ok givings.Done) old new = Takes moment stream what old new
+Gives moment stream what (Ok givings.Full) old new = Refuses moment stream what old new
+Gives moment stream what (Err error) old new = Tried old new
 
 -- whether a stanza of so many bytes may wait beside what waits
 abbrev pub has_room : Waiting → ℕ → Bool
@@ -75,5 +76,5 @@ OnceReady owing Given k m = (l : Known Entry) × IsReady owing k l × Given l m
 
 -- the session refused what is given, or was asked for room and lacks it
 pub data FindsNoRoom (moment : Option ℕ) (owing : Owing) : Known Entry → Known Entry → Type 0 where
-  is_full : {k m : Known Entry} → OnceReady owing (Refuses moment owing.given) k m → FindsNoRoom moment owing k m
+  is_full : {k m : Known Entry} → OnceReady owing (Refuses moment owing.stream owing.given) k m → FindsNoRoom moment owing k m
   lacks_room : {k m : Known Entry} → Looks (LacksRoom owing.given) k m → FindsNoRoom moment owing k m

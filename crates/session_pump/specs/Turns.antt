@@ -1,9 +1,7 @@
 -- A turn of the pump: what it does for each session and for each host, one after the other.
-use Rattle.std.specs.Prelude.{◌≡◌, ◌≢◌, ◌≤◌, ◌*◌, ◌^◌, ℕ, ⊤, false, List, length, Option, Some, None, IfSome, IsSome, Result, Ok, Err, bytes_eq}
+use Rattle.std.specs.Prelude.{◌≡◌, ◌≢◌, ◌≤◌, ◌+◌, ◌^◌, ◌∷◌, ℕ, ⊤, List, [], length, map, slice_get, Option, Some, None, IsSome, Result, Ok, Err}
 use Rattle.std.specs.BTreeMap.{IsUnchanged}
-use Rattle.std.specs.List.{list_any}
 use Rattle.std.specs.declared.alloc.AllocError.{AllocError}
-use Rattle.bosh_types.specs.Limits.{most_streams}
 use Rattle.bosh_types.specs.declared.ending.Closing.TheVariants.{SystemShutdown}
 use Rattle.bosh_types.specs.declared.inward.Inward.{Inward}
 use Rattle.parked_gate.specs.Passes.{Calls, Grows, Known, Looks}
@@ -26,11 +24,12 @@ use Rattle.session_pump.specs.Dues.{Dues, IsNotedAs}
 use Rattle.session_pump.specs.Ends.{Ends, HasFailed, StaysAs, telling}
 use Rattle.session_pump.specs.Giving.{PollsHost, at_host}
 use Rattle.session_pump.specs.Leaving.{HasNothing, IsAtRest}
-use Rattle.session_pump.specs.Places.{IsFirstPlace}
 use Rattle.session_pump.specs.Pumping.{AsksDirectory, AsksSession, Each, EachPlace, HostFacts, HostTurns, Lines, OnLine, Pumping, Then, both, line_of}
-use Rattle.session_pump.specs.Calling.{Called, ClosesStream, IsAt, Ticks}
-use Rattle.session_pump.specs.Sides.{IsCut, IsOpen, Moves, PassesAll, Serves, Side}
+use Rattle.session_pump.specs.Calling.{Called, ClosesEach, IsAt, Ticks}
+use Rattle.session_pump.specs.Sides.{IsNewSide, IsOpen, IsOpenAmong, OnStrand, PassesAll, Served, Serves, Strand, TellsCut}
 use Rattle.session_pump.specs.declared.line.Line.{Line}
+use Rattle.session_pump.specs.declared.line.Side.{Side}
+use Rattle.session_pump.specs.declared.line.Stage.{Stage}
 use Rattle.session_pump.specs.declared.line.Stage.TheVariants as stages
 
 -- items were taken of a session, one after the other
@@ -48,18 +47,27 @@ pub data ServesAlone (moment : Option ℕ) (k : Known journal.Entry) : Known jou
   no_time : {m : Known journal.Entry} (error other : AllocError) → Ticks moment (Err error) k m → ServesAlone moment k m (Err other)
   ticked : {l m : Known journal.Entry} {result : Result ⊤ AllocError} → Ticks moment (Ok tt) k l → TakesAll l m result → ServesAlone moment k m result
 
--- the wire of a session that is to be removed was closed, where it was open
-pub data ClosesWire (s : Side) : Side → Result ⊤ AllocError → Type 0 where
-  was_closed : (IsOpen s → ⊥) → ClosesWire s s (Ok tt)
-  closes_it : (told : Option Told) → IsOpen s → Becomes s.ends.standing.told told (closed_too s.line.wire)
-      → ClosesWire s (record s { ends = telling told s.ends; line = record s.line { stage = stages.Lost } }) (Ok tt)
+-- the open wire of a stream of a session that is to be removed was closed
+pub data ClosesWire (s : Strand) : Strand → Result ⊤ AllocError → Type 0 where
+  closes_it : (told : Option Told) → IsOpen s → Becomes s.ends.standing.told told (closed_too s.side.wire)
+      → ClosesWire s (record s { ends = telling told s.ends; side = record s.side { stage = stages.Lost } }) (Ok tt)
   fails_at_it : (ends : Ends) → IsOpen s → HasFailed s.ends ends → ClosesWire s (record s { ends = ends }) (Ok tt)
   wants_memory : (told : Option Told) (error : AllocError) → StaysAs s.ends.standing.told told → ClosesWire s (record s { ends = telling told s.ends }) (Err error)
 
--- the session was told where its back end failed since the wire was opened, or there was no memory
-abbrev pub TellsCut : Option ℕ → Side → Side → Result ⊤ AllocError → Type 0
-TellsCut moment s t (Ok done) = Moves moment s t × (IsCut t → ⊥)
-TellsCut moment s t (Err error) = Moves moment s t
+-- that of the stream at this place, where it is open
+pub data ClosesAt (place : ℕ) (s : Served) : Served → Result ⊤ AllocError → Type 0 where
+  isnt_open : (side : Side) → slice_get s.line.sides place ≡ Some side → (IsOpenAmong s.hosts side → ⊥) → ClosesAt place s s (Ok tt)
+  is_open : {t : Served} {result : Result ⊤ AllocError} → OnStrand (λ a b. ClosesWire a b result) place s t → ClosesAt place s t result
+
+-- that of each stream below this place, in turn
+pub data ClosesBelow (s : Served) : ℕ → Served → Type 0 where
+  closed_none : ClosesBelow s 0 s
+  closed_one : {t u : Served} (place : ℕ) → ClosesBelow s place t → ClosesAt place t u (Ok tt) → ClosesBelow s (place + 1) u
+
+-- each open wire of a session that is to be removed was closed, or there was no memory for one
+abbrev pub ClosesWires : Served → Served → Result ⊤ AllocError → Type 0
+ClosesWires s t (Ok done) = ClosesBelow s (length s.line.sides) t
+ClosesWires s t (Err error) = (place : ℕ) × (mid : Served) × (wanted : AllocError) × ClosesBelow s place mid × ClosesAt place mid t (Err wanted)
 
 -- these are the live sessions, by the directory, which was asked for them now
 abbrev pub AsksLive : List LiveSession → Pumping → Pumping → Type 0
@@ -74,14 +82,19 @@ pub data Notes (number : ℕ) (due : Option ℕ) (a : Pumping) : Pumping → Res
   noted : (dues : Dues) → IsNotedAs number due a.dues dues → Notes number due a (record a { dues = dues }) (Ok tt)
   noted_not : (error : AllocError) → Notes number due a a (Err error)
 
--- a new line for the session under this number, to the first host of the name that the session gave, where there is one
+-- where a stream stands that its session began with: where the session's host is none of the server's it has no wire, and needs not be told
+abbrev pub first_stage : Option ℕ → Stage
+first_stage None = stages.Lost
+first_stage (Some place) = stages.Unopened
+
+-- a new line for the session under this number, with stream 0 to the first host of the name that the session gave, where there is one
 pub record IsNewLine (number : ℕ) (name : List ℕ) (hosts : List HostFacts) (line : Line) : Type 0 where
-  pub wire : line.wire ≡ number * most_streams
-  pub stage : line.stage ≡ stages.Unopened
+  pub opening : line.opening ≡ number
   pub kept : line.kept ≡ None
-  pub owed : line.owed ≡ None
-  pub place : IfSome line.host (λ place. IsFirstPlace (λ host. bytes_eq host.ends.name name) hosts place)
-  pub nowhere : line.host ≡ None → list_any (λ host. bytes_eq host.ends.name name) hosts ≡ false
+  pub side : Side
+  pub alone : line.sides.items ≡ side ∷ []
+  pub new : IsNewSide number 0 name hosts side
+  pub stage : side.stage ≡ first_stage side.host
 
 -- The session under this number has a line: it had one, which stays, or it had none, its history told its host's name and one was
 -- made. None is made where its number has more than 32 bits
@@ -109,13 +122,13 @@ pub data Removes (number : ℕ) (sid : List ℕ) (a : Pumping) : Pumping → Res
       → Removes number sid a b (Err error)
 
 -- The session under this number was asked what there is to do for it. Where it goes on, it was noted when it is due; where it has ended,
--- all that was left inward of it was passed on, its wire was closed, and it was removed
+-- all that was left inward of it was passed on, each open wire of it was closed, and it was removed
 pub data RemovesEnded (moment : Option ℕ) (number : ℕ) (sid : List ℕ) (a : Pumping) : Pumping → Result ⊤ AllocError → Type 0 where
   goes_on : {b c : Pumping} {result : Result ⊤ AllocError} (state : State) → AnswersState state number a b → state.ending ≡ None
       → Notes number state.due b c result → RemovesEnded moment number sid a c result
   has_ended : {b c : Pumping} {result : Result ⊤ AllocError} (state : State) → AnswersState state number a b → IsSome state.ending
       → Then (OnLine (PassesAll moment) TakesAll number)
-      (Then (OnLine ClosesWire (λ k m done. (m ≡ k) × (done ≡ Ok tt)) number) (Removes number sid)) b c result
+      (Then (OnLine ClosesWires (λ k m done. (m ≡ k) × (done ≡ Ok tt)) number) (Removes number sid)) b c result
       → RemovesEnded moment number sid a c result
 
 -- A session that was met was left alone: it was asked what there is to do for it, and that was nothing; its line was at rest; and it was
@@ -130,7 +143,7 @@ pub record LeavesAlone (moment : Option ℕ) (number : ℕ) (a b : Pumping) (res
   pub rests : IsAtRest number asked
   pub notes : Notes number state.due asked b result
 
--- A session that was met was left alone, or else, once it was asked what there is to do for it, it was served: its wire was opened, time
+-- A session that was met was left alone, or else, once it was asked what there is to do for it, it was served: its wires were opened, time
 -- passed for it, and what is inward of it was passed on until nothing was left; and it was removed where it has ended
 pub data ServesMet (moment : Option ℕ) (number : ℕ) (sid : List ℕ) (a : Pumping) : Pumping → Result ⊤ AllocError → Type 0 where
   left_alone : {b : Pumping} {result : Result ⊤ AllocError} → LeavesAlone moment number a b result → ServesMet moment number sid a b result
@@ -181,14 +194,19 @@ pub data Turns (moment : Option ℕ) (a : Pumping) : Pumping → Result ℕ Allo
       → AsksLive live a b → Each (ServesOne moment) b live c served → EachPlace (PollsAt moment) c (length c.hosts) d polled
       → Each (TellsOne moment) d live e told → CountsLive e f (both served (both polled told)) result → Turns moment a f result
 
--- a session was told that the server goes away, or there was no memory for it, or it was live no longer
+-- the streams of a session that were met, or the one that it began with
+abbrev pub streams_of : Option Line → List ℕ
+streams_of None = 0 ∷ []
+streams_of (Some line) = map (λ side. side.stream) line.sides.items
+
+-- a session was told of each of its streams that the server goes away, or there was no memory for it, or it was live no longer
 pub data ShutsOne (moment : Option ℕ) (session : LiveSession) (a : Pumping) : Pumping → Result ⊤ AllocError → Type 0 where
   shut_before : {b : Pumping}
       → AsksDirectory (Calls (λ e. e.caller) (λ before made. (made ≡ None) × (live_at before session.sid ≡ None))) a b
       → ShutsOne moment session a b (Ok tt)
   shut_not : {b : Pumping} (error : AllocError) → AsksDirectory Grows a b → ShutsOne moment session a b (Err error)
   shut : {b c : Pumping} {result : Result ⊤ AllocError} (number : ℕ) → FindsSession session.sid number a b
-      → AsksSession (ClosesStream moment SystemShutdown result) number b c → ShutsOne moment session a c result
+      → AsksSession (λ old new. ClosesEach moment SystemShutdown old (streams_of (line_of b.lines number)) result new) number b c → ShutsOne moment session a c result
 
 -- The directory was asked which sessions are live, and each of them was told that the server goes away. Nothing else was done
 pub data ShutsDown (moment : Option ℕ) (a : Pumping) : Pumping → Result ⊤ AllocError → Type 0 where

@@ -44,15 +44,16 @@ pub(crate) fn give<R: Wait, C: Clock, B: Bell>(
     bell: &mut B,
 ) -> Result<Giving, AllocError>
     requires { IsSome (held purse.old.sessions number) }
-    ensures gives { Turned number purse.old.sessions purse.new.sessions (Gives (C.moment clock.now) owing.now.given result) }
+    ensures gives { Turned number purse.old.sessions purse.new.sessions (Gives (C.moment clock.now) owing.now.stream owing.now.given result) }
     ensures others { OthersStay number purse.old.sessions purse.new.sessions }
     ensures directory { purse.new.directory ≡ purse.old.directory }
     ensures silences { B.silences bell.new ≡ B.silences bell.old }
 {
+    let stream = owing.stream;
     match &owing.given {
-        Given::Stanza(stanza) => give_stanza(rt, purse, number, clock, bell, stanza),
+        Given::Stanza(stanza) => give_stanza(rt, purse, number, stream, clock, bell, stanza),
         Given::Closed(closing) => {
-            match close_stream(rt, purse, number, clock, bell, *closing) {
+            match close_stream(rt, purse, number, stream, clock, bell, *closing) {
                 Ok(()) => Ok(Giving::Done),
                 Err(AllocError) => Err(AllocError),
             }
@@ -60,18 +61,19 @@ pub(crate) fn give<R: Wait, C: Clock, B: Bell>(
     }
 }
 
-// Gives a session a stanza.
+// Gives a session a stanza on one of its streams.
 fn give_stanza<R: Wait, C: Clock, B: Bell>(
     rt: &R,
     purse: &mut Purse,
     number: u64,
+    stream: StreamNo,
     clock: &C,
     bell: &mut B,
     stanza: &SharedText,
 ) -> Result<Giving, AllocError>
     requires held { IsSome (held purse.old.sessions number) }
     requires stanza { IsTrue (is_stanza stanza.now) }
-    ensures gives { Turned number purse.old.sessions purse.new.sessions (Gives (C.moment clock.now) (given.Stanza stanza.now) result) }
+    ensures gives { Turned number purse.old.sessions purse.new.sessions (Gives (C.moment clock.now) stream (given.Stanza stanza.now) result) }
     ensures others { OthersStay number purse.old.sessions purse.new.sessions }
     ensures directory { purse.new.directory ≡ purse.old.directory }
     ensures silences { B.silences bell.new ≡ B.silences bell.old }
@@ -80,7 +82,6 @@ fn give_stanza<R: Wait, C: Clock, B: Bell>(
         return Err(AllocError);
     };
     let now = clock.now();
-    let stream = StreamNo::unnamed();
     let call = Call::Back {
         stream,
         stanza,

@@ -13,10 +13,11 @@ mod polling;
 mod pump;
 mod serving;
 mod session;
+mod sides;
 mod turn;
 
 pub use hosts::{Host, Hosts, Replaced, Stand};
-pub use line::{Line, Owing, Stage};
+pub use line::{Line, Owing, Side, Stage};
 pub use news::{Met, News, Removed};
 pub use polling::poll_host;
 pub use pump::Pump;

@@ -1,17 +1,19 @@
-// One session in a turn: its wire, its time, and what is inward of it.
-ghost use Rattle.std.specs.Prelude.{◌≡◌, ◌≢◌, ◌⊎◌, ℕ, IsSome, OnOk, Option};
+// One session in a turn: its wires, its time, and what is inward of it.
+ghost use Rattle.std.specs.Prelude.{◌≡◌, ◌≢◌, ◌⊎◌, ℕ, IsSome, OnErr, OnOk, Option, Some, slice_get};
+ghost use Rattle.bosh_types.specs.declared.ending.Closing.TheVariants.{RemoteConnectionFailed};
+ghost use Rattle.bosh_types.specs.declared.inward.Inward.{Inward};
 ghost use Rattle.parked_gate.specs.Passes.{Known};
 ghost use Rattle.session_journal.specs.declared.entry.Entry.{Entry};
 ghost use Rattle.session_table.specs.Purses.{OthersStay, Turned, held};
 ghost use Rattle.xmpp_backend.specs.Told.{resumed_too};
 ghost use Rattle.session_pump.specs.Ends.{Changes, ends_of};
-ghost use Rattle.session_pump.specs.Pumping.{side};
+ghost use Rattle.session_pump.specs.Hosts.{hosts_of};
 ghost use Rattle.session_pump.specs.Calling.{ClosesStream, Ticks};
-ghost use Rattle.session_pump.specs.Sides.{Moves, Serves, Tries};
+ghost use Rattle.session_pump.specs.Sides.{AreOpened, IsCutAmong, LineFacts, Moves, Serves, StrandMoves, TellsCut, Tries, TriesOrMoves, TriesStrand, served, serving, strand, with_side};
 
 use crate::giving::{Giving, give, may_take};
-use crate::hosts::Stand;
-use crate::line::{Line, Stage};
+use crate::hosts::{Hosts, Stand};
+use crate::line::{Line, Side, Stage};
 use crate::passing::pass_all;
 use bosh_ports::{Bell, BellKey};
 use bosh_types::{Closing, StreamNo, Wire};
@@ -23,62 +25,268 @@ use std::alloc::AllocError;
 use std::sync::Wait;
 use xmpp_backend::{Backend, Passed};
 
-/// Serves one session of a host: opens its wire where that wasn't done, tells it that its back end failed where it did, lets time
-/// pass, gives it what it had no room for, and passes on what is inward. The only error is want of memory.
+/// Serves one session: opens the wires of its streams where that wasn't done, tells it of those whose back ends failed, lets time pass,
+/// gives it what it had no room for, and passes on what is inward. The only error is want of memory.
 pub fn serve_line<R: Wait, C: Clock, B: Bell, E: Backend>(
     rt: &R,
     purse: &mut Purse,
     number: u64,
     line: &mut Line,
-    stand: &mut Stand<E>,
+    hosts: &mut Hosts<E>,
     clock: &C,
     bell: &mut B,
 ) -> Result<(), AllocError>
     requires { IsSome (held purse.old.sessions number) }
     ensures serves { Turned number purse.old.sessions purse.new.sessions (λ old new. Serves (C.moment clock.now)
-        (side old line.old (ends_of E.told E.counts stand.old))
-        (side new line.new (ends_of E.told E.counts stand.new))
+        (served old line.old (hosts_of E.told E.counts hosts.old))
+        (served new line.new (hosts_of E.told E.counts hosts.new))
         result) }
-    ensures opened { OnOk result (line.new.stage ≢ Stage.Unopened) }
-    ensures host { line.new.host ≡ line.old.host }
-    ensures kept { stand.new.kept ≡ stand.old.kept }
-    ensures name { stand.new.host.name ≡ stand.old.host.name }
+    ensures opened { OnOk result (AreOpened line.new.sides.items) }
     ensures others { OthersStay number purse.old.sessions purse.new.sessions }
     ensures directory { purse.new.directory ≡ purse.old.directory }
     ensures silences { B.silences bell.new ≡ B.silences bell.old }
 {
-    open_wire(line, stand)?;
-    tell_cut(rt, purse, number, line, stand, clock, bell)?;
+    open_streams(rt, purse, number, line, hosts, clock, bell)?;
+    tell_streams(rt, purse, number, line, hosts, clock, bell)?;
     tick(rt, purse, number, clock, bell)?;
-    give_owed(rt, purse, number, line, stand, clock, bell)?;
-    pass_all(rt, purse, number, line, stand)
+    give_streams(rt, purse, number, line, hosts, clock, bell)?;
+    pass_all(rt, purse, number, line, hosts, clock, bell)
 }
 
-// Gives a session what it had no room for, where it has room now or has ended, and resumes its wire then.
-fn give_owed<R: Wait, C: Clock, B: Bell, E: Backend>(
+// Opens the wire of each stream, where that wasn't done yet.
+fn open_streams<R: Wait, C: Clock, B: Bell, E: Backend>(
     rt: &R,
     purse: &mut Purse,
     number: u64,
     line: &mut Line,
-    stand: &mut Stand<E>,
+    hosts: &mut Hosts<E>,
+    clock: &C,
+    bell: &mut B,
+) -> Result<(), AllocError>
+    requires { IsSome (held purse.old.sessions number) }
+    ensures moves { Turned number purse.old.sessions purse.new.sessions (λ old new. Moves (C.moment clock.now)
+        (served old line.old (hosts_of E.told E.counts hosts.old))
+        (served new line.new (hosts_of E.told E.counts hosts.new))) }
+    ensures opened { OnOk result (AreOpened line.new.sides.items) }
+    ensures others { OthersStay number purse.old.sessions purse.new.sessions }
+    ensures directory { purse.new.directory ≡ purse.old.directory }
+    ensures silences { B.silences bell.new ≡ B.silences bell.old }
+{
+    for place in 0..line.sides.len() {
+        let Some(side) = line.sides.get_mut(place) else {
+            unreachable!();
+        };
+        open_side(rt, purse, number, side, hosts, clock, bell)?;
+    }
+    Ok(())
+}
+
+/// Tells a session of each stream whose back end failed since its wire was opened. The only error is want of memory.
+pub(crate) fn tell_streams<R: Wait, C: Clock, B: Bell, E: Backend>(
+    rt: &R,
+    purse: &mut Purse,
+    number: u64,
+    line: &mut Line,
+    hosts: &Hosts<E>,
+    clock: &C,
+    bell: &mut B,
+) -> Result<(), AllocError>
+    requires { IsSome (held purse.old.sessions number) }
+    ensures tells { Turned number purse.old.sessions purse.new.sessions (λ old new. TellsCut (C.moment clock.now)
+        (served old line.old (hosts_of E.told E.counts hosts.now))
+        (served new line.new (hosts_of E.told E.counts hosts.now))
+        result) }
+    ensures opened { AreOpened line.old.sides.items → AreOpened line.new.sides.items }
+    ensures others { OthersStay number purse.old.sessions purse.new.sessions }
+    ensures directory { purse.new.directory ≡ purse.old.directory }
+    ensures silences { B.silences bell.new ≡ B.silences bell.old }
+{
+    for place in 0..line.sides.len() {
+        let Some(side) = line.sides.get_mut(place) else {
+            unreachable!();
+        };
+        tell_side(rt, purse, number, side, hosts, clock, bell)?;
+    }
+    Ok(())
+}
+
+// Gives a session what it had no room for, where it has room now or has ended.
+fn give_streams<R: Wait, C: Clock, B: Bell, E: Backend>(
+    rt: &R,
+    purse: &mut Purse,
+    number: u64,
+    line: &mut Line,
+    hosts: &mut Hosts<E>,
     clock: &C,
     bell: &mut B,
 ) -> Result<(), AllocError>
     requires { IsSome (held purse.old.sessions number) }
     ensures tries { Turned number purse.old.sessions purse.new.sessions (λ old new. Tries (C.moment clock.now)
-        (side old line.old (ends_of E.told E.counts stand.old))
-        (side new line.new (ends_of E.told E.counts stand.new))
+        (served old line.old (hosts_of E.told E.counts hosts.old))
+        (served new line.new (hosts_of E.told E.counts hosts.new))
         result) }
-    ensures stage { line.new.stage ≡ line.old.stage }
-    ensures host { line.new.host ≡ line.old.host }
-    ensures kept { stand.new.kept ≡ stand.old.kept }
-    ensures name { stand.new.host.name ≡ stand.old.host.name }
+    ensures opened { AreOpened line.old.sides.items → AreOpened line.new.sides.items }
     ensures others { OthersStay number purse.old.sessions purse.new.sessions }
     ensures directory { purse.new.directory ≡ purse.old.directory }
     ensures silences { B.silences bell.new ≡ B.silences bell.old }
 {
-    let Some(owing) = &line.owed else {
+    for place in 0..line.sides.len() {
+        let Some(side) = line.sides.get_mut(place) else {
+            unreachable!();
+        };
+        give_side(rt, purse, number, side, hosts, clock, bell)?;
+    }
+    Ok(())
+}
+
+/// Opens the wire of a stream at the back end of its host, where that wasn't done yet. Where it has none its session is told so. The only
+/// error is want of memory.
+pub(crate) fn open_side<R: Wait, C: Clock, B: Bell, E: Backend>(
+    rt: &R,
+    purse: &mut Purse,
+    number: u64,
+    side: &mut Side,
+    hosts: &mut Hosts<E>,
+    clock: &C,
+    bell: &mut B,
+) -> Result<(), AllocError>
+    requires { IsSome (held purse.old.sessions number) }
+    ensures moves { (line : LineFacts) → (place : ℕ) → slice_get line.sides place ≡ Some side.old
+        → Turned number purse.old.sessions purse.new.sessions (λ old new. Moves (C.moment clock.now)
+        (serving old line (hosts_of E.told E.counts hosts.old))
+        (serving new (with_side place side.new line) (hosts_of E.told E.counts hosts.new))) }
+    ensures opened { OnOk result (side.new.stage ≢ Stage.Unopened) }
+    ensures others { OthersStay number purse.old.sessions purse.new.sessions }
+    ensures directory { purse.new.directory ≡ purse.old.directory }
+    ensures silences { B.silences bell.new ≡ B.silences bell.old }
+{
+    if !side.is_unopened() {
         return Ok(());
+    }
+    let Some(at) = side.host else {
+        return tell_nowhere(rt, purse, number, side, clock, bell);
+    };
+    let Some(stand) = hosts.stands.get_mut(at) else {
+        return tell_nowhere(rt, purse, number, side, clock, bell);
+    };
+    open_wire(side, stand)
+}
+
+// Tells a session that a stream has no host.
+fn tell_nowhere<R: Wait, C: Clock, B: Bell>(
+    rt: &R,
+    purse: &mut Purse,
+    number: u64,
+    side: &mut Side,
+    clock: &C,
+    bell: &mut B,
+) -> Result<(), AllocError>
+    requires held { IsSome (held purse.old.sessions number) }
+    requires unopened { side.old.stage ≡ Stage.Unopened }
+    ensures told { Turned number purse.old.sessions purse.new.sessions (ClosesStream (C.moment clock.now) side.old.stream RemoteConnectionFailed result) }
+    ensures lost { OnOk result (side.new ≡ record side.old { stage = Stage.Lost }) }
+    ensures err { OnErr result (side.new ≡ side.old) }
+    ensures others { OthersStay number purse.old.sessions purse.new.sessions }
+    ensures directory { purse.new.directory ≡ purse.old.directory }
+    ensures silences { B.silences bell.new ≡ B.silences bell.old }
+{
+    let closing = Closing::RemoteConnectionFailed;
+    match close_stream(rt, purse, number, side.stream, clock, bell, closing) {
+        Ok(()) => {
+            side.stage = Stage::Lost;
+            Ok(())
+        }
+        Err(AllocError) => Err(AllocError),
+    }
+}
+
+// Tells a session that the back end of a stream failed, where it did since the wire was opened.
+fn tell_side<R: Wait, C: Clock, B: Bell, E: Backend>(
+    rt: &R,
+    purse: &mut Purse,
+    number: u64,
+    side: &mut Side,
+    hosts: &Hosts<E>,
+    clock: &C,
+    bell: &mut B,
+) -> Result<(), AllocError>
+    requires { IsSome (held purse.old.sessions number) }
+    ensures moves { (line : LineFacts) → (place : ℕ) → slice_get line.sides place ≡ Some side.old
+        → Turned number purse.old.sessions purse.new.sessions (λ old new. Moves (C.moment clock.now)
+        (serving old line (hosts_of E.told E.counts hosts.now))
+        (serving new (with_side place side.new line) (hosts_of E.told E.counts hosts.now))) }
+    ensures uncut { OnOk result (IsCutAmong (hosts_of E.told E.counts hosts.now) side.new → ⊥) }
+    ensures opened { side.old.stage ≢ Stage.Unopened → side.new.stage ≢ Stage.Unopened }
+    ensures others { OthersStay number purse.old.sessions purse.new.sessions }
+    ensures directory { purse.new.directory ≡ purse.old.directory }
+    ensures silences { B.silences bell.new ≡ B.silences bell.old }
+{
+    let Some(at) = side.host else {
+        return Ok(());
+    };
+    let Some(stand) = hosts.stands.get(at) else {
+        return Ok(());
+    };
+    tell_cut(rt, purse, number, side, stand, clock, bell)
+}
+
+// Gives a session what it had no room for on a stream, where it has room now or has ended.
+fn give_side<R: Wait, C: Clock, B: Bell, E: Backend>(
+    rt: &R,
+    purse: &mut Purse,
+    number: u64,
+    side: &mut Side,
+    hosts: &mut Hosts<E>,
+    clock: &C,
+    bell: &mut B,
+) -> Result<(), AllocError>
+    requires { IsSome (held purse.old.sessions number) }
+    ensures tries { (line : LineFacts) → (place : ℕ) → slice_get line.sides place ≡ Some side.old
+        → Turned number purse.old.sessions purse.new.sessions (λ old new. TriesOrMoves (C.moment clock.now) place
+        (serving old line (hosts_of E.told E.counts hosts.old))
+        (serving new (with_side place side.new line) (hosts_of E.told E.counts hosts.new))
+        result) }
+    ensures stage { side.new.stage ≡ side.old.stage }
+    ensures others { OthersStay number purse.old.sessions purse.new.sessions }
+    ensures directory { purse.new.directory ≡ purse.old.directory }
+    ensures silences { B.silences bell.new ≡ B.silences bell.old }
+{
+    if side.owed.is_none() {
+        return Ok(());
+    }
+    let Some(at) = side.host else {
+        return Ok(());
+    };
+    let Some(stand) = hosts.stands.get_mut(at) else {
+        return Ok(());
+    };
+    give_owed(rt, purse, number, side, stand, clock, bell)
+}
+
+// Gives a session what it had no room for, where it has room now or has ended, and resumes the wire then.
+fn give_owed<R: Wait, C: Clock, B: Bell, E: Backend>(
+    rt: &R,
+    purse: &mut Purse,
+    number: u64,
+    side: &mut Side,
+    stand: &mut Stand<E>,
+    clock: &C,
+    bell: &mut B,
+) -> Result<(), AllocError>
+    requires held { IsSome (held purse.old.sessions number) }
+    requires owes { IsSome side.old.owed }
+    ensures tries { (kept : Option Inward) → Turned number purse.old.sessions purse.new.sessions (λ old new. TriesStrand (C.moment clock.now)
+        (strand old kept side.old (ends_of E.told E.counts stand.old))
+        (strand new kept side.new (ends_of E.told E.counts stand.new))
+        result) }
+    ensures stage { side.new.stage ≡ side.old.stage }
+    ensures kept { stand.new.kept ≡ stand.old.kept }
+    ensures others { OthersStay number purse.old.sessions purse.new.sessions }
+    ensures directory { purse.new.directory ≡ purse.old.directory }
+    ensures silences { B.silences bell.new ≡ B.silences bell.old }
+{
+    let Some(owing) = &side.owed else {
+        unreachable!();
     };
     if !may_take(rt, purse, number, owing)? {
         return Ok(());
@@ -86,8 +294,8 @@ fn give_owed<R: Wait, C: Clock, B: Bell, E: Backend>(
     match give(rt, purse, number, owing, clock, bell) {
         Ok(Giving::Done) => {
             let wire = owing.wire;
-            line.owed = None;
-            resume_where_open(line, stand, wire);
+            side.owed = None;
+            resume_where_open(side, stand, wire);
             Ok(())
         }
         Ok(Giving::Full) => Ok(()),
@@ -95,83 +303,74 @@ fn give_owed<R: Wait, C: Clock, B: Bell, E: Backend>(
     }
 }
 
-// Resumes a wire of the session, where its own is open.
-fn resume_where_open<E: Backend>(line: &Line, stand: &mut Stand<E>, wire: Wire)
-    ensures ends { ((line.now.stage ≡ Stage.Opened stand.old.failures) × Changes (resumed_too wire)
+// Resumes a wire, where that of this stream is open.
+fn resume_where_open<E: Backend>(side: &Side, stand: &mut Stand<E>, wire: Wire)
+    ensures ends { ((side.now.stage ≡ Stage.Opened stand.old.failures) × Changes (resumed_too wire)
         (ends_of E.told E.counts stand.old) (ends_of E.told E.counts stand.new))
-        ⊎ ((line.now.stage ≢ Stage.Opened stand.old.failures)
+        ⊎ ((side.now.stage ≢ Stage.Opened stand.old.failures)
         × (ends_of E.told E.counts stand.new
         ≡ ends_of E.told E.counts stand.old)) }
     ensures kept { stand.new.kept ≡ stand.old.kept }
-    ensures name { stand.new.host.name ≡ stand.old.host.name }
 {
-    if !line.is_open_on(stand.failures) {
+    if !side.is_open_on(stand.failures) {
         return;
     }
     stand.resume(wire);
 }
 
-// Opens the wire of a session, where that wasn't done yet.
-fn open_wire<E: Backend>(line: &mut Line, stand: &mut Stand<E>) -> Result<(), AllocError>
-    ensures moves { (moment : Option ℕ) → (known : Known Entry) → Moves moment
-        (side known line.old (ends_of E.told E.counts stand.old))
-        (side known line.new (ends_of E.told E.counts stand.new)) }
-    ensures opened { OnOk result (line.new.stage ≢ Stage.Unopened) }
-    ensures host { line.new.host ≡ line.old.host }
+// Opens the wire of a stream, where that wasn't done yet.
+fn open_wire<E: Backend>(side: &mut Side, stand: &mut Stand<E>) -> Result<(), AllocError>
+    ensures moves { (moment : Option ℕ) → (known : Known Entry) → (kept : Option Inward) → StrandMoves moment
+        (strand known kept side.old (ends_of E.told E.counts stand.old))
+        (strand known kept side.new (ends_of E.told E.counts stand.new)) }
+    ensures opened { OnOk result (side.new.stage ≢ Stage.Unopened) }
     ensures kept { stand.new.kept ≡ stand.old.kept }
-    ensures name { stand.new.host.name ≡ stand.old.host.name }
 {
-    if !line.is_unopened() {
+    if !side.is_unopened() {
         return Ok(());
     }
     let failures = stand.failures;
-    match stand.open(line.wire) {
+    match stand.open(side.wire) {
         Passed::Done => {
-            line.stage = Stage::Opened(failures);
+            side.stage = Stage::Opened(failures);
             Ok(())
         }
         Passed::Failed => {
-            line.stage = Stage::Opened(failures);
+            side.stage = Stage::Opened(failures);
             Ok(())
         }
         Passed::NoMemory => Err(AllocError),
     }
 }
 
-/// Tells a session that its back end failed, where it did since the wire was opened. The only error is want of memory.
-pub(crate) fn tell_cut<R: Wait, C: Clock, B: Bell, E: Backend>(
+// Tells a session that the back end of a stream failed, where it did since the wire was opened.
+fn tell_cut<R: Wait, C: Clock, B: Bell, E: Backend>(
     rt: &R,
     purse: &mut Purse,
     number: u64,
-    line: &mut Line,
+    side: &mut Side,
     stand: &Stand<E>,
     clock: &C,
     bell: &mut B,
 ) -> Result<(), AllocError>
     requires { IsSome (held purse.old.sessions number) }
-    ensures moves { Turned number purse.old.sessions purse.new.sessions (λ old new. Moves (C.moment clock.now)
-        (side old line.old (ends_of E.told E.counts stand.now))
-        (side new line.new (ends_of E.told E.counts stand.now))) }
-    ensures opened { line.old.stage ≢ Stage.Unopened → line.new.stage ≢ Stage.Unopened }
-    ensures uncut { OnOk result ((on : ℕ) → line.new.stage ≡ Stage.Opened on → on ≡ stand.now.failures) }
-    ensures host { line.new.host ≡ line.old.host }
+    ensures moves { (kept : Option Inward) → Turned number purse.old.sessions purse.new.sessions (λ old new. StrandMoves (C.moment clock.now)
+        (strand old kept side.old (ends_of E.told E.counts stand.now))
+        (strand new kept side.new (ends_of E.told E.counts stand.now))) }
+    ensures opened { side.old.stage ≢ Stage.Unopened → side.new.stage ≢ Stage.Unopened }
+    ensures host { side.new.host ≡ side.old.host }
+    ensures uncut { OnOk result ((on : ℕ) → side.new.stage ≡ Stage.Opened on → on ≡ stand.now.failures) }
     ensures others { OthersStay number purse.old.sessions purse.new.sessions }
     ensures directory { purse.new.directory ≡ purse.old.directory }
     ensures silences { B.silences bell.new ≡ B.silences bell.old }
 {
-    if !line.is_cut_from(stand.failures) {
+    if !side.is_cut_from(stand.failures) {
         return Ok(());
     }
-    match close_stream(
-        rt,
-        purse,
-        number,
-        clock,
-        bell,
-        Closing::RemoteConnectionFailed,
-    ) {
+    let closing = Closing::RemoteConnectionFailed;
+    match close_stream(rt, purse, number, side.stream, clock, bell, closing) {
         Ok(()) => {
-            line.stage = Stage::Lost;
+            side.stage = Stage::Lost;
             Ok(())
         }
         Err(AllocError) => Err(AllocError),
@@ -211,23 +410,23 @@ fn ring_where_changed<B: Bell>(bell: &mut B, number: u64, reply: &Reply)
     }
 }
 
-/// Tells a session that its stream is closed. The only error is want of memory.
+/// Tells a session that one of its streams is closed. The only error is want of memory.
 pub(crate) fn close_stream<R: Wait, C: Clock, B: Bell>(
     rt: &R,
     purse: &mut Purse,
     number: u64,
+    stream: StreamNo,
     clock: &C,
     bell: &mut B,
     closing: Closing,
 ) -> Result<(), AllocError>
     requires { IsSome (held purse.old.sessions number) }
-    ensures closes { Turned number purse.old.sessions purse.new.sessions (ClosesStream (C.moment clock.now) closing result) }
+    ensures closes { Turned number purse.old.sessions purse.new.sessions (ClosesStream (C.moment clock.now) stream closing result) }
     ensures others { OthersStay number purse.old.sessions purse.new.sessions }
     ensures directory { purse.new.directory ≡ purse.old.directory }
     ensures silences { B.silences bell.new ≡ B.silences bell.old }
 {
     let now = clock.now();
-    let stream = StreamNo::unnamed();
     let call = Call::BackClosed {
         stream,
         closing,

@@ -1,26 +1,27 @@
 // One session in a turn.
-ghost use Rattle.std.specs.Prelude.{◌≡◌, ◌≢◌, ◌+◌, ◌-◌, ◌^◌, ◌<◌, ◌≤◌, ◌++◌, ◌∷◌, ◌⊎◌, [], ℕ, IfNone, IfOk, IfSome, IsOk, IsSome, List, None, Ok, OnErr, OnOk, Option, Some, false, length, min, true};
+ghost use Rattle.std.specs.Prelude.{◌≡◌, ◌≢◌, ◌+◌, ◌-◌, ◌^◌, ◌≤◌, ◌++◌, ◌∷◌, ◌⊎◌, [], ℕ, IfNone, IfOk, IfSome, IsOk, IsSome, List, None, Ok, OnErr, OnOk, Option, Some, false, min, slice_get, true};
 ghost use Rattle.std.specs.BTreeMap.{IsUnchanged};
+ghost use Rattle.bosh_types.specs.declared.inward.Inward.{Inward};
 ghost use Rattle.parked_gate.specs.Passes.{IsPassOf, Known, Looks, known};
 ghost use Rattle.session_journal.specs.declared.asking.Answer.TheVariants as answers;
 ghost use Rattle.session_journal.specs.declared.asking.Question.TheVariants as questions;
 ghost use Rattle.session_journal.specs.declared.entry.Entry.{Entry};
 ghost use Rattle.session_journal.specs.Seen.{Answers};
-ghost use Rattle.session_pump.specs.Leaving.{HasNothing, IsAtRest};
-ghost use Rattle.session_pump.specs.News.{host_by};
+ghost use Rattle.session_pump.specs.Leaving.{HasNothing, IsAtRest, RestsAt};
+ghost use Rattle.session_pump.specs.News.{host_by, host_in};
 ghost use Rattle.session_table.specs.Purses.{OthersStay, Turned, held};
 ghost use Rattle.session_pump.specs.Ends.{ends_of};
-ghost use Rattle.session_pump.specs.Sides.{PassesAll, Serves};
-ghost use Rattle.session_pump.specs.declared.line.Line.{Line};
-ghost use Rattle.session_pump.specs.Pumping.{HasOpened, OnLine, Then, line_of, pumping_of, side};
-ghost use Rattle.session_pump.specs.Turns.{ClosesWire, Meets, Removes, RemovesEnded, ServesAlone, ServesMet, ServesOne, TakesAll, TellsCut, TellsOne};
+ghost use Rattle.session_pump.specs.Hosts.{hosts_of};
+ghost use Rattle.session_pump.specs.Sides.{LineFacts, PassesAll, Serves, TellsCut, served, serving, strand, with_side};
+ghost use Rattle.session_pump.specs.Pumping.{HasOpened, OnLine, Then, line_of, pumping_of};
+ghost use Rattle.session_pump.specs.Turns.{ClosesAt, ClosesWire, ClosesWires, Meets, Removes, RemovesEnded, ServesAlone, ServesMet, ServesOne, TakesAll, TellsOne};
 
 use crate::dues::forget_due;
-use crate::hosts::Stand;
-use crate::line::{Line, Stage};
+use crate::hosts::{Hosts, Stand};
+use crate::line::{Line, Side, Stage};
 use crate::passing::{drop_all, pass_all};
 use crate::pump::Pump;
-use crate::serving::{serve_line, tell_cut, tick};
+use crate::serving::{serve_line, tell_streams, tick};
 use bosh_ports::Bell;
 use bosh_types::{Ending, Moment, SharedText, Text};
 use parked_gate::Gate;
@@ -33,7 +34,7 @@ use std::sync::Wait;
 use xmpp_backend::{Backend, Passed};
 
 impl<E: Backend> Pump<E> {
-    /// Serves one live session: opens its wire, lets time pass, passes its items on, and removes it where it has ended and none is
+    /// Serves one live session: opens its wires, lets time pass, passes its items on, and removes it where it has ended and none is
     /// left. The only error is want of memory, and then the next turn goes on from there.
     pub(crate) fn serve<R: Wait, C: Clock, B: Bell>(
         &mut self,
@@ -111,7 +112,7 @@ impl<E: Backend> Pump<E> {
             return self.note_answer(number, state.due);
         }
         self.serve_held(rt, clock, bell, number)?;
-        self.remove_ended(rt, directory, number, sid)
+        self.remove_ended(rt, directory, clock, bell, number, sid)
     }
 
     // Whether a session that answered so is left alone at this moment.
@@ -125,20 +126,17 @@ impl<E: Backend> Pump<E> {
         self.is_at_rest(number)
     }
 
-    // Whether the wire of a session is open on the back end that stands behind its host, and nothing is kept with its line.
+    // Whether nothing is to be done on the streams of a session, and nothing that was taken of it is kept.
     fn is_at_rest(&self, number: u64) -> bool
         ensures { result ≡ true → IsAtRest number (pumping_of E.told E.counts self.now) }
     {
         let Some(line) = self.lines.get(&number) else {
             return false;
         };
-        let Some(place) = line.host else {
+        if line.kept.is_some() {
             return false;
-        };
-        let Some(stand) = self.hosts.stands.get(place) else {
-            return false;
-        };
-        line.is_at_rest_on(stand.failures)
+        }
+        are_at_rest(line, &self.hosts)
     }
 
     // Makes the line of a session that wasn't met before.
@@ -157,26 +155,9 @@ impl<E: Backend> Pump<E> {
         let Some(opening) = opening_of(number) else {
             return Ok(());
         };
-        let line = Line::new(self.hosts.place_of(name.as_slice()), opening);
+        let host = self.hosts.place_of(name.as_slice());
+        let line = Line::new(self.alloc, host, opening)?;
         keep_line(&mut self.lines, number, line)
-    }
-
-    // The place of the host to which a session has a line.
-    fn host_of(&self, number: u64) -> Option<usize>
-        ensures line { IfSome result (λ place. (line : Line) × (line_of self.now.lines number ≡ Some line) × (line.host ≡ Some place)) }
-        ensures within { IfSome result (λ place. place < length self.now.hosts.stands.items) }
-        ensures none { IfNone result (IfSome (line_of self.now.lines number) (λ line. IfSome line.host (λ place. length self.now.hosts.stands.items ≤ place))) }
-    {
-        let Some(line) = self.lines.get(&number) else {
-            return None;
-        };
-        let Some(place) = line.host else {
-            return None;
-        };
-        if place < self.hosts.stands.len() {
-            return Some(place);
-        }
-        None
     }
 
     // Serves a session that was met.
@@ -189,90 +170,84 @@ impl<E: Backend> Pump<E> {
     ) -> Result<(), AllocError>
         requires { IsSome (held self.old.purse.sessions number) }
         ensures held { IsSome (held self.new.purse.sessions number) }
-        ensures opened { OnOk result (HasOpened number self.new.lines (length self.new.hosts.stands.items)) }
+        ensures opened { OnOk result (HasOpened number self.new.lines) }
         ensures directory { self.new.purse.directory ≡ self.old.purse.directory }
         ensures serves { OnLine (Serves (C.moment clock.now)) (ServesAlone (C.moment clock.now)) number
             (pumping_of E.told E.counts self.old) (pumping_of E.told E.counts self.new)
             result }
         ensures silences { B.silences bell.new ≡ B.silences bell.old }
     {
-        let Some(place) = self.host_of(number) else {
+        let Some(line) = self.lines.get_mut(&number) else {
             return serve_alone(rt, &mut self.purse, number, clock, bell);
         };
-        let Some(line) = self.lines.get_mut(&number) else {
-            unreachable!();
-        };
-        let Some(stand) = self.hosts.stands.get_mut(place) else {
-            unreachable!();
-        };
-        serve_line(rt, &mut self.purse, number, line, stand, clock, bell)
+        let hosts = &mut self.hosts;
+        serve_line(rt, &mut self.purse, number, line, hosts, clock, bell)
     }
 
     // Removes a session that has ended, once what is inward of it was passed on. One that goes on is noted when it is due.
-    fn remove_ended<R: Wait>(
+    fn remove_ended<R: Wait, C: Clock, B: Bell>(
         &mut self,
         rt: &R,
         directory: &Gate<Directory>,
+        clock: &C,
+        bell: &mut B,
         number: u64,
         sid: &SharedText,
     ) -> Result<(), AllocError>
         requires pass { IsPassOf directory.now self.old.purse.directory }
         requires held { IsSome (held self.old.purse.sessions number) }
-        requires opened { HasOpened number self.old.lines (length self.old.hosts.stands.items) }
+        requires opened { HasOpened number self.old.lines }
         ensures pass { IsPassOf directory.now self.new.purse.directory }
-        ensures removes { (moment : Option ℕ) → RemovesEnded moment number sid.now
+        ensures removes { RemovesEnded (C.moment clock.now) number sid.now
             (pumping_of E.told E.counts self.old) (pumping_of E.told E.counts self.new)
             result }
+        ensures silences { B.silences bell.new ≡ B.silences bell.old }
     {
         let state = self.purse.state(rt, number);
         if state.ending.is_none() {
             return self.note_answer(number, state.due);
         }
-        self.pass_rest(rt, number)?;
-        self.close_wire(number)?;
+        self.pass_rest(rt, clock, bell, number)?;
+        self.close_wires(number)?;
         self.remove(rt, directory, number, sid, state.ending)
     }
 
     // Passes on what came before a session ended.
-    fn pass_rest<R: Wait>(&mut self, rt: &R, number: u64) -> Result<(), AllocError>
+    fn pass_rest<R: Wait, C: Clock, B: Bell>(
+        &mut self,
+        rt: &R,
+        clock: &C,
+        bell: &mut B,
+        number: u64,
+    ) -> Result<(), AllocError>
         requires held { IsSome (held self.old.purse.sessions number) }
-        requires opened { HasOpened number self.old.lines (length self.old.hosts.stands.items) }
+        requires opened { HasOpened number self.old.lines }
         ensures held { IsSome (held self.new.purse.sessions number) }
         ensures directory { self.new.purse.directory ≡ self.old.purse.directory }
-        ensures passes { (moment : Option ℕ) → OnLine (PassesAll moment) TakesAll number
+        ensures passes { OnLine (PassesAll (C.moment clock.now)) TakesAll number
             (pumping_of E.told E.counts self.old) (pumping_of E.told E.counts self.new)
             result }
+        ensures silences { B.silences bell.new ≡ B.silences bell.old }
     {
-        let Some(place) = self.host_of(number) else {
+        let Some(line) = self.lines.get_mut(&number) else {
             return drop_all(rt, &mut self.purse, number);
         };
-        let Some(line) = self.lines.get_mut(&number) else {
-            unreachable!();
-        };
-        let Some(stand) = self.hosts.stands.get_mut(place) else {
-            unreachable!();
-        };
-        pass_all(rt, &mut self.purse, number, line, stand)
+        let hosts = &mut self.hosts;
+        pass_all(rt, &mut self.purse, number, line, hosts, clock, bell)
     }
 
-    // Closes the wire of a session, where it is open.
-    fn close_wire(&mut self, number: u64) -> Result<(), AllocError>
+    // Closes each wire of a session that is open.
+    fn close_wires(&mut self, number: u64) -> Result<(), AllocError>
         requires { IsSome (held self.old.purse.sessions number) }
         ensures purse { self.new.purse ≡ self.old.purse }
-        ensures closes { OnLine ClosesWire (λ k m done. (m ≡ k) × (done ≡ Ok tt)) number
+        ensures closes { OnLine ClosesWires (λ k m done. (m ≡ k) × (done ≡ Ok tt)) number
             (pumping_of E.told E.counts self.old) (pumping_of E.told E.counts self.new)
             result }
     {
-        let Some(place) = self.host_of(number) else {
+        let Some(line) = self.lines.get_mut(&number) else {
             return Ok(());
         };
-        let Some(line) = self.lines.get_mut(&number) else {
-            unreachable!();
-        };
-        let Some(stand) = self.hosts.stands.get_mut(place) else {
-            unreachable!();
-        };
-        close_line(line, stand)
+        close_line(line, &mut self.hosts)
     }
 
     // Removes a session that has ended so from the directory, lets go what is kept of it, and keeps that as news where it is wanted.
@@ -302,7 +277,7 @@ impl<E: Backend> Pump<E> {
         Ok(())
     }
 
-    /// Tells a session that its back end failed, where it did. The only error is want of memory.
+    /// Tells a session of each of its streams whose back end failed. The only error is want of memory.
     pub(crate) fn tell_of_failure<R: Wait, C: Clock, B: Bell>(
         &mut self,
         rt: &R,
@@ -337,27 +312,62 @@ impl<E: Backend> Pump<E> {
             result }
         ensures silences { B.silences bell.new ≡ B.silences bell.old }
     {
-        let Some(place) = self.host_of(number) else {
+        let Some(line) = self.lines.get_mut(&number) else {
             return Ok(());
         };
-        let Some(line) = self.lines.get_mut(&number) else {
-            unreachable!();
-        };
-        let Some(stand) = self.hosts.stands.get_mut(place) else {
-            unreachable!();
-        };
-        tell_cut(rt, &mut self.purse, number, line, stand, clock, bell)
+        let hosts = &self.hosts;
+        tell_streams(rt, &mut self.purse, number, line, hosts, clock, bell)
     }
 }
 
-// The place of the host to which the session has a line.
+// The place of the host of the stream that the session began with.
 fn host_of_line(lines: &BTreeMap<u64, Line>, number: u64) -> Option<usize>
     ensures { result ≡ host_by (line_of lines.now number) }
 {
     match lines.get(&number) {
-        Some(line) => line.host,
+        Some(line) => first_host(line),
         None => None,
     }
+}
+
+fn first_host(line: &Line) -> Option<usize>
+    ensures { result ≡ host_in (slice_get line.now.sides.items 0) }
+{
+    match line.sides.get(0) {
+        Some(side) => side.host,
+        None => None,
+    }
+}
+
+// Whether nothing is to be done on each stream of a line.
+fn are_at_rest<E: Backend>(line: &Line, hosts: &Hosts<E>) -> bool
+    ensures { result ≡ true → (place : ℕ) → (side : Side) → slice_get line.now.sides.items place ≡ Some side → RestsAt (hosts_of E.told E.counts hosts.now) side }
+{
+    for side in &line.sides {
+        if !rests(side, hosts) {
+            return false;
+        }
+    }
+    true
+}
+
+// Whether the wire of a stream is open on the back end that stands behind its host, or is no more, and nothing waits.
+fn rests<E: Backend>(side: &Side, hosts: &Hosts<E>) -> bool
+    ensures { result ≡ true → RestsAt (hosts_of E.told E.counts hosts.now) side.now }
+{
+    if side.owed.is_some() {
+        return false;
+    }
+    if side.is_lost() {
+        return true;
+    }
+    let Some(at) = side.host else {
+        return false;
+    };
+    let Some(stand) = hosts.stands.get(at) else {
+        return false;
+    };
+    side.is_open_on(stand.failures)
 }
 
 // The opening number, where it has no more than 32 bits.
@@ -389,22 +399,53 @@ fn forget_line(lines: &mut BTreeMap<u64, Line>, number: u64)
     lines.remove(&number);
 }
 
-// Closes the wire, where it is open.
-fn close_line<E: Backend>(line: &mut Line, stand: &mut Stand<E>) -> Result<(), AllocError>
-    ensures closes { (known : Known Entry) → ClosesWire
-        (side known line.old (ends_of E.told E.counts stand.old))
-        (side known line.new (ends_of E.told E.counts stand.new))
+// Closes the wire of each stream of a line, where it is open.
+fn close_line<E: Backend>(line: &mut Line, hosts: &mut Hosts<E>) -> Result<(), AllocError>
+    ensures closes { (known : Known Entry) → ClosesWires
+        (served known line.old (hosts_of E.told E.counts hosts.old))
+        (served known line.new (hosts_of E.told E.counts hosts.new))
         result }
-    ensures host { line.new.host ≡ line.old.host }
-    ensures kept { stand.new.kept ≡ stand.old.kept }
-    ensures name { stand.new.host.name ≡ stand.old.host.name }
 {
-    if !line.is_open_on(stand.failures) {
+    for place in 0..line.sides.len() {
+        let Some(side) = line.sides.get_mut(place) else {
+            unreachable!();
+        };
+        close_side(side, hosts)?;
+    }
+    Ok(())
+}
+
+// Closes the wire of a stream, where it is open.
+fn close_side<E: Backend>(side: &mut Side, hosts: &mut Hosts<E>) -> Result<(), AllocError>
+    ensures closes { (line : LineFacts) → (place : ℕ) → (known : Known Entry) → slice_get line.sides place ≡ Some side.old → ClosesAt place
+        (serving known line (hosts_of E.told E.counts hosts.old))
+        (serving known (with_side place side.new line) (hosts_of E.told E.counts hosts.new))
+        result }
+{
+    let Some(at) = side.host else {
+        return Ok(());
+    };
+    let Some(stand) = hosts.stands.get_mut(at) else {
+        return Ok(());
+    };
+    if !side.is_open_on(stand.failures) {
         return Ok(());
     }
-    match stand.close(line.wire) {
+    close_open(side, stand)
+}
+
+// Closes a wire that is open.
+fn close_open<E: Backend>(side: &mut Side, stand: &mut Stand<E>) -> Result<(), AllocError>
+    requires { side.old.stage ≡ Stage.Opened stand.old.failures }
+    ensures closes { (known : Known Entry) → (kept : Option Inward) → ClosesWire
+        (strand known kept side.old (ends_of E.told E.counts stand.old))
+        (strand known kept side.new (ends_of E.told E.counts stand.new))
+        result }
+    ensures kept { stand.new.kept ≡ stand.old.kept }
+{
+    match stand.close(side.wire) {
         Passed::Done => {
-            line.stage = Stage::Lost;
+            side.stage = Stage::Lost;
             Ok(())
         }
         Passed::Failed => Ok(()),
@@ -412,7 +453,7 @@ fn close_line<E: Backend>(line: &mut Line, stand: &mut Stand<E>) -> Result<(), A
     }
 }
 
-// Serves a session whose host isn't one of the server's.
+// Serves a session that has no line.
 fn serve_alone<R: Wait, C: Clock, B: Bell>(
     rt: &R,
     purse: &mut Purse,

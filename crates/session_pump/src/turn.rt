@@ -1,18 +1,22 @@
 // A turn of the pump, and the end.
-ghost use Rattle.std.specs.Prelude.{◌≡◌, ◌<◌, IfOk, OnErr, length};
+ghost use Rattle.std.specs.Prelude.{◌≡◌, ◌<◌, IfOk, IsSome, OnErr, Some, length};
+ghost use Rattle.bosh_types.specs.declared.ending.Closing.TheVariants.{SystemShutdown};
 ghost use Rattle.parked_gate.specs.Passes.{IsPassOf, Looks, known};
 ghost use Rattle.session_table.specs.History.{live_of};
-ghost use Rattle.session_pump.specs.Pumping.{AsksDirectory, Each, EachPlace, both, pumping_of};
-ghost use Rattle.session_pump.specs.Turns.{AsksLive, CountsLive, PollsAt, ServesOne, ShutsDown, ShutsOne, TellsOne, Turns};
+ghost use Rattle.session_table.specs.Purses.{OthersStay, Turned, held};
+ghost use Rattle.session_pump.specs.Calling.{ClosesEach, both};
+ghost use Rattle.session_pump.specs.Pumping.{AsksDirectory, AsksSession, Each, EachPlace, line_of, pumping_of};
+ghost use Rattle.session_pump.specs.Turns.{AsksLive, CountsLive, PollsAt, ServesOne, ShutsDown, ShutsOne, TellsOne, Turns, streams_of};
 
+use crate::line::Line;
 use crate::polling::poll_host;
 use crate::pump::Pump;
 use crate::serving::close_stream;
 use bosh_ports::Bell;
-use bosh_types::Closing;
+use bosh_types::{Closing, StreamNo};
 use parked_gate::Gate;
 use server_ports::Clock;
-use session_table::{Directory, LiveSession, LiveSessions, Question};
+use session_table::{Directory, LiveSession, LiveSessions, Purse, Question};
 use std::alloc::AllocError;
 use std::sync::Wait;
 use xmpp_backend::Backend;
@@ -131,13 +135,34 @@ impl<E: Backend> Pump<E> {
         let sid = session.sid.as_slice();
         match self.purse.find(rt, self.alloc, directory, sid) {
             Ok(found) => match found {
-                Some(number) => {
-                    let closing = Closing::SystemShutdown;
-                    close_stream(rt, &mut self.purse, number, clock, bell, closing)
-                }
+                Some(number) => self.shut_found(rt, clock, bell, number),
                 None => Ok(()),
             },
             Err(AllocError) => Err(AllocError),
+        }
+    }
+
+    // Tells a session that was found of each of its streams.
+    fn shut_found<R: Wait, C: Clock, B: Bell>(
+        &mut self,
+        rt: &R,
+        clock: &C,
+        bell: &mut B,
+        number: u64,
+    ) -> Result<(), AllocError>
+        requires { IsSome (held self.old.purse.sessions number) }
+        ensures directory { self.new.purse.directory ≡ self.old.purse.directory }
+        ensures shuts { AsksSession (λ old new. ClosesEach (C.moment clock.now) SystemShutdown old (streams_of (line_of self.old.lines number)) result new) number
+            (pumping_of E.told E.counts self.old) (pumping_of E.told E.counts self.new) }
+        ensures silences { B.silences bell.new ≡ B.silences bell.old }
+    {
+        let closing = Closing::SystemShutdown;
+        match self.lines.get(&number) {
+            Some(line) => close_each(rt, &mut self.purse, number, line, clock, bell, closing),
+            None => {
+                let stream = StreamNo::unnamed();
+                close_stream(rt, &mut self.purse, number, stream, clock, bell, closing)
+            }
         }
     }
 
@@ -260,6 +285,32 @@ impl<E: Backend> Pump<E> {
         }
         told
     }
+}
+
+// Closes the streams of a session that have a side. The error comes when all were closed that could be.
+fn close_each<R: Wait, C: Clock, B: Bell>(
+    rt: &R,
+    purse: &mut Purse,
+    number: u64,
+    line: &Line,
+    clock: &C,
+    bell: &mut B,
+    closing: Closing,
+) -> Result<(), AllocError>
+    requires { IsSome (held purse.old.sessions number) }
+    ensures closes { Turned number purse.old.sessions purse.new.sessions (λ old new. ClosesEach (C.moment clock.now) closing old (streams_of (Some line.now)) result new) }
+    ensures others { OthersStay number purse.old.sessions purse.new.sessions }
+    ensures directory { purse.new.directory ≡ purse.old.directory }
+    ensures silences { B.silences bell.new ≡ B.silences bell.old }
+{
+    let mut closed = Ok(());
+    for side in &line.sides {
+        closed = both(
+            closed,
+            close_stream(rt, purse, number, side.stream, clock, bell, closing),
+        );
+    }
+    closed
 }
 
 /// What is answered for two things that were both tried.

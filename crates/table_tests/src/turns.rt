@@ -1,6 +1,7 @@
 // A pump between sessions and their back ends.
 mod failing;
 mod numbered;
+mod streams;
 
 ghost use Rattle.std.specs.Prelude.{◌≡◌, ◌⊎◌, IfOk, IfSome, IsSome, List, [], codes, true, ℕ};
 ghost use Rattle.parked_gate.specs.Passes.{IsPassOf};
@@ -19,7 +20,7 @@ use server_ports::StillClock;
 use session_attrs::{Kind, Request, read_request};
 use session_core::Arrived;
 use session_journal::{Answer, Call, Found, Question, Reply};
-use session_pump::{Host, Hosts, Pump};
+use session_pump::{Host, Hosts, Line, Pump};
 use session_table::{Directory, Limits, NewSession, Opening, Purse};
 use std::alloc::{AllocError, Global};
 use std::sync::Wait;
@@ -351,9 +352,18 @@ fn waiting<R: Wait>(rt: &R, scene: &mut Scene, number: u64) -> Option<u32> {
 /// Whether the pump keeps something that a back end gave for the first session.
 fn keeps_something(scene: &Scene) -> bool {
     match scene.pump.lines.get(&1) {
-        Some(line) => line.owed.is_some(),
+        Some(line) => owes_something(line),
         None => false,
     }
+}
+
+fn owes_something(line: &Line) -> bool {
+    for side in &line.sides {
+        if side.owed.is_some() {
+            return true;
+        }
+    }
+    false
 }
 
 /// A back end that gives so many times the same stanza for the first item that it is passed, and then three others.

@@ -78,7 +78,7 @@ fn a_repeat_has_the_same_bytes(rt: HostRuntime) -> Result<(), Fail> {
             &rt,
             rt.alloc(),
             b"<body rid='1000' to='example.org' wait='0' hold='0' ver='1.6' xmlns='http://jabber.org/protocol/httpbind'/>\n<body rid='1001' sid='s1' xmlns='http://jabber.org/protocol/httpbind'><a/></body>\n<body rid='1001' sid='s1' xmlns='http://jabber.org/protocol/httpbind'><a/></body>\n<body rid='1000' sid='s1' xmlns='http://jabber.org/protocol/httpbind'/>\n",
-            b"<body xmlns='http://jabber.org/protocol/httpbind' xmlns:xmpp='urn:xmpp:xbosh' xmlns:stream='http://etherx.jabber.org/streams' sid='s1' wait='0' requests='1' inactivity='75' polling='5' maxpause='120' hold='0' ver='1.6' from='example.org' ack='1000' xmpp:version='1.0' xmpp:restartlogic='true'><stream:features/></body>\n<body xmlns='http://jabber.org/protocol/httpbind'/>\n<body xmlns='http://jabber.org/protocol/httpbind'/>\n<body xmlns='http://jabber.org/protocol/httpbind' xmlns:xmpp='urn:xmpp:xbosh' xmlns:stream='http://etherx.jabber.org/streams' sid='s1' wait='0' requests='1' inactivity='75' polling='5' maxpause='120' hold='0' ver='1.6' from='example.org' ack='1000' xmpp:version='1.0' xmpp:restartlogic='true'><stream:features/></body>\n",
+            b"<body xmlns='http://jabber.org/protocol/httpbind' xmlns:xmpp='urn:xmpp:xbosh' xmlns:stream='http://etherx.jabber.org/streams' sid='s1' wait='0' requests='1' inactivity='75' polling='5' maxpause='120' hold='0' ver='1.6' from='example.org' stream='t0' ack='1000' xmpp:version='1.0' xmpp:restartlogic='true'><stream:features/></body>\n<body xmlns='http://jabber.org/protocol/httpbind'/>\n<body xmlns='http://jabber.org/protocol/httpbind'/>\n<body xmlns='http://jabber.org/protocol/httpbind' xmlns:xmpp='urn:xmpp:xbosh' xmlns:stream='http://etherx.jabber.org/streams' sid='s1' wait='0' requests='1' inactivity='75' polling='5' maxpause='120' hold='0' ver='1.6' from='example.org' stream='t0' ack='1000' xmpp:version='1.0' xmpp:restartlogic='true'><stream:features/></body>\n",
             ConnectionEnd::Ended,
         )?
     );
@@ -93,7 +93,7 @@ fn bodies_of_strophe_are_answered(rt: HostRuntime) -> Result<(), Fail> {
             &rt,
             rt.alloc(),
             b"<body rid='1000' xmlns='http://jabber.org/protocol/httpbind' to='example.org' xml:lang='en' wait='60' hold='1' content='text/xml; charset=utf-8' ver='1.6' xmpp:version='1.0' xmlns:xmpp='urn:xmpp:xbosh'/>\n<body rid='1001' xmlns='http://jabber.org/protocol/httpbind' sid='s1' type='terminate'><presence xmlns='jabber:client' type='unavailable'/></body>\n<body rid='1002' xmlns='http://jabber.org/protocol/httpbind' sid='s1'/>\n",
-            b"<body xmlns='http://jabber.org/protocol/httpbind' xmlns:xmpp='urn:xmpp:xbosh' xmlns:stream='http://etherx.jabber.org/streams' sid='s1' wait='60' requests='2' inactivity='30' polling='5' maxpause='120' hold='1' ver='1.6' from='example.org' ack='1000' xmpp:version='1.0' xmpp:restartlogic='true'><stream:features/></body>\n<body xmlns='http://jabber.org/protocol/httpbind' type='terminate'/>\n<body xmlns='http://jabber.org/protocol/httpbind' type='terminate' condition='item-not-found'/>\n",
+            b"<body xmlns='http://jabber.org/protocol/httpbind' xmlns:xmpp='urn:xmpp:xbosh' xmlns:stream='http://etherx.jabber.org/streams' sid='s1' wait='60' requests='2' inactivity='30' polling='5' maxpause='120' hold='1' ver='1.6' from='example.org' stream='t0' ack='1000' xmpp:version='1.0' xmpp:restartlogic='true'><stream:features/></body>\n<body xmlns='http://jabber.org/protocol/httpbind' type='terminate'/>\n<body xmlns='http://jabber.org/protocol/httpbind' type='terminate' condition='item-not-found'/>\n",
             ConnectionEnd::Ended,
         )?
     );
@@ -108,7 +108,7 @@ fn bodies_of_gloox_are_answered(rt: HostRuntime) -> Result<(), Fail> {
             &rt,
             rt.alloc(),
             b"<body content='text/xml; charset=utf-8' hold='1' rid='1000' ver='1.6' wait='60' ack='1' secure='true' xml:lang='en' xmpp:version='1.0' to='example.org' xmlns='http://jabber.org/protocol/httpbind' xmlns:xmpp='urn:xmpp:xbosh'/>\n<body rid='1001' sid='s1' xmlns='http://jabber.org/protocol/httpbind'/>\n",
-            b"<body xmlns='http://jabber.org/protocol/httpbind' xmlns:xmpp='urn:xmpp:xbosh' xmlns:stream='http://etherx.jabber.org/streams' sid='s1' wait='60' requests='2' inactivity='30' polling='5' maxpause='120' hold='1' ver='1.6' from='example.org' ack='1000' xmpp:version='1.0' xmpp:restartlogic='true'><stream:features/></body>\n",
+            b"<body xmlns='http://jabber.org/protocol/httpbind' xmlns:xmpp='urn:xmpp:xbosh' xmlns:stream='http://etherx.jabber.org/streams' sid='s1' wait='60' requests='2' inactivity='30' polling='5' maxpause='120' hold='1' ver='1.6' from='example.org' stream='t0' ack='1000' xmpp:version='1.0' xmpp:restartlogic='true'><stream:features/></body>\n",
             ConnectionEnd::Silent,
         )?
     );
@@ -122,7 +122,7 @@ fn a_restart_and_an_empty_poll_are_answered(rt: HostRuntime) -> Result<(), Fail>
             &rt,
             rt.alloc(),
             b"<body rid='1000' to='example.org' wait='0' hold='0' ver='1.6' xmlns='http://jabber.org/protocol/httpbind'/>\n<body rid='1001' xmlns='http://jabber.org/protocol/httpbind' sid='s1' to='example.org' xml:lang='en' xmpp:restart='true' xmlns:xmpp='urn:xmpp:xbosh'/>\n",
-            b"<body xmlns='http://jabber.org/protocol/httpbind' xmlns:xmpp='urn:xmpp:xbosh' xmlns:stream='http://etherx.jabber.org/streams' sid='s1' wait='0' requests='1' inactivity='75' polling='5' maxpause='120' hold='0' ver='1.6' from='example.org' ack='1000' xmpp:version='1.0' xmpp:restartlogic='true'><stream:features/></body>\n<body xmlns='http://jabber.org/protocol/httpbind'/>\n",
+            b"<body xmlns='http://jabber.org/protocol/httpbind' xmlns:xmpp='urn:xmpp:xbosh' xmlns:stream='http://etherx.jabber.org/streams' sid='s1' wait='0' requests='1' inactivity='75' polling='5' maxpause='120' hold='0' ver='1.6' from='example.org' stream='t0' ack='1000' xmpp:version='1.0' xmpp:restartlogic='true'><stream:features/></body>\n<body xmlns='http://jabber.org/protocol/httpbind'/>\n",
             ConnectionEnd::Ended,
         )?
     );

@@ -1,9 +1,11 @@
 // What stands behind a server when it has ended.
 use super::ports::{Given, ShownNetwork, ShownPlan};
-use super::rows::{After, answer, ends_with, given_nothing, link, one_host, post, served_with};
+use super::rows::{
+    After, NAMESPACE, answer, ends_with, given_nothing, link, one_host, post, served_with,
+};
 use bosh_server::{Ran, ServePlan};
 use bosh_types::{Stanzas, Text};
-use session_pump::{Host, Pump, Stage};
+use session_pump::{Host, Pump, Side, Stage};
 use std::alloc::{AllocError, Global};
 use std::process::Abort;
 use std::rt::Clock;
@@ -11,8 +13,6 @@ use std::sync::{Arc, Wait};
 use std::test::Fail;
 use std::thread::Threads;
 use xmpp_backend::{Backend, Echo, InMemory, Polled, Room, Scripted};
-
-const NAMESPACE: &str = "xmlns='http://jabber.org/protocol/httpbind'";
 
 // The creation of a session at this host and a later request with this content, which comes in the session of this number.
 fn creation_and_more(
@@ -42,7 +42,7 @@ fn room_host(alloc: Global) -> Result<Host<InMemory>, AllocError> {
 }
 
 // `example.org` with an echo, and `room.example.org` with a room.
-fn two_hosts(alloc: Global) -> Result<Vec<Host<InMemory>>, AllocError> {
+pub(crate) fn two_hosts(alloc: Global) -> Result<Vec<Host<InMemory>>, AllocError> {
     let mut hosts = one_host(alloc, InMemory::Echo(Echo::new(alloc)))?;
     hosts.push(room_host(alloc)?)?;
     Ok(hosts)
@@ -128,10 +128,15 @@ fn lines_are_empty(rt: &impl Abort, pump: &Pump<InMemory>) {
     assert_eq!(rt; pump.purse.sessions.len(), 2);
     assert_eq!(rt; pump.lines.len(), 2);
     for (number, line) in &pump.lines {
-        assert!(rt; line.host == Some((*number as usize).saturating_sub(1)));
-        assert_eq!(rt; line.stage, Stage::Opened(0));
-        assert!(rt; line.kept.is_none() && line.owed.is_none());
+        let place = (*number as usize).saturating_sub(1);
+        assert!(rt; line.kept.is_none());
+        assert!(rt; line.sides.len() == 1 && is_open(&line.sides[0], place));
     }
+}
+
+// The wire of a stream is open at the first back end of this host, and nothing is owed on it.
+fn is_open(side: &Side, place: usize) -> bool {
+    side.host == Some(place) && side.stage == Stage::Opened(0) && side.owed.is_none()
 }
 
 // The hosts stand in their order, under their names, none failed, and their back ends have nothing more.

@@ -17,9 +17,9 @@ use std::test::Fail;
 use std::thread::Threads;
 use xmpp_backend::{Echo, InMemory, Scripted};
 
-const NAMESPACE: &str = "xmlns='http://jabber.org/protocol/httpbind'";
+pub(crate) const NAMESPACE: &str = "xmlns='http://jabber.org/protocol/httpbind'";
 
-const CREATION: &str =
+pub(crate) const CREATION: &str =
     "<body rid='1000' to='example.org' wait='60' hold='1' ver='1.6' xmlns='http://jabber.org/protocol/httpbind'/>";
 
 // A request with this content.

@@ -1,19 +1,21 @@
 use Rattle.std.proofs.Common.{rules}
-use Rattle.session_pump.proofs.MovesLemmas.{did_nothing, failed_at, let_go, passed_on}
-use Rattle.session_pump.specs.Sides.{none}
+use Rattle.session_pump.specs.Sides.{line_facts, none}
+use Rattle.session_pump.proofs.PassingLemmas.{dropped_met, to_open, to_pass}
+use Rattle.session_pump.proofs.TurnedLemmas.{turned_none}
 use Rattle.session_pump.proofs.passing.hand_on.Goals as goal
 
 pub returns-in_default-clause-moves : goal.returns-in_default-clause-moves
-returns-in_default-clause-moves g c moment known = none
+returns-in_default-clause-moves g c = turned_none _ _ _ c.requires.held (λ k. none)
 
-pub returns-then-not-is_open_on-clause-moves : goal.returns-then-not-is_open_on-clause-moves
-returns-then-not-is_open_on-clause-moves g c moment known = let_go _ _ c.requires (c.is_open_on.ensures.closed (search rules))
+pub pass_kept-requires-clause-passes : goal.pass_kept-requires-clause-passes
+pass_kept-requires-clause-passes g c = to_pass (line_facts c.args.line.now) _ _ _ c.in-Some.is (search rules) c.stream_of.ensures c.place_of-place.ensures.of c.place_of-place.ensures.none
 
-pub returns-in-Done-clause-moves : goal.returns-in-Done-clause-moves
-returns-in-Done-clause-moves g c moment known = passed_on _ _ _ c.in-Some.item (c.is_open_on.ensures.open c.if-not-is_open_on.false) c.in-Some.is c.in-Done.ensures.ends
+pub returns-then-not-is_opening-clause-moves : goal.returns-then-not-is_opening-clause-moves
+returns-then-not-is_opening-clause-moves g c = turned_none _ _ _ c.requires.held (λ k. c.pass_kept.ensures.moves (g.C.Clock.moment c.args.clock.now) k)
 
-pub returns-in-Failed-clause-moves : goal.returns-in-Failed-clause-moves
-returns-in-Failed-clause-moves g c moment known = failed_at _ _ _ c.in-Some.item (c.is_open_on.ensures.open c.if-not-is_open_on.false) c.in-Some.is c.in-Failed.ensures.ends
+pub returns-in-Some-place-clause-moves : goal.returns-in-Some-place-clause-moves
+returns-in-Some-place-clause-moves g c =
+    turned_none _ _ _ c.requires.held (λ k. dropped_met k _ _ _ _ _ _ c.in-Some.is (search rules) c.stream_of.ensures c.in-Some-place.is c.place_of-place.ensures.of)
 
-pub returns-in-NoMemory-clause-moves : goal.returns-in-NoMemory-clause-moves
-returns-in-NoMemory-clause-moves g c moment known = did_nothing _ _ _ _ (search rules) c.in-NoMemory.ensures.ends
+pub open_kept-requires-clause-opens : goal.open_kept-requires-clause-opens
+open_kept-requires-clause-opens g c = to_open (line_facts c.args.line.now) _ _ _ c.in-Some.is (search rules) c.stream_of.ensures c.in-None.is c.place_of-place.ensures.none

@@ -1,5 +1,6 @@
-use Rattle.std.proofs.Common.{rules}
+use Rattle.std.proofs.Common.{◌∙◌, rules, sym}
+use Rattle.session_pump.proofs.GivingLemmas.{owing_so}
 use Rattle.session_pump.proofs.polling.comes_first.Goals as goal
 
-pub returns-clause-behind : goal.returns-clause-behind
-returns-clause-behind c is = let found = c.owes_nothing.ensures.something is in (c.in-Some.line.now, found.0, search rules, found.1)
+pub returns-in-Some-clause-behind : goal.returns-in-Some-clause-behind
+returns-in-Some-clause-behind c is = (c.in-Some.line.now, search rules, sym c.owes_on.ensures ∙ owing_so _ is)

@@ -19,10 +19,10 @@ pub returns-in_err-may_take-clause-gives : goal.returns-in_err-may_take-clause-g
 returns-in_err-may_take-clause-gives g c = is_asked _ c.in-Some.owing _ _ _ _ c.in-Some.is c.in_err-may_take.ensures.asked c.in_err-may_take.ensures.others
 
 pub keep_back-requires-clause-kept : goal.keep_back-requires-clause-kept
-keep_back-requires-clause-kept g c = (c.in-Some.owing, refl, refl, c.in_ok-may_take.ensures.refused (search rules))
+keep_back-requires-clause-kept g c = (c.in-Some.owing, refl, refl, refl, c.in_ok-may_take.ensures.refused (search rules))
 
 pub keep_back-requires-in-Ok-Full-clause-kept : goal.keep_back-requires-in-Ok-Full-clause-kept
-keep_back-requires-in-Ok-Full-clause-kept g c = (_, refl, refl, refl)
+keep_back-requires-in-Ok-Full-clause-kept g c = (_, refl, refl, refl, refl)
 
 pub returns-then-not-branch-clause-gives : goal.returns-then-not-branch-clause-gives
 returns-then-not-branch-clause-gives g c =
@@ -36,7 +36,7 @@ returns-in-Ok-Done-clause-gives g c =
 pub returns-in-Ok-Full-clause-gives : goal.returns-in-Ok-Full-clause-gives
 returns-in-Ok-Full-clause-gives g c =
     gives_then
-    (is_full_for _ c.in-Some.owing _ _ _ _ _ _ _ c.in-Some.is c.in-Ok-Full.field-0-is (c.comes_first.ensures.first (search rules)) refl refl refl refl
+    (is_full_for _ c.in-Some.owing _ _ _ _ _ _ _ c.in-Some.is c.in-Ok-Full.field-0-is (c.comes_first.ensures.first (search rules)) refl refl refl refl refl
     (c.in_ok-may_take.ensures.ready (search rules)) c.in_ok-may_take.ensures.others c.in-Ok-Full.ensures.gives c.in-Ok-Full.ensures.others)
     (c.keep_back-in-Ok-Full.ensures.moves _ _)
 
@@ -55,5 +55,5 @@ pub returns-in-Ok-Full-clause-full : goal.returns-in-Ok-Full-clause-full
 returns-in-Ok-Full-clause-full g c is =
     let full = ok_same _ _ is in
     over_still _ _ _ _ _ _ _ (c.keep_back-in-Ok-Full.ensures.still full) (c.keep_back-in-Ok-Full.ensures.ends full) (c.keep_back-in-Ok-Full.ensures.lines full)
-    (was_refused _ c.in-Some.owing _ _ _ _ _ _ _ c.in-Some.is c.in-Ok-Full.field-0-is refl refl (c.in_ok-may_take.ensures.ready (search rules)) c.in_ok-may_take.ensures.others
+    (was_refused _ c.in-Some.owing _ _ _ _ _ _ _ c.in-Some.is c.in-Ok-Full.field-0-is refl refl refl (c.in_ok-may_take.ensures.ready (search rules)) c.in_ok-may_take.ensures.others
     c.in-Ok-Full.ensures.gives c.in-Ok-Full.ensures.others (c.keep_back-in-Ok-Full.ensures.elsewhere full))

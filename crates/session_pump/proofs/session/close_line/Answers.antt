@@ -1,16 +1,27 @@
-use Rattle.std.proofs.Common.{rules}
-use Rattle.session_pump.specs.Turns.{fails_at_it, was_closed}
-use Rattle.session_pump.proofs.TurnLemmas.{wire_closed, wire_not}
+use Rattle.std.proofs.Common.{◌∙◌, refl, rules}
+use Rattle.std.proofs.lemmas.List.{length-set}
+use Rattle.session_pump.specs.Sides.{line_facts}
+use Rattle.session_pump.specs.Turns.{closed_none, closed_one}
+use Rattle.session_pump.proofs.ListLemmas.{got_read}
+use Rattle.session_pump.proofs.TurnLemmas.{wires_closed, wires_not}
 use Rattle.session_pump.proofs.session.close_line.Goals as goal
 
-pub returns-then-not-is_open_on-clause-closes : goal.returns-then-not-is_open_on-clause-closes
-returns-then-not-is_open_on-clause-closes g c known = was_closed (c.is_open_on.ensures.closed (search rules))
+pub loop-place-init : goal.loop-place-init
+loop-place-init g c = record { count = refl; closes = λ known. closed_none }
 
-pub returns-in-Done-clause-closes : goal.returns-in-Done-clause-closes
-returns-in-Done-clause-closes g c known = wire_closed known _ _ _ (c.is_open_on.ensures.open c.if-not-is_open_on.false) c.in-Done.ensures.ends
+pub loop-place-preserved : goal.loop-place-preserved
+loop-place-preserved g c = record {
+  count = length-set _ _ _ ∙ c.loop-place.invariant.count;
+  closes = λ known. closed_one _ (c.loop-place.invariant.closes known)
+      (c.in_ok-close_side.ensures.closes (line_facts c.loop-place.line) c.loop-place.place known (got_read c.loop-place.line.sides.items c.loop-place.line.sides.items c.loop-place.place c.in-Some.side.now refl (search rules) (search rules)));
+}
 
-pub returns-in-Failed-clause-closes : goal.returns-in-Failed-clause-closes
-returns-in-Failed-clause-closes g c known = fails_at_it _ (c.is_open_on.ensures.open c.if-not-is_open_on.false) c.in-Failed.ensures.ends
+pub returns-in_err-close_side : goal.returns-in_err-close_side
+returns-in_err-close_side g c = record {
+  closes = λ known.
+      wires_not _ _ _ _ c.in_err-close_side.field-0.0 _ c.from_residual.ensures.0 (c.loop-place.invariant.closes known)
+      (c.in_err-close_side.ensures.closes (line_facts c.loop-place.line) c.loop-place.place known (got_read c.loop-place.line.sides.items c.loop-place.line.sides.items c.loop-place.place c.in-Some.side.now refl (search rules) (search rules)));
+}
 
-pub returns-in-NoMemory-clause-closes : goal.returns-in-NoMemory-clause-closes
-returns-in-NoMemory-clause-closes g c known = wire_not known _ _ _ _ c.in-NoMemory.ensures.ends
+pub returns : goal.returns
+returns g c = record { closes = λ known. wires_closed _ _ _ (search rules) (c.loop-place.invariant.closes known) }

@@ -29,4 +29,4 @@ returns-in_err-serve_held-clause-serves g c =
 pub returns-clause-serves : goal.returns-clause-serves
 returns-clause-serves g c =
     was_served _ (asks_of _ _ _ _ _ _ _ (ap known c.state-state.ensures.directory) c.state-state.ensures.looked c.state-state.ensures.others)
-    (went_on c.in_ok-serve_held.ensures.serves (c.remove_ended.ensures.removes (g.C.Clock.moment c.args.clock.now)))
+    (went_on c.in_ok-serve_held.ensures.serves c.remove_ended.ensures.removes)

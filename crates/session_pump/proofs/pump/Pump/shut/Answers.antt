@@ -1,11 +1,10 @@
-use Rattle.std.proofs.Common.{ap, refl}
-use Rattle.parked_gate.specs.Passes.{known}
+use Rattle.std.proofs.Common.{refl}
 use Rattle.session_pump.specs.Turns.{shut, shut_before, shut_not}
-use Rattle.session_pump.proofs.TurnLemmas.{asks_missing, asks_of, directory_asked, found_held, found_named, is_found}
+use Rattle.session_pump.proofs.TurnLemmas.{asks_missing, directory_asked, found_held, found_named, is_found}
 use Rattle.session_pump.proofs.pump.Pump.shut.Goals as goal
 
-pub close_stream-requires : goal.close_stream-requires
-close_stream-requires g c = found_held _ _ _ _ (is_found _ _ _ c.in-Some.is c.in-Ok.ensures.found)
+pub shut_found-requires : goal.shut_found-requires
+shut_found-requires g c = found_held _ _ _ _ (is_found _ _ _ c.in-Some.is c.in-Ok.ensures.found)
 
 pub returns-in-Some-clause-shuts : goal.returns-in-Some-clause-shuts
 returns-in-Some-clause-shuts g c =
@@ -14,7 +13,7 @@ returns-in-Some-clause-shuts g c =
       found = found_named _ _ _ _ _ c.as_slice-sid.ensures (is_found _ _ _ c.in-Some.is c.in-Ok.ensures.found);
       same = refl;
     })
-    (asks_of _ _ _ _ _ _ _ (ap known c.close_stream.ensures.directory) c.close_stream.ensures.closes c.close_stream.ensures.others)
+    c.shut_found.ensures.shuts
 
 pub returns-in-None-clause-shuts : goal.returns-in-None-clause-shuts
 returns-in-None-clause-shuts g c = shut_before (asks_missing _ _ _ _ _ _ _ _ _ c.in-None.is c.as_slice-sid.ensures c.in-Ok.ensures.unknown)
