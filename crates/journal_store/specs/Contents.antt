@@ -14,7 +14,7 @@ use Rattle.journal_store.specs.Records.{HasLength, number4, framed}
 
 -- the version of the rules by which a journal is replayed
 abbrev pub rules_version : ℕ
-rules_version = 2
+rules_version = 3
 
 -- numbers of two and of eight bytes, the greatest first
 unfoldable pub number2 : ℕ → List ℕ

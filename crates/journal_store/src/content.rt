@@ -10,7 +10,7 @@ use session_journal::{Entered, Entry, Limited};
 use std::alloc::AllocError;
 
 // The version of the rules by which a journal is replayed. It changes with them.
-pub(crate) const RULES_VERSION: u16 = 2;
+pub(crate) const RULES_VERSION: u16 = 3;
 
 /// Puts the content of an entry of a session in the place of what the buffer has. After an error the buffer has something else.
 #[tactic(auto, unfolding(crate::specs::Contents::content_of))]
