@@ -27,7 +27,7 @@ pub enum Note {
         ending: Option<Ending>,
         at: Moment,
     },
-    /// A back end has carried so much for a session, and carries no more for it.
+    /// A back end has carried so much for one of a session's streams, and carries no more for it.
     Carried {
         number: u64,
         carried: Carried,

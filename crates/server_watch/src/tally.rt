@@ -12,14 +12,16 @@ use xmpp_backend::{Passed, Polled};
 /// How many wires a session may have: the number of a wire is that of its session times this, and that of its stream.
 const STREAMS: u64 = 8;
 
-/// How many stanzas a back end of a host carried for each session, as its answers tell. Where somebody watches, that is noted when the
-/// session's wire is closed, and for all of them when the back end fails.
+/// How many stanzas a back end of a host carried on each wire, as its answers tell. Where somebody watches, that is noted of the wire's
+/// session when the wire is closed, and of all that are open when the back end fails: so what is noted of a session is, in all, what was
+/// carried for its streams.
 #[derive(Drop)]
 pub struct Tally {
     watch: Watch,
     host: SharedText,
     // Whether another takes its place where it fails.
     is_replaced: bool,
+    // By the numbers of wires.
     carried: BTreeMap<u64, Carried>,
 }
 
@@ -92,12 +94,8 @@ impl Tally {
         if !has_failed || !self.watch.is_on() {
             return;
         }
-        for (number, carried) in self.carried.iter() {
-            let note = Note::Carried {
-                number: *number,
-                carried: *carried,
-            };
-            self.watch.note(rt, Some(note));
+        for (wire, carried) in self.carried.iter() {
+            note_carried(rt, &self.watch, *wire, *carried);
         }
         self.carried.clear();
         match self.host.again() {
@@ -113,21 +111,18 @@ impl Tally {
     }
 }
 
-// A wire was opened: its session carried nothing on it.
+// A wire was opened: nothing was carried on it.
 fn begin(carried: &mut BTreeMap<u64, Carried>, wire: Wire) {
-    if !is_plain(wire) {
-        return;
-    }
     let none = Carried {
         inward: 0,
         outward: 0,
     };
-    let _ = carried.insert(session_of(wire), none);
+    let _ = carried.insert(wire.number(), none);
 }
 
 // So many more stanzas were passed on the wire, or given on it.
 fn count(carried: &mut BTreeMap<u64, Carried>, wire: Wire, inward: u64, outward: u64) {
-    if let Some(found) = carried.get_mut(&session_of(wire)) {
+    if let Some(found) = carried.get_mut(&wire.number()) {
         *found = Carried {
             inward: found.inward.saturating_add(inward),
             outward: found.outward.saturating_add(outward),
@@ -143,13 +138,15 @@ fn stanzas_of(item: &Inward) -> u64 {
     }
 }
 
-// A wire was closed: what its session carried on it is noted.
+// A wire was closed: what was carried on it is noted.
 fn end<R: Wait>(rt: &R, watch: &Watch, carried: &mut BTreeMap<u64, Carried>, wire: Wire) {
-    if !is_plain(wire) {
-        return;
+    if let Some(carried) = carried.remove(&wire.number()) {
+        note_carried(rt, watch, wire.number(), carried);
     }
-    let number = session_of(wire);
-    if let Some(carried) = carried.remove(&number) {
-        watch.note(rt, Some(Note::Carried { number, carried }));
-    }
+}
+
+// So much was carried for the session of the wire with this number.
+fn note_carried<R: Wait>(rt: &R, watch: &Watch, wire: u64, carried: Carried) {
+    let number = wire / STREAMS;
+    watch.note(rt, Some(Note::Carried { number, carried }));
 }
