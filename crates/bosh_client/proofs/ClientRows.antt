@@ -58,7 +58,7 @@ abbrev took : Reply
 took = ToAnswer answerings.Done
 
 abbrev got : List ℕ → Reply
-got payload = ToHandOut (Some payload)
+got payload = ToHandOut (Some (0, payload))
 
 -- the greatest id is used, and what is queued then stays
 spent_ids :

@@ -1,5 +1,5 @@
 -- What a client has to send, and what one body takes of it.
-use Rattle.std.specs.Prelude.{ℕ, zero, suc, ◌+◌, ◌==◌, ◌&&◌, nat_lt, nat_le, min, Bool, true, false, List, [], ◌∷◌, length, take, sum_by, Option, None, Some, if◌then◌else◌}
+use Rattle.std.specs.Prelude.{ℕ, zero, suc, ◌==◌, ◌&&◌, nat_le, min, Bool, true, false, List, [], ◌∷◌, length, take, sum_by, Option, None, Some, if◌then◌else◌}
 use Rattle.std.specs.List.{list_all}
 use Rattle.bosh_types.specs.Limits.{longest_stanza, most_children}
 use Rattle.stream_names.specs.PlainStreams.{PlainStreams, after_open, with_closed}

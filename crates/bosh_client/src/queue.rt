@@ -1,4 +1,4 @@
-ghost use Rattle.std.specs.Prelude.{◌≡◌, ◌<◌, ℕ, List, Option, ◌≤◌, ◌==◌, ◌+◌, IfOk, OnOk, OnErr, [], ◌∷◌, ◌++◌, drop, false, length, min, slice_get, take, true};
+ghost use Rattle.std.specs.Prelude.{◌≡◌, ◌<◌, ℕ, List, Option, ◌≤◌, ◌==◌, ◌+◌, IfOk, OnOk, OnErr, [], ◌∷◌, ◌++◌, None, Some, drop, false, if◌then◌else◌, length, min, slice_get, take, true};
 ghost use Rattle.std.specs.List.{count_by, list_any};
 ghost use Rattle.std.specs.Option.{SomeIff, option_copied};
 ghost use Rattle.bosh_types.specs.Limits.{longest_stanza, most_children, most_waiting};
@@ -102,10 +102,7 @@ impl Queue {
     {
         match self.first() {
             None => Load::of(0),
-            Some(Outgoing::Stanza { on, .. }) => Load {
-                stream: *on,
-                ..Load::of(self.fitting(*on))
-            },
+            Some(Outgoing::Stanza { on, .. }) => self.stanza_load(*on),
             Some(Outgoing::Restart) => Load {
                 restart: true,
                 ..Load::of(1)
@@ -127,16 +124,26 @@ impl Queue {
         }
     }
 
-    // How long the longest front of stanzas is that one body may take, where the first is for this stream.
-    fn fitting(&self, on: Option<StreamNo>) -> usize
-        ensures longest { (bytes : List ℕ) (others : List Outgoing) → self.now ≡ Stanza on bytes ∷ others
-            → take result self.now ≡ longest_front (min most_children (length self.now)) self.now }
+    // What one body takes, where the first item is a stanza that is for this stream.
+    fn stanza_load(&self, on: Option<StreamNo>) -> Load
+        ensures { (bytes : List ℕ) → slice_get self.now 0 ≡ Some (Stanza on bytes) → Loads self.now result }
+    {
+        let count = self.fitting();
+        Load {
+            stream: stream_for(on, count),
+            ..Load::of(count)
+        }
+    }
+
+    // How long the longest front of stanzas for the same stream is that one body may take.
+    fn fitting(&self) -> usize
+        ensures longest { take result self.now ≡ longest_front (min most_children (length self.now)) self.now }
         ensures within { result ≤ length self.now }
     {
         let most = self.items.len().min(MOST_CHILDREN);
         let mut bytes = 0;
         for count in 0..most {
-            let Some(sum) = sum_with(on, bytes, &self.items[count]) else {
+            let Some(sum) = sum_with(&self.items[0], bytes, &self.items[count]) else {
                 return count;
             };
             bytes = sum;
@@ -156,14 +163,13 @@ impl Queue {
         Ok(Stanzas::from_vec(stanzas))
     }
 
-    /// The host to which the first of these items adds a stream, if it does.
-    pub(crate) fn host_in(&self, alloc: Global, count: usize) -> Result<Option<Text>, AllocError>
-        requires { count ≤ length self.now }
-        ensures { IfOk result (λ host. take count self.now ≡ front_of self.now → host ≡ host_in (take count self.now)) }
+    /// The host to which what one body takes adds a stream, if it does.
+    pub(crate) fn host_in(&self, alloc: Global) -> Result<Option<Text>, AllocError>
+        ensures { IfOk result (λ host. host ≡ host_in (front_of self.now)) }
     {
         match self.first() {
-            Some(Outgoing::Add(to)) => Ok(Some(to.copy_in(alloc)?)),
-            _ => Ok(None),
+            Some(item) => host_of(alloc, item),
+            None => Ok(None),
         }
     }
 
@@ -213,23 +219,54 @@ fn push_stanza(alloc: Global, stanzas: &mut Vec<Text>, item: &Outgoing) -> Resul
     }
 }
 
-// The sum with this item, where it is a stanza for the same stream that still fits.
-fn sum_with(on: Option<StreamNo>, bytes: usize, item: &Outgoing) -> Option<usize>
+// The host to which this adds a stream, if it does.
+fn host_of(alloc: Global, item: &Outgoing) -> Result<Option<Text>, AllocError>
+    ensures { IfOk result (λ host. host ≡ host_in (item.now ∷ [])) }
+{
+    match item {
+        Outgoing::Add(to) => Ok(Some(to.copy_in(alloc)?)),
+        _ => Ok(None),
+    }
+}
+
+// The stream of so many stanzas, the first of which is for this one.
+fn stream_for(on: Option<StreamNo>, count: usize) -> Option<StreamNo>
+    ensures { result ≡ (if count == 0 then None else on) }
+{
+    if count == 0 {
+        return None;
+    }
+    on
+}
+
+// The sum with this item, where it is a stanza for the same stream as the first one that still fits.
+fn sum_with(first: &Outgoing, bytes: usize, item: &Outgoing) -> Option<usize>
     requires { bytes ≤ longest_stanza }
     ensures { SomeIff result
-        ((is_stanza item.now ≡ true) × (same_stream on (stream_of item.now) ≡ true) × (bytes + size_of item.now ≤ longest_stanza))
+        ((is_stanza item.now ≡ true) × (same_stream (stream_of first.now) (stream_of item.now) ≡ true) × (bytes + size_of item.now ≤ longest_stanza))
         (bytes + size_of item.now) }
 {
     match item {
-        Outgoing::Stanza {
-            on: other,
-            bytes: text,
-        } => {
-            if !same_stream(on, *other) || text.len() > LONGEST_STANZA - bytes {
+        Outgoing::Stanza { on, bytes: text } => {
+            if !same_stream(stream_of(first), *on) {
+                return None;
+            }
+            if text.len() > LONGEST_STANZA - bytes {
                 return None;
             }
             Some(bytes + text.len())
         }
+        _ => None,
+    }
+}
+
+// The stream that it is for, where it is for one alone.
+fn stream_of(item: &Outgoing) -> Option<StreamNo>
+    ensures { result ≡ stream_of item.now }
+{
+    match item {
+        Outgoing::Stanza { on, .. } => *on,
+        Outgoing::Close(stream) => Some(*stream),
         _ => None,
     }
 }

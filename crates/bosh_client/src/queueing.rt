@@ -14,7 +14,6 @@ use crate::replies::Queued;
 use bosh_types::limits::{MOST_STREAMS, MOST_WAITING};
 use bosh_types::{StreamNo, Text};
 use std::alloc::{AllocError, Global};
-use stream_names::Shut;
 
 impl Client {
     /// A stanza is to be sent, for all streams that are open. `Full` exactly where 1024 stanzas are queued, and `Over`, which is tested first, exactly where
@@ -113,9 +112,8 @@ impl Client {
             return Ok(Queued::NoStream);
         }
         self.queue.push_other(Outgoing::Close(stream))?;
-        if self.streams.close(stream) == Shut::Last {
-            self.closing = true;
-        }
+        let _shut = self.streams.close(stream);
+        self.closing = self.streams.running().is_empty();
         Ok(Queued::Done)
     }
 

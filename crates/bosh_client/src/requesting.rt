@@ -170,7 +170,7 @@ impl Client {
             rid,
             sid: self.sid(alloc)?,
             stream: load.stream,
-            to: self.queue.host_in(alloc, load.count)?,
+            to: self.queue.host_in(alloc)?,
             creation: None,
             ack: self.ack_for(rid),
             key: self.keys.as_ref().map(|keys| keys.key()),
