@@ -16,9 +16,9 @@ use bosh_types::{StreamNo, Text};
 use std::alloc::{AllocError, Global};
 
 impl Client {
-    /// A stanza is to be sent, for all streams that are open. `Full` exactly where 1024 stanzas are queued, and `Over`, which is tested first, exactly where
-    /// the client has ended, or a terminate was queued, or the closing of the last stream: then the stanza is not taken. An `Err` comes
-    /// from want of memory alone, and the client is as before.
+    /// A stanza is to be sent, for all streams that are open. `Full` exactly where 1024 stanzas are queued, and `Over`, which is tested
+    /// first, exactly where the client has ended, or a terminate was queued, or the closing of the last stream: then the stanza is not
+    /// taken. An `Err` comes from want of memory alone, and the client is as before.
     #[tactic(auto, unfolding(crate::specs::StandsFor::StandsFor))]
     pub fn put(&mut self, alloc: Global, stanza: &[u8]) -> Result<Queued, AllocError>
         requires { IsTrue (is_stanza stanza.now) }
