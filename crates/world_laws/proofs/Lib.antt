@@ -17,6 +17,7 @@ pub mod MadeLemmas
 pub mod MomentLemmas
 pub mod NameLemmas
 pub mod OnTimeLemmas
+pub mod OpenForLemmas
 pub mod PlaceLemmas
 pub mod PrefixLemmas
 pub mod ProperLemmas
@@ -24,6 +25,7 @@ pub mod ReadingLemmas
 pub mod RequestLemmas
 pub mod Rows
 pub mod SeenLemmas
+pub mod SentLemmas
 pub mod ShapeLemmas
 pub mod ShownLemmas
 pub mod StateLemmas

@@ -1,7 +1,7 @@
 -- What goes inward on a stream is a beginning of what the copies of the run carry for it, from the one that adds it to the one that closes it.
 use Rattle.std.proofs.Common.{◌≡◌, ◌≢◌, ◌⊎◌, inl, inr, ℕ, ◌+◌, ◌<◌, ◌≤◌, ◌==◌, ◌&&◌, ◌||◌, Bool, true, false, not, cond, List, [], ◌∷◌, ◌++◌, filter, map, length, Option, Some, None, refl, sym, ◌∙◌, ap, subst, arith, append_assoc}
 use Rattle.std.specs.Prelude.{All, nat_lt, is_some, option_to_list, if◌then◌else◌}
-use Rattle.std.specs.List.{list_any}
+use Rattle.std.specs.List.{list_all, list_any}
 use Rattle.std.specs.Str.{bytes_eq}
 use Rattle.std.proofs.lemmas.Bool.{cases_eq, cases_lt, ltb-true, ne_eqb}
 use Rattle.std.proofs.lemmas.Bool.Decides.{nat_tests}
@@ -22,9 +22,9 @@ use Rattle.session_core.specs.Journal.{IsJournal, Journal, state_of}
 use Rattle.session_core.specs.Machine.{as_processed, opened, with_copy}
 use Rattle.session_core.specs.Outward.{takes_closing}
 use Rattle.session_core.specs.Passed.{stream_of}
-use Rattle.session_core.specs.Processed.{Processed, as_creation, close_items, closes, copies_of, items_by, items_of, items_of_all, open_items, restart_items, stanza_items, targets_among, targets_of}
+use Rattle.session_core.specs.Processed.{Processed, as_creation, close_items, closes, copies_of, ends, items_by, items_of, items_of_all, open_items, restart_items, stanza_items, targets_among, targets_of}
 use Rattle.session_core.specs.State.{Answered, PlainSession, inward, is_open_in, opened_in, running, running_in}
-use Rattle.session_core.proofs.StreamLemmas.{any_push, opened_push, target_runs}
+use Rattle.session_core.proofs.StreamLemmas.{any_push, not_add, opened_push, target_runs}
 use Rattle.session_laws.proofs.Grows.{items_append, steady-all}
 use Rattle.session_laws.proofs.Lists.{copies_push}
 use Rattle.session_laws.proofs.Moves.{Steady}
@@ -304,9 +304,44 @@ pub record Sending (processed : List Processed) (answered : List Answered) (stre
   pub front : Begins (content_on stream (items_of_all processed)) (carried_while begun stream (copies_of processed))
   pub whole : (is_among (running_in processed answered) stream ≡ true) ⊎ (opened_in processed ≤ stream)
       → content_on stream (items_of_all processed) ≡ carried_while begun stream (copies_of processed)
+  -- one that a copy closed was opened, and isn't open by the copies, where none of them ended the session
+  pub low : list_any (closes stream) processed ≡ true → stream < opened_in processed
+  pub shut : list_any ends processed ≡ false → list_any (closes stream) processed ≡ true → is_among (left_by processed).running stream ≡ false
 
 abbrev pub Sends : ℕ → PlainSession → Type 0
 Sends stream s = Sending s.processed s.answered stream
+
+-- Names of streams.
+
+no_stream : (stream : ℕ) → None ≡ Some stream → ⊥
+no_stream stream is = cc
+
+same_name : {m : ℕ} (n : ℕ) → name_of n ≡ name_of m → n ≡ m
+same_name {m} n same = elim (cases_eq n m) [
+  | inl one ↦ one
+  | inr other ↦
+      let unlike : bytes_eq (name_of n) (name_of m) ≡ false = grind (arith, nat_tests, other) in
+      absurd (true_false (sym ((bytes_eq-Decides (name_of n) (name_of m)).1 same) ∙ unlike))
+]
+
+found_number : (n : ℕ) (name : List ℕ) → n < most_streams → name ≡ name_of n → named (numbers_from 0 most_streams) name ≡ Some n
+unfolding those
+found_number n name small is = named_stream (λ m. true) n name small is ∙ ap (λ (b : Bool). cond b (Some n) None) (among (λ m. true) n small)
+
+all_among : (xs : List ℕ) → list_all (is_among xs) xs ≡ true
+all_among xs = every xs (λ x is. is)
+  where
+    or_true : (b : Bool) → (b || true) ≡ true
+    or_true true = refl
+    or_true false = refl
+
+    every : (ys : List ℕ) → ((y : ℕ) → is_among ys y ≡ true → is_among xs y ≡ true) → list_all (is_among xs) ys ≡ true
+    every [] within = refl
+    every (y ∷ ys) within =
+        let itself : (y == y) ≡ true = grind (arith, nat_tests) in
+        let here : is_among xs y ≡ true = within y (ap (λ (b : Bool). b || is_among ys y) itself) in
+        let later : list_all (is_among xs) ys ≡ true = every ys (λ z is. within z (ap (λ (b : Bool). (y == z) || b) is ∙ or_true (y == z))) in
+        (λ i. here i && later i)
 
 -- A copy is processed.
 
@@ -377,10 +412,11 @@ module _ (s : PlainSession) (stream : ℕ) (h : Sends stream s) (copy : RequestC
 
   -- what it does to the streams
   data Turned : Type 0 where
-    Opens : opened_in s.processed < most_streams → copy_streams before copy ≡ with_next before → one.opened ≡ Some (opened_in s.processed) → Turned
+    Opens : is_add copy ≡ true → opened_in s.processed < most_streams → copy_streams before copy ≡ with_next before → one.opened ≡ Some (opened_in s.processed) → Turned
     Shuts : (name : List ℕ) (n : ℕ) → copy.request.terminate ≡ true → copy.request.stream ≡ Some name → name_of n ≡ name
         → copy_streams before copy ≡ with_closed before n → one.opened ≡ None → Turned
-    Stays : copy_streams before copy ≡ before → one.opened ≡ None → Turned
+    Stays : (copy.request.terminate ≡ true → (copy.request.stream ≡ None) ⊎ ((name : List ℕ) × (copy.request.stream ≡ Some name) × (named (numbers_from 0 most_streams) name ≡ None)))
+        → copy_streams before copy ≡ before → one.opened ≡ None → Turned
 
   abbrev rest : PlainStreams
   rest = if copy.request.terminate then with_named_closed before copy.request.stream else before
@@ -393,7 +429,7 @@ module _ (s : PlainSession) (stream : ℕ) (h : Sends stream s) (copy : RequestC
 
       by_name : (o : Option ℕ) (name : List ℕ) → is_add copy ≡ false → copy.request.terminate ≡ true → copy.request.stream ≡ Some name
           → named (numbers_from 0 most_streams) name ≡ o → Turned
-      by_name None name other ends says found = Stays
+      by_name None name other ends says found = Stays (λ it. inr (name, says, found))
           (ap (λ (b : Bool). if b then after_open before else rest) other
           ∙ ap (λ (b : Bool). if b then with_named_closed before copy.request.stream else before) ends
           ∙ ap (with_named_closed before) says ∙ ap (with_found_closed before) found)
@@ -405,7 +441,7 @@ module _ (s : PlainSession) (stream : ℕ) (h : Sends stream s) (copy : RequestC
           (not_opened other)
 
       by_stream : (o : Option (List ℕ)) → is_add copy ≡ false → copy.request.terminate ≡ true → copy.request.stream ≡ o → Turned
-      by_stream None other ends says = Stays
+      by_stream None other ends says = Stays (λ it. inl says)
           (ap (λ (b : Bool). if b then after_open before else rest) other
           ∙ ap (λ (b : Bool). if b then with_named_closed before copy.request.stream else before) ends
           ∙ ap (with_named_closed before) says)
@@ -414,16 +450,16 @@ module _ (s : PlainSession) (stream : ℕ) (h : Sends stream s) (copy : RequestC
 
       by_end : (b : Bool) → is_add copy ≡ false → copy.request.terminate ≡ b → Turned
       by_end true other ends = by_stream copy.request.stream other ends refl
-      by_end false other goes = Stays
+      by_end false other goes = Stays (λ it. absurd (true_false (sym it ∙ goes)))
           (ap (λ (b : Bool). if b then after_open before else rest) other ∙ ap (λ (b : Bool). if b then with_named_closed before copy.request.stream else before) goes)
           (not_opened other)
 
       by_room : (r : Bool) → is_add copy ≡ true → nat_lt (opened_in s.processed) most_streams ≡ r → Turned
-      by_room true adds room = Opens (ltb-true (opened_in s.processed) most_streams room)
+      by_room true adds room = Opens adds (ltb-true (opened_in s.processed) most_streams room)
           (ap (λ (b : Bool). if b then after_open before else rest) adds
           ∙ ap (λ (b : Bool). if b then with_next before else before) (ap (λ (n : ℕ). nat_lt n most_streams) h.opened_is ∙ room))
           (λ i. if adds i && room i then Some (opened_in s.processed) else None)
-      by_room false adds room = Stays
+      by_room false adds room = Stays (λ it. absurd (true_false (sym adds ∙ not_add copy it)))
           (ap (λ (b : Bool). if b then after_open before else rest) adds
           ∙ ap (λ (b : Bool). if b then with_next before else before) (ap (λ (n : ℕ). nat_lt n most_streams) h.opened_is ∙ room))
           (λ i. if adds i && room i then Some (opened_in s.processed) else None)
@@ -442,17 +478,17 @@ module _ (s : PlainSession) (stream : ℕ) (h : Sends stream s) (copy : RequestC
   sound_after = subst AreSound (sym after_is) (by turned)
     where
       by : Turned → AreSound (copy_streams before copy)
-      by (Opens room is new) = subst AreSound (sym is) (sound_next before h.sound (omega (arith, room, h.opened_is)))
+      by (Opens adds room is new) = subst AreSound (sym is) (sound_next before h.sound (omega (arith, room, h.opened_is)))
       by (Shuts name n ends says named_so is old) = subst AreSound (sym is) (sound_without before n h.sound)
-      by (Stays is old) = subst AreSound (sym is) h.sound
+      by (Stays only is old) = subst AreSound (sym is) h.sound
 
   opened_after : after.opened ≡ opened_in (s.processed ++ one ∷ [])
   opened_after = ap (λ (x : PlainStreams). x.opened) after_is ∙ by turned
     where
       by : Turned → (copy_streams before copy).opened ≡ opened_in (s.processed ++ one ∷ [])
-      by (Opens room is new) = ap (λ (x : PlainStreams). x.opened) is ∙ ap (λ (n : ℕ). n + 1) h.opened_is ∙ sym (count_opened (opened_in s.processed) new)
+      by (Opens adds room is new) = ap (λ (x : PlainStreams). x.opened) is ∙ ap (λ (n : ℕ). n + 1) h.opened_is ∙ sym (count_opened (opened_in s.processed) new)
       by (Shuts name n ends says named_so is old) = ap (λ (x : PlainStreams). x.opened) is ∙ h.opened_is ∙ sym (count_same old)
-      by (Stays is old) = ap (λ (x : PlainStreams). x.opened) is ∙ h.opened_is ∙ sym (count_same old)
+      by (Stays only is old) = ap (λ (x : PlainStreams). x.opened) is ∙ h.opened_is ∙ sym (count_same old)
 
   -- one that is open after it, and was opened before, was open, and isn't closed by it
   was_open : stream < opened_in s.processed → is_among (running (with_copy s copy)) stream ≡ true → (is_among (running s) stream ≡ true) × (closes stream one ≡ false)
@@ -479,7 +515,7 @@ module _ (s : PlainSession) (stream : ℕ) (h : Sends stream s) (copy : RequestC
       or_true false = refl
 
       by : Turned → is_among (copy_streams before copy).running stream ≡ true
-      by (Opens room turn new) =
+      by (Opens adds room turn new) =
           ap (λ (x : PlainStreams). is_among x.running stream) turn ∙ among (λ m. is_among before.running m || (m == before.opened)) stream small
           ∙ elim (cases_lt stream (opened_in s.processed)) [
             | inl less ↦ ap (λ (b : Bool). b || (stream == before.opened)) (h.within (was_open less is).0)
@@ -495,7 +531,7 @@ module _ (s : PlainSession) (stream : ℕ) (h : Sends stream s) (copy : RequestC
           target_is was.0 ∙ ap (is_named stream) says ∙ (bytes_eq-Decides (name_of stream) name).1 (ap name_of same ∙ named_so) in
           true_false (sym (λ i. ends i && for_it i) ∙ was.1) in
           ap (λ (x : PlainStreams). is_among x.running stream) turn ∙ among_without before.running n stream (h.within was.0) apart
-      by (Stays turn old) = ap (λ (x : PlainStreams). is_among x.running stream) turn ∙ h.within (was_open (omega (arith, below_after is, count_same old)) is).0
+      by (Stays only turn old) = ap (λ (x : PlainStreams). is_among x.running stream) turn ∙ h.within (was_open (omega (arith, below_after is, count_same old)) is).0
 
   -- a stream that isn't opened yet isn't open by the copies
   not_yet : opened_in s.processed ≤ stream → is_among before.running stream ≡ false
@@ -504,6 +540,112 @@ module _ (s : PlainSession) (stream : ℕ) (h : Sends stream s) (copy : RequestC
       by : (b : Bool) → is_among before.running stream ≡ b → b ≡ false
       by true is = absurd (omega (arith, later, h.opened_is, among_all (λ m. m < before.opened) before.running stream h.sound.opened_once is))
       by false is = refl
+
+  -- a copy closes what is open
+  closes_running : closes stream one ≡ true → is_among (running s) stream ≡ true
+  closes_running is = by (is_among (running s) stream) refl
+    where
+      by : (b : Bool) → is_among (running s) stream ≡ b → b ≡ true
+      by true holds = refl
+      by false fails = absurd (true_false (sym (both_true copy.request.terminate (is_among (targets_of one) stream) is).1 ∙ target_runs (running s) copy.request.stream stream fails))
+
+  low_after : list_any (closes stream) (s.processed ++ one ∷ []) ≡ true → stream < opened_in (s.processed ++ one ∷ [])
+  low_after is = by (list_any (closes stream) s.processed) refl
+    where
+      by : (b : Bool) → list_any (closes stream) s.processed ≡ b → stream < opened_in (s.processed ++ one ∷ [])
+      by true before_it = omega (arith, h.low before_it, opened_push s.processed one)
+      by false not_before =
+          let now : closes stream one ≡ true = ap (λ (b : Bool). b || closes stream one) (sym not_before) ∙ sym (any_push (closes stream) s.processed one) ∙ is in
+          let open_now = open_is s.processed s.answered stream (closes_running now) in
+          omega (arith, ltb-true stream (opened_in s.processed) (open_parts s.processed s.answered stream open_now.1).0, opened_push s.processed one)
+
+  shut_after : list_any ends (s.processed ++ one ∷ []) ≡ false → list_any (closes stream) (s.processed ++ one ∷ []) ≡ true → is_among after.running stream ≡ false
+  shut_after none is = ap (λ (x : PlainStreams). is_among x.running stream) after_is ∙ by (list_any (closes stream) s.processed) refl turned
+    where
+      goes : (list_any ends s.processed ≡ false) × (ends one ≡ false)
+      goes = neither (list_any ends s.processed) (ends one) (sym (any_push ends s.processed one) ∙ none)
+
+      closed_now : list_any (closes stream) s.processed ≡ false → closes stream one ≡ true
+      closed_now not_before = ap (λ (b : Bool). b || closes stream one) (sym not_before) ∙ sym (any_push (closes stream) s.processed one) ∙ is
+
+      -- an add is no terminate
+      add_goes : is_add copy ≡ true → copy.request.terminate ≡ true → ⊥
+      add_goes adds ends_it = true_false (sym adds ∙ not_add copy ends_it)
+
+      gone : (n : ℕ) → is_among (without before.running n) n ≡ false
+      gone n = by_any (is_among (without before.running n) n) refl
+        where
+          by_any : (b : Bool) → is_among (without before.running n) n ≡ b → b ≡ false
+          by_any true holds = absurd (among_all (λ m. m ≢ n) (without before.running n) n (All-filter_test before.running) holds refl)
+            where
+              All-filter_test : (xs : List ℕ) → All (λ m. m ≢ n) (without xs n)
+              All-filter_test [] = All-nil (λ m. m ≢ n)
+              All-filter_test (x ∷ xs) = elim (cases_eq x n) [
+                | inl same ↦
+                    let out : not (x == n) ≡ false = grind (arith, nat_tests, same) in
+                    subst (λ (b : Bool). All (λ m. m ≢ n) (cond b (x ∷ without xs n) (without xs n))) (sym out) (All-filter_test xs)
+                | inr other ↦
+                    let kept : not (x == n) ≡ true = ap not (ne_eqb x n other) in
+                    subst (λ (b : Bool). All (λ m. m ≢ n) (cond b (x ∷ without xs n) (without xs n))) (sym kept) (All-cons (λ m. m ≢ n) x (without xs n) other (All-filter_test xs))
+              ]
+          by_any false fails = refl
+
+      still_gone : (n : ℕ) → is_among before.running stream ≡ false → is_among (without before.running n) stream ≡ false
+      still_gone n fails = by_any (is_among (without before.running n) stream) refl
+        where
+          by_any : (b : Bool) → is_among (without before.running n) stream ≡ b → b ≡ false
+          by_any true holds = absurd (true_false (sym (in_all before.running holds) ∙ fails))
+            where
+              or_true : (b : Bool) → (b || true) ≡ true
+              or_true true = refl
+              or_true false = refl
+
+              in_all : (xs : List ℕ) → is_among (without xs n) stream ≡ true → is_among xs stream ≡ true
+              in_all [] holds = holds
+              in_all (x ∷ xs) holds = of (not (x == n)) holds (in_all xs)
+                where
+                  of : (b : Bool) → is_among (cond b (x ∷ without xs n) (without xs n)) stream ≡ true → (is_among (without xs n) stream ≡ true → is_among xs stream ≡ true) → is_among (x ∷ xs) stream ≡ true
+                  of true holds rest = first (x == stream) holds
+                    where
+                      first : (b : Bool) → (b || is_among (without xs n) stream) ≡ true → (b || is_among xs stream) ≡ true
+                      first true holds = refl
+                      first false holds = rest holds
+                  of false holds rest = ap (λ (b : Bool). (x == stream) || b) (rest holds) ∙ or_true (x == stream)
+          by_any false fails = refl
+
+      by : (b : Bool) → list_any (closes stream) s.processed ≡ b → Turned → is_among (copy_streams before copy).running stream ≡ false
+      by true before_it (Opens adds room turn new) =
+          let small : stream < most_streams = omega (arith, h.low before_it, room) in
+          let other : (stream == before.opened) ≡ false = ne_eqb stream before.opened (λ same. omega (arith, same, h.low before_it, h.opened_is)) in
+          ap (λ (x : PlainStreams). is_among x.running stream) turn ∙ among (λ m. is_among before.running m || (m == before.opened)) stream small
+          ∙ (λ i. h.shut goes.0 before_it i || other i)
+      by true before_it (Shuts name n ends_it says named_so turn old) =
+          ap (λ (x : PlainStreams). is_among x.running stream) turn ∙ still_gone n (h.shut goes.0 before_it)
+      by true before_it (Stays only turn old) = ap (λ (x : PlainStreams). is_among x.running stream) turn ∙ h.shut goes.0 before_it
+      by false not_before (Opens adds room turn new) =
+          absurd (add_goes adds (both_true copy.request.terminate (is_among (targets_of one) stream) (closed_now not_before)).0)
+      by false not_before (Shuts name n ends_it says named_so turn old) =
+          let closed = closed_now not_before in
+          let for_it : is_named stream (Some name) ≡ true =
+          ap (is_named stream) (sym says) ∙ sym (target_is (closes_running closed)) ∙ (both_true copy.request.terminate (is_among (targets_of one) stream) closed).1 in
+          let same : n ≡ stream = same_name n (named_so ∙ sym ((bytes_eq-Decides (name_of stream) name).0 for_it)) in
+          ap (λ (x : PlainStreams). is_among x.running stream) turn ∙ ap (λ (m : ℕ). is_among (without before.running m) stream) same ∙ gone stream
+      by false not_before (Stays only turn old) = absurd (only_stays (closed_now not_before) only)
+        where
+          -- what closes it, and names no stream, closes all, and so ends the session
+          only_stays : closes stream one ≡ true → (copy.request.terminate ≡ true → (copy.request.stream ≡ None) ⊎ ((name : List ℕ) × (copy.request.stream ≡ Some name) × (named (numbers_from 0 most_streams) name ≡ None))) → ⊥
+          only_stays closed how = elim (how (both_true copy.request.terminate (is_among (targets_of one) stream) closed).0) [
+            | inl none_named ↦
+                let all : list_all (is_among (targets_of one)) (running s) ≡ true = ap (λ (o : Option (List ℕ)). list_all (is_among (targets_among (running s) o)) (running s)) none_named ∙ all_among (running s) in
+                let ends_so : ends one ≡ true = λ i. (both_true copy.request.terminate (is_among (targets_of one) stream) closed).0 i && all i in
+                true_false (sym ends_so ∙ goes.1)
+            | inr unknown ↦
+                let for_it : is_named stream (Some unknown.0) ≡ true =
+                ap (is_named stream) (sym unknown.1) ∙ sym (target_is (closes_running closed)) ∙ (both_true copy.request.terminate (is_among (targets_of one) stream) closed).1 in
+                let small : stream < most_streams = (open_is s.processed s.answered stream (closes_running closed)).0 in
+                let found : named (numbers_from 0 most_streams) unknown.0 ≡ Some stream = found_number stream unknown.0 small (sym ((bytes_eq-Decides (name_of stream) unknown.0).0 for_it)) in
+                no_stream stream (sym unknown.2 ∙ found)
+          ]
 
   more_opened : opened_in s.processed ≤ opened_in (s.processed ++ one ∷ [])
   more_opened = omega (arith, opened_push s.processed one)
@@ -515,6 +657,8 @@ module _ (s : PlainSession) (stream : ℕ) (h : Sends stream s) (copy : RequestC
     within = within_after;
     front = front_by (is_among (running s) stream) refl;
     whole = λ cases. whole_by (is_among (running s) stream) refl cases;
+    low = low_after;
+    shut = shut_after;
   }
     where
       same_now : is_among (running s) stream ≡ true → content_on stream (items_of_all (s.processed ++ one ∷ [])) ≡ carried_while begun stream (copies_of (s.processed ++ one ∷ []))
@@ -572,6 +716,8 @@ sends_steady stream = record {
       | inl runs ↦ p.whole (inl (fewer_run t.processed t.answered _ stream runs))
       | inr later ↦ p.whole (inr later)
     ];
+    low = p.low;
+    shut = p.shut;
   };
   processes = λ t copy on stands broken p. sends_after t stream p copy;
   stands = λ t copy above none small p. p;
@@ -591,6 +737,8 @@ sends_first stream = record {
       ap (λ (n : ℕ). is_among (0 ∷ []) n) first;
   front = ([], refl);
   whole = λ cases. refl;
+  low = λ is. absurd (true_false (sym is));
+  shut = λ none is. absurd (true_false (sym is));
 }
 
 -- what lies on a stream of what goes inward begins with what the creation carries, and goes on with a beginning of what the others carry
@@ -605,3 +753,29 @@ sent_on journal made stream =
     let split_so : content_on stream (inward s) ≡ creation ++ items =
     filter-append (λ item. is_content item && (stream_of item == stream)) (items_of (as_creation s.creation)) (items_of_all s.processed) in
     (sends.front.0, ap (λ (l : List Inward). creation ++ l) sends.front.1 ∙ sym (append_assoc creation items sends.front.0) ∙ ap (λ (l : List Inward). l ++ sends.front.0) (sym split_so))
+
+-- which streams are open by the copies of a session that no terminate ended: those that were opened and that no copy closed
+pub left_open : (journal : Journal) → IsJournal journal → (stream : ℕ) → list_any ends (state_of journal).processed ≡ false
+    → is_among (left_by (state_of journal).processed).running stream ≡ true → (stream < opened_in (state_of journal).processed) × (list_any (closes stream) (state_of journal).processed ≡ false)
+left_open journal made stream none is =
+    let s : PlainSession = state_of journal in
+    let sends : Sends stream s = steady-all (Sends stream) (sends_steady stream) (opened journal.opening) journal.entries made.1 (sends_first stream) in
+    (omega (arith, sends.opened_is, among_all (λ m. m < (left_by s.processed).opened) (left_by s.processed).running stream sends.sound.opened_once is), by (list_any (closes stream) s.processed) refl sends)
+  where
+    by : (b : Bool) → list_any (closes stream) (state_of journal).processed ≡ b → Sends stream (state_of journal) → b ≡ false
+    by true closed sends = absurd (true_false (sym is ∙ sends.shut none closed))
+    by false open_now sends = refl
+
+-- a creation without stanzas carries nothing
+pub bare_creation : (copy : RequestCopy) (stream : ℕ) → stanzas_of copy ≡ [] → copy.request.restart ≡ false → content_on stream (items_of (as_creation copy)) ≡ []
+bare_creation copy stream none plain =
+    let f : ℕ → Bool = λ n. is_among [] n || (n == 0) in
+    let alone : those f ≡ 0 ∷ [] = one_alone 0 (omega arith) in
+    let one : HasOne stream (targets_among (0 ∷ []) copy.request.stream) = subst (λ (l : List ℕ). HasOne stream (targets_among l copy.request.stream)) alone (targets_one f stream copy.request.stream) in
+    items_on stream (targets_among (0 ∷ []) copy.request.stream) one copy None
+    ∙ (λ i. cond (is_among (targets_among (0 ∷ []) copy.request.stream) stream) (map (Item stream) (none i) ++ (if plain i then Restart stream ∷ [] else [])) [])
+    ∙ both (is_among (targets_among (0 ∷ []) copy.request.stream) stream)
+  where
+    both : (b : Bool) → cond b nothing nothing ≡ nothing
+    both true = refl
+    both false = refl
