@@ -37,6 +37,7 @@ use Rattle.bosh_client.specs.declared.replies.ClientEnd.{ClientEnd}
 use Rattle.bosh_client.specs.declared.setup.ClientSetup.{ClientSetup}
 use Rattle.bosh_client.specs.declared.told.Told.{Told}
 use Rattle.bosh_client.specs.AnswerReading.{answer_of}
+use Rattle.bosh_client.specs.Machine.{is_unknown}
 use Rattle.bosh_client.specs.PlainClient.{stream_named}
 use Rattle.bosh_client.specs.ReadBack.{IsInForm, end_in, naming_in, told_of}
 use Rattle.bosh_client.specs.Setup.{is_setup}
@@ -112,6 +113,14 @@ short_items items fits = leb-true (size_of_all items) longest_stanza (both_true 
 said_stream : (stream : Option ℕ) → stream_named (naming_in stream) ≡ unwrap_or stream 0
 said_stream None = refl
 said_stream (Some stream) = refl
+
+-- a body tells something, and its stream has a name that is known, if any
+abbrev pub TellsNaming : List ℕ → Type 0
+TellsNaming body = (tells : Told) × (answer_of body ≡ Ok tells) × (is_unknown tells.stream ≡ false)
+
+known : (stream : Option ℕ) → is_unknown (naming_in stream) ≡ false
+known None = refl
+known (Some stream) = refl
 
 pub greeting_lies : (greeting : List (List ℕ)) → All (LiesOn unnamed) (map (Stanza unnamed) greeting)
 greeting_lies [] = All-nil (LiesOn unnamed)
@@ -266,12 +275,12 @@ module _ (below : Below) where
       let end : end_in Terminate None condition ≡ None = sym (ap (λ (t : Told). t.end) told) ∙ on in
       cc
 
-  -- whatever a session writes tells the client something
-  pub read_tells : (bytes : List ℕ) (items : List Outward) → IsRead bytes items → (tells : Told) × (answer_of bytes ≡ Ok tells)
-  read_tells bytes items r = (told_of r.parts, ap answer_of r.bytes_are ∙ below.answer_read r.parts r.is r.form)
+  -- whatever a session writes tells the client something, and names none but a stream that a session may have
+  pub read_tells : (bytes : List ℕ) (items : List Outward) → IsRead bytes items → TellsNaming bytes
+  read_tells bytes items r = (told_of r.parts, ap answer_of r.bytes_are ∙ below.answer_read r.parts r.is r.form, known r.parts.stream)
 
-  pub word_tells : (answered : ℕ) (ending : Ending) (id : ℕ) → (tells : Told) × (answer_of (last_word answered ending id) ≡ Ok tells)
+  pub word_tells : (answered : ℕ) (ending : Ending) (id : ℕ) → TellsNaming (last_word answered ending id)
   word_tells answered ending id = elim (word_only answered ending id) [
-    | inl is ↦ (told_of nothing, ap (λ (p : AnswerParts). answer_of (answer_text p)) is ∙ below.answer_read nothing nothing_is nothing_form)
-    | inr is ↦ (told_of (terminal is.0), ap (λ (p : AnswerParts). answer_of (answer_text p)) is.1 ∙ below.answer_read (terminal is.0) (terminal_is is.0) (terminal_form is.0))
+    | inl is ↦ (told_of nothing, ap (λ (p : AnswerParts). answer_of (answer_text p)) is ∙ below.answer_read nothing nothing_is nothing_form, refl)
+    | inr is ↦ (told_of (terminal is.0), ap (λ (p : AnswerParts). answer_of (answer_text p)) is.1 ∙ below.answer_read (terminal is.0) (terminal_is is.0) (terminal_form is.0), refl)
   ]
