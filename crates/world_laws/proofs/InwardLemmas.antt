@@ -124,7 +124,7 @@ module _ (below : Below) (setup : ClientSetup) (w : PlainWorld) (h : IsSound set
       by [] none = absurd (omega (arith, some, ap length none))
       by (first ∷ later) is = record { first = first; later = later; are = is }
 
-  first_takes : (parted.first).items ≡ []
+  pub first_takes : (parted.first).items ≡ []
   first_takes =
       let here : slice_get requests 0 ≡ Some parted.first = ap (λ (l : List Made). slice_get l 0) parted.are in
       takes_none w.client.setup parted.first ((keeping below setup w h).first parted.first here) (all_at Carries requests 0 parted.first (all_carry below setup w.client h.client) here)

@@ -34,3 +34,4 @@ pub mod TicketLemmas
 pub mod TimelyLemmas
 pub mod TurnLemmas
 pub mod UnbrokenLemmas
+pub mod UnknownLemmas
