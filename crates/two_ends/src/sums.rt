@@ -64,6 +64,7 @@ pub(crate) fn put_by(event: &WorldEvent) -> u64
 {
     match event {
         WorldEvent::Put(_) => 1,
+        WorldEvent::PutOn(_, _) => 1,
         _ => 0,
     }
 }
@@ -74,6 +75,7 @@ pub(crate) fn given_by(event: &WorldEvent) -> u64
 {
     match event {
         WorldEvent::Give(_) => 1,
+        WorldEvent::GiveOn(_, _) => 1,
         _ => 0,
     }
 }
@@ -102,6 +104,7 @@ fn is_refusal(item: &SeenItem) -> bool
     match item {
         SeenItem::RefusedFull { .. } => true,
         SeenItem::RefusedOver { .. } => true,
+        SeenItem::RefusedNone { .. } => true,
         SeenItem::RefusedLong => true,
         _ => false,
     }
@@ -144,6 +147,7 @@ fn is_got(item: &SeenItem) -> bool
 {
     match item {
         SeenItem::Got { .. } => true,
+        SeenItem::GotOn { .. } => true,
         _ => false,
     }
 }
