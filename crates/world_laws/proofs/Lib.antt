@@ -35,3 +35,4 @@ pub mod TimelyLemmas
 pub mod TurnLemmas
 pub mod UnbrokenLemmas
 pub mod UnknownLemmas
+pub mod UnnamedLemmas

@@ -53,7 +53,7 @@ found_at rid (suc k) (x ∷ xs) are =
     rw other (ap (λ (n : ℕ). find (λ request. id_of request == n) xs) same ∙ found_at (rid + 1) k xs are.1)
 
 -- what was taken up to a request, and then by it
-taken_split : (requests : List Made) (k : ℕ) (request : Made) → slice_get requests k ≡ Some request → taken_by requests ≡ taken_by (take k requests) ++ (request.items ++ taken_by (drop (suc k) requests))
+pub taken_split : (requests : List Made) (k : ℕ) (request : Made) → slice_get requests k ≡ Some request → taken_by requests ≡ taken_by (take k requests) ++ (request.items ++ taken_by (drop (suc k) requests))
 taken_split [] k request at = absurd (cc)
 taken_split (first ∷ requests) zero request at = ap (λ (r : Made). r.items ++ taken_by requests) (some_made at)
   where

@@ -8,6 +8,8 @@ use Rattle.session_core.specs.State.{PlainSession}
 use Rattle.session_laws.specs.Streams.{IsClosedBy}
 use Rattle.bosh_client.specs.declared.told.Told.{Told}
 use Rattle.bosh_client.specs.PlainClient.{Made, PlainClient, request_at}
+use Rattle.world_laws.specs.declared.event.WorldEvent.{WorldEvent}
+use Rattle.world_laws.specs.declared.event.WorldEvent.TheVariants as events
 use Rattle.world_laws.specs.Manager.{PlainManager, session}
 use Rattle.world_laws.specs.Promises.{IsUnbroken}
 use Rattle.world_laws.specs.World.{PlainWorld}
@@ -38,6 +40,29 @@ IsLeft c s (JournalFull counted cost) = ⊤
 abbrev pub EndsWell : PlainClient → Option PlainManager → Type 0
 EndsWell c None = ⊤
 EndsWell c (Some m) = IfSome (session m).ending (IsLeft c (session m))
+
+-- of these the endings that come by no request: they are left to a session whose client names no stream
+abbrev pub IsFaultless : Ending → Type 0
+IsFaultless (Terminated rid) = ⊤
+IsFaultless (Stale rid lowest) = ⊥
+IsFaultless (Above rid last requests) = ⊥
+IsFaultless (WrongKey rid) = ⊥
+IsFaultless (UnknownStream rid) = ⊥
+IsFaultless (PauseTooLong rid pause maxpause) = ⊥
+IsFaultless (Overactive rid apart) = ⊥
+IsFaultless (Silent since now) = ⊤
+IsFaultless (Closed closing rid) = ⊤
+IsFaultless (JournalFull counted cost) = ⊤
+
+abbrev pub EndsFaultless : Option PlainManager → Type 0
+EndsFaultless None = ⊤
+EndsFaultless (Some m) = IfSome (session m).ending IsFaultless
+
+-- the client sends nothing on one stream alone, and closes none
+abbrev pub NamesNone : WorldEvent → Type 0
+NamesNone (events.PutOn stream stanza) = ⊥
+NamesNone (events.StopOn stream) = ⊥
+NamesNone _ = ⊤
 
 -- a manager refuses a body that is no request by the first of these, and a creation for no host of its by the others
 abbrev pub is_refusal : Condition → Bool
