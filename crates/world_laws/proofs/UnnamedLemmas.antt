@@ -25,7 +25,7 @@ use Rattle.bosh_client.specs.declared.outgoing.Outgoing.TheVariants as outgoing
 use Rattle.bosh_client.specs.declared.replies.Queued.{Queued}
 use Rattle.bosh_client.specs.declared.replies.Queued.TheVariants as queueings
 use Rattle.bosh_client.specs.declared.setup.ClientSetup.{ClientSetup}
-use Rattle.bosh_client.specs.Machine.{accept, add, allows_pause, answer, is_full, is_over, next_request, pause, put, put_for, restart, terminate}
+use Rattle.bosh_client.specs.Machine.{accept, add, allows_pause, answer, is_full, is_over, new_client, next_request, pause, put, put_for, restart, terminate}
 use Rattle.bosh_client.specs.Outgoing.{stream_in, stream_of}
 use Rattle.bosh_client.specs.PlainClient.{Made, PlainClient, id_of, items_made, queued, request_at, streams}
 use Rattle.bosh_client.specs.Promises.{Carries}
@@ -51,6 +51,9 @@ is_unnamed item = is_none (stream_of item)
 
 abbrev pub Unnamed : PlainClient → Type 0
 Unnamed c = list_all is_unnamed c.accepted ≡ true
+
+pub new_unnamed : (setup : ClientSetup) → Unnamed (new_client setup)
+new_unnamed setup = refl
 
 accepts : (c : PlainClient) (item : Outgoing) → is_unnamed item ≡ true → Unnamed c → Unnamed (accept c item).0
 accepts c item is h =
