@@ -103,8 +103,5 @@ fn read_stream(text: &[u8]) -> Option<StreamNo>
     ensures { result ≡ stream_of text.now }
 {
     let number = read_number(text)?;
-    if number >= 8 {
-        return None;
-    }
-    StreamNo::new(number as u16)
+    StreamNo::new(u16::try_from(number).ok()?)
 }

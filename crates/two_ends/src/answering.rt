@@ -81,16 +81,17 @@ fn hand_out_all(client: &mut Client, seen: &mut Vec<SeenItem>) -> Result<(), All
     ensures { (c : PlainClient) → StandsFor client.old c
         → OnOk result ((seen.new.items ≡ seen.old.items ++ map got (left_of c)) × StandsFor client.new (all_handed c)) }
 {
-    while let Some((stream, stanza)) = client.hand_out_on() {
-        seen.push(got(stream, stanza))?;
+    while let Some(payload) = client.hand_out_on() {
+        seen.push(got(payload))?;
     }
     Ok(())
 }
 
 // It is seen with its stream, but for the first one.
-fn got(stream: StreamNo, stanza: Text) -> SeenItem
-    ensures { result ≡ got (stream, stanza) }
+fn got(payload: (StreamNo, Text)) -> SeenItem
+    ensures { result ≡ got payload }
 {
+    let (stream, stanza) = payload;
     if stream.number() == 0 {
         return SeenItem::Got { stanza };
     }

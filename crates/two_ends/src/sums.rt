@@ -114,7 +114,13 @@ fn is_refusal(item: &SeenItem) -> bool
 fn passed_in(seen: &[SeenItem]) -> usize
     ensures { result ≡ count_by is_passed_stanza seen.now }
 {
-    seen.iter().filter(|item| is_passed_stanza(item)).count()
+    seen.iter()
+        .filter(
+            |item|
+                ensures { result ≡ is_passed_stanza item.now.now }
+            { is_passed_stanza(item) },
+        )
+        .count()
 }
 
 fn is_passed_stanza(item: &SeenItem) -> bool
@@ -139,7 +145,13 @@ fn is_inward_stanza(item: &Inward) -> bool
 fn got_in(seen: &[SeenItem]) -> usize
     ensures { result ≡ count_by is_got seen.now }
 {
-    seen.iter().filter(|item| is_got(item)).count()
+    seen.iter()
+        .filter(
+            |item|
+                ensures { result ≡ is_got item.now.now }
+            { is_got(item) },
+        )
+        .count()
 }
 
 fn is_got(item: &SeenItem) -> bool
