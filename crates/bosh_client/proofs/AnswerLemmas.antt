@@ -14,7 +14,7 @@ use Rattle.bosh_client.specs.declared.exchanges.Slot.TheVariants.{Answered}
 use Rattle.bosh_client.specs.declared.replies.ClientEnd.{ClientEnd}
 use Rattle.bosh_client.specs.Machine.{with_answer}
 use Rattle.bosh_client.specs.Places.{Places, filled}
-use Rattle.bosh_client.specs.PlainClient.{Made, Taken, PlainClient, first_end, goes_on, id_of, last_moment, next_id, payloads_for, request_at, taken}
+use Rattle.bosh_client.specs.PlainClient.{Made, Taken, PlainClient, first_end, goes_on, id_of, last_moment, lies_on, next_id, on_stream, payloads_for, request_at, taken}
 use Rattle.bosh_client.specs.Requests.{agreed, agreed_by, agreement}
 use Rattle.bosh_client.specs.StandsFor.{AreFrom, Holds, HoldsRequests, slot_by, slot_of}
 use Rattle.bosh_client.proofs.FoundLemmas.{Found, IsKept, found, next_is}
@@ -50,19 +50,22 @@ module _ (plain : PlainClient) (rid : ℕ) (answer : Taken) (none : taken plain 
   keeps_payloads [] on = refl
   keeps_payloads (x ∷ xs) on =
       let here : goes_on plain x ≡ true = All-head (λ request. goes_on plain request ≡ true) x xs on in
-      let same = ap (λ (o : Option Taken). elim o as (λ _. List (List ℕ)) [ None ↦ [] | Some a ↦ a.tells.payloads ]) (sym (keeps x here)) in
-      ap (λ (ps : List (List ℕ)). ps ++ flat_map (payloads_for plain) xs) same
-      ∙ ap (λ (ps : List (List ℕ)). payloads_for after x ++ ps) (keeps_payloads xs (All-tail (λ request. goes_on plain request ≡ true) x xs on))
+      let same = ap (λ (o : Option Taken). elim o as (λ _. List (ℕ × List ℕ)) [ None ↦ [] | Some a ↦ on_stream (lies_on plain.setup (id_of x) a.tells) a.tells.payloads ]) (sym (keeps x here)) in
+      ap (λ (ps : List (ℕ × List ℕ)). ps ++ flat_map (payloads_for plain) xs) same
+      ∙ ap (λ (ps : List (ℕ × List ℕ)). payloads_for after x ++ ps) (keeps_payloads xs (All-tail (λ request. goes_on plain request ≡ true) x xs on))
+
+  abbrev slot_for : ℕ → Slot
+  slot_for id = Answered (on_stream (lies_on plain.setup id answer.tells) answer.tells.payloads) (is_some answer.tells.end)
 
   abbrev slot : Slot
-  slot = Answered answer.tells.payloads (is_some answer.tells.end)
+  slot = slot_for rid
 
   -- later ids are others
   slots_after : (id : ℕ) (xs : List Made) → AreFrom id xs → rid < id → map (slot_of plain) xs ≡ map (slot_of after) xs
   slots_after id [] are later = refl
   slots_after id (x ∷ xs) are later =
       let other : id_of x ≢ rid = λ same. absurd (omega (arith, are.0)) in
-      ap (λ (o : Option Taken). slot_by x o ∷ map (slot_of plain) xs) (sym (taken_other (id_of x) other))
+      ap (λ (o : Option Taken). slot_by plain.setup x o ∷ map (slot_of plain) xs) (sym (taken_other (id_of x) other))
       ∙ ap (λ (slots : List Slot). slot_of after x ∷ slots) (slots_after (id + 1) xs are.1 (omega arith))
 
   slots_set : (id k : ℕ) (xs : List Made) → AreFrom id xs → k < length xs → id + k ≡ rid → set (map (slot_of plain) xs) k slot ≡ map (slot_of after) xs
@@ -70,17 +73,17 @@ module _ (plain : PlainClient) (rid : ℕ) (answer : Taken) (none : taken plain 
   slots_set id zero (x ∷ xs) are within is =
       let here : id_of x ≡ rid = omega (arith, are.0) in
       let own : taken after (id_of x) ≡ Some answer = ap (λ n. taken after n) here ∙ taken_same in
-      ap (λ (o : Option Taken). slot_by x o ∷ map (slot_of plain) xs) (sym own) ∙ ap (λ (slots : List Slot). slot_of after x ∷ slots) (slots_after (id + 1) xs are.1 (omega arith))
+      ap (λ id. slot_for id ∷ map (slot_of plain) xs) (sym here) ∙ ap (λ (o : Option Taken). slot_by plain.setup x o ∷ map (slot_of plain) xs) (sym own) ∙ ap (λ (slots : List Slot). slot_of after x ∷ slots) (slots_after (id + 1) xs are.1 (omega arith))
   slots_set id (suc k) (x ∷ xs) are within is =
       let other : id_of x ≢ rid = λ same. absurd (omega (arith, are.0)) in
-      ap (λ (o : Option Taken). slot_by x o ∷ set (map (slot_of plain) xs) k slot) (sym (taken_other (id_of x) other))
+      ap (λ (o : Option Taken). slot_by plain.setup x o ∷ set (map (slot_of plain) xs) k slot) (sym (taken_other (id_of x) other))
       ∙ ap (λ (slots : List Slot). slot_of after x ∷ slots) (slots_set (id + 1) k xs are.1 (omega arith) (omega arith))
 
   known_push : (answers : List (ℕ × Taken)) (n : ℕ) → All (λ (a : ℕ × Taken). a.0 < n) answers → rid < n → All (λ (a : ℕ × Taken). a.0 < n) (answers ++ (rid, answer) ∷ [])
   known_push answers n known lower =
       All-append (λ (a : ℕ × Taken). a.0 < n) answers ((rid, answer) ∷ []) known (All-cons (λ (a : ℕ × Taken). a.0 < n) (rid, answer) [] lower (All-nil (λ (a : ℕ × Taken). a.0 < n)))
 
-  filled_kept : (places : Places) (inbox : List (List ℕ)) → HoldsRequests places inbox plain → IsKept places plain rid → HoldsRequests (filled places rid slot) inbox after
+  filled_kept : (places : Places) (inbox : List (ℕ × List ℕ)) → HoldsRequests places inbox plain → IsKept places plain rid → HoldsRequests (filled places rid slot) inbox after
   filled_kept places inbox h kept =
       let test : nat_lt rid places.first ≡ false = grind (arith, nat_tests, kept.after) in
       let ids = from-drop plain.setup.first h.spent h.rest (subst (λ (xs : List Made). AreFrom plain.setup.first xs) h.requests_are h.ids) in
@@ -94,12 +97,12 @@ module _ (plain : PlainClient) (rid : ℕ) (answer : Taken) (none : taken plain 
         first_is = h.first_is;
         went_on = keeps_on h.spent h.went_on;
         slots_are = ap (λ (slots : List Slot). set slots (rid - places.first) slot) h.slots_are ∙ slots_set (plain.setup.first + length h.spent) (rid - places.first) h.rest ids count base;
-        within = subst (λ (ps : List (List ℕ)). plain.handed_out ≤ length ps) (keeps_payloads h.spent h.went_on) h.within;
-        inbox_is = h.inbox_is ∙ ap (λ (ps : List (List ℕ)). drop plain.handed_out ps) (keeps_payloads h.spent h.went_on);
+        within = subst (λ (ps : List (ℕ × List ℕ)). plain.handed_out ≤ length ps) (keeps_payloads h.spent h.went_on) h.within;
+        inbox_is = h.inbox_is ∙ ap (λ (ps : List (ℕ × List ℕ)). drop plain.handed_out ps) (keeps_payloads h.spent h.went_on);
         known = known_push plain.answers (next_id plain) h.known (omega (arith, kept.after, kept.within, next_is h));
       })
 
-  pub filled_holds : (places : Places) (inbox : List (List ℕ)) → HoldsRequests places inbox plain → is_some (request_at plain rid) ≡ true → HoldsRequests (filled places rid slot) inbox after
+  pub filled_holds : (places : Places) (inbox : List (ℕ × List ℕ)) → HoldsRequests places inbox plain → is_some (request_at plain rid) ≡ true → HoldsRequests (filled places rid slot) inbox after
   filled_holds places inbox h made = by (found places inbox plain rid h)
     where
       by : Found places plain rid → HoldsRequests (filled places rid slot) inbox after
@@ -140,12 +143,13 @@ module _ (plain : PlainClient) (rid : ℕ) (answer : Taken) (none : taken plain 
   moment_after moment [] = refl
   moment_after moment (a ∷ answers) = moment_after a.1.moment answers
 
-  pub answered_holds : (c : Client) (places : Places) (inbox : List (List ℕ)) (agreement_is : Option Agreed) (end : Option ClientEnd) → Holds c plain → HoldsRequests places inbox after
+  pub answered_holds : (c : Client) (places : Places) (inbox : List (ℕ × List ℕ)) (agreement_is : Option Agreed) (end : Option ClientEnd) → Holds c plain → HoldsRequests places inbox after
       → agreement_is ≡ option_or (agreement plain.setup rid answer.tells) c.agreed → end ≡ option_or c.end answer.tells.end
       → Holds (record c { exchanges = places; inbox = inbox; agreed = agreement_is; last_taken = answer.moment; end = end }) after
   answered_holds c places inbox agreement_is end h requests agrees ends = record {
     setup_is = h.setup_is;
     queue_is = h.queue_is;
+    streams_are = h.streams_are;
     closing_is = h.closing_is;
     agreed_is = agrees ∙ ap (option_or (agreement plain.setup rid answer.tells)) h.agreed_is ∙ agreed_after;
     last_taken_is = moment_after 0 plain.answers;

@@ -18,17 +18,20 @@ use Rattle.bosh_client.proofs.Fronts.{fits_parts, longest_fits}
 use Rattle.bosh_client.proofs.RunLemmas.{step_by}
 
 front_alone : (items : List Outgoing) → IsAlone (front_of items)
-front_alone [] = inl refl
-front_alone (outgoing.Stanza bytes ∷ items) =
-    let all = outgoing.Stanza bytes ∷ items in
-    inl (fits_parts (longest_front (min most_children (length all)) all) (longest_fits (min most_children (length all)) all)).0
+front_alone [] = inl (refl, refl)
+front_alone (outgoing.Stanza on bytes ∷ items) =
+    let all = outgoing.Stanza on bytes ∷ items in
+    let parts = fits_parts (longest_front (min most_children (length all)) all) (longest_fits (min most_children (length all)) all) in
+    inl (parts.0, parts.2)
 front_alone (outgoing.Restart ∷ items) = inr (outgoing.Restart, refl)
 front_alone (outgoing.Pause seconds ∷ items) = inr (outgoing.Pause seconds, refl)
+front_alone (outgoing.Add to ∷ items) = inr (outgoing.Add to, refl)
+front_alone (outgoing.Close stream ∷ items) = inr (outgoing.Close stream, refl)
 front_alone (outgoing.Terminate ∷ items) = inr (outgoing.Terminate, refl)
 
 next_carries : (c : PlainClient) (o : Option Agreed) → Carries (next_made c o)
-next_carries c None = record { payloads = refl; restart = refl; pause = refl; terminate = refl; alone = inl refl }
-next_carries c (Some a) = record { payloads = refl; restart = refl; pause = refl; terminate = refl; alone = front_alone (queued c) }
+next_carries c None = record { payloads = refl; restart = refl; pause = refl; stream = refl; to = refl; terminate = refl; alone = inl (refl, refl) }
+next_carries c (Some a) = record { payloads = refl; restart = refl; pause = refl; stream = refl; to = refl; terminate = refl; alone = front_alone (queued c) }
 
 carries_step : (c : PlainClient) (call : Call) → All Carries c.requests → All Carries (step c call).0.requests
 carries_step c call all =

@@ -10,22 +10,23 @@ use Rattle.body_writer.specs.RequestRows.{request_attributes, xmpp_rows, sid_row
 use Rattle.hex.specs.Hex.{encode_with}
 use Rattle.key_sequence.specs.Chain.{hex_digest}
 use Rattle.sha1.specs.Sha1.{first_words, schedule, rounds, compress, hash_after, digest_bytes, sha1}
+use Rattle.stream_names.specs.Streams.{those}
 use Rattle.session_attrs.specs.Attributes.{is_named, value_of}
 use Rattle.session_attrs.specs.Forms.{is_httpbind, number_of}
 use Rattle.bosh_types.specs.declared.condition.Condition.TheVariants.{UndefinedCondition}
 use Rattle.bosh_client.specs.declared.replies.Answered.TheVariants as answerings
 use Rattle.bosh_client.specs.declared.replies.Next.TheVariants.{Nothing, RidsSpent, Request}
-use Rattle.bosh_client.specs.declared.replies.Queued.TheVariants.{Done, Over, TooLong}
+use Rattle.bosh_client.specs.declared.replies.Queued.TheVariants.{Done, Full, NoStream, Over, TooLong}
 use Rattle.bosh_client.specs.declared.replies.Why.TheVariants.{Namespace, Attribute, NoSid}
 use Rattle.bosh_client.specs.declared.setup.ClientSetup.{ClientSetup}
 use Rattle.bosh_client.specs.AnswerMeaning.{condition_of, type_of}
 use Rattle.bosh_client.specs.AnswerReading.{answer_of, answer_with, said_in}
 use Rattle.bosh_client.specs.PlainClient.{end_of}
-use Rattle.bosh_client.specs.Runs.{Call, Put, Restart, Pause, Terminate, NextRequest, Answer, HandOut, Reply, ToQueue, ToNext, ToAnswer, ToHandOut, client_after, replies}
+use Rattle.bosh_client.specs.Runs.{Call, Put, Restart, Pause, Terminate, NextRequest, Answer, HandOut, Reply, ToQueue, ToNext, ToAnswer, ToHandOut, client_after, replies, PutOn, Add, CloseStream}
 use Rattle.bosh_client.specs.Machine.{new_client}
 
 unfoldable pub clients_compute : ⊤
-unfolding digits cuts_compute request_text request_attributes xmpp_rows sid_rows named_rows host_rows creation_rows number_rows key_rows terminate_rows version_rows restart_rows attribute escaped_byte closed_with hex_digest encode_with first_words schedule rounds compress hash_after digest_bytes sha1 is_named value_of is_httpbind number_of type_of condition_of answer_of answer_with said_in
+unfolding digits cuts_compute request_text request_attributes xmpp_rows sid_rows named_rows host_rows creation_rows number_rows key_rows terminate_rows version_rows restart_rows attribute escaped_byte closed_with hex_digest encode_with first_words schedule rounds compress hash_after digest_bytes sha1 is_named value_of is_httpbind number_of type_of condition_of answer_of answer_with said_in those
 clients_compute = tt
 
 -- a client as scripts begin one: the id, the wait, the hold, acknowledgements, keys
@@ -58,7 +59,7 @@ abbrev took : Reply
 took = ToAnswer answerings.Done
 
 abbrev got : List ℕ → Reply
-got payload = ToHandOut (Some payload)
+got payload = ToHandOut (Some (0, payload))
 
 -- the greatest id is used, and what is queued then stays
 spent_ids :
@@ -166,3 +167,28 @@ taken_together :
     ∷ took ∷ request 1001 (codes " rid='1001' sid='s1'><a/><b/></body>") ∷ request 1002 (codes " xmlns:xmpp='urn:xmpp:xbosh' rid='1002' sid='s1' ack='1000' xmpp:restart='true'/>") ∷ []
 unfolding clients_compute
 taken_together = refl
+
+-- a stream that is added has the next number; what is for one stream goes alone; payloads lie on the stream that their answer names, which
+-- one of eight has to have; a terminal answer that names a stream ends nothing, and the closing of the last stream ends the session
+streams_apart :
+    outcome (setup_of 1000 60 0)
+    (NextRequest 0 ∷ Answer 1000 created 0 ∷ HandOut ∷ PutOn 1 (codes "<a/>") ∷ Add (codes "chat.example.org") ∷ PutOn 1 (codes "<a/>") ∷ PutOn 1 (codes "<b/>") ∷ PutOn 0 (codes "<c/>") ∷ Put (codes "<d/>")
+    ∷ NextRequest 0 ∷ NextRequest 0 ∷ Answer 1001 (codes "<body " ++ httpbind ++ codes " stream='t1'/>") 0 ∷ Answer 1002 (codes "<body " ++ httpbind ++ codes " stream='t1'><x/></body>") 0 ∷ HandOut
+    ∷ NextRequest 0 ∷ Answer 1003 (codes "<body " ++ httpbind ++ codes " stream='t8'><y/></body>") 0 ∷ Answer 1003 (codes "<body " ++ httpbind ++ codes " type='terminate' stream='t1'/>") 0
+    ∷ NextRequest 0 ∷ CloseStream 0 ∷ PutOn 0 (codes "<e/>") ∷ CloseStream 1 ∷ Put (codes "<e/>") ∷ NextRequest 0 ∷ NextRequest 0 ∷ [])
+    ≡ request 1000 (codes " xmlns:xmpp='urn:xmpp:xbosh' rid='1000' to='example.org' xml:lang='en' wait='60' hold='1' ver='1.11' content='text/xml; charset=utf-8' ack='1' xmpp:version='1.0'/>")
+    ∷ took ∷ got (codes "<stream:features/>") ∷ ToQueue NoStream ∷ done ∷ done ∷ done ∷ done ∷ done
+    ∷ request 1001 (codes " rid='1001' sid='s1' to='chat.example.org'/>") ∷ request 1002 (codes " rid='1002' sid='s1' stream='t1' ack='1000'><a/><b/></body>") ∷ took ∷ took ∷ ToHandOut (Some (1, codes "<x/>"))
+    ∷ request 1003 (codes " rid='1003' sid='s1' stream='t0'><c/></body>") ∷ ToAnswer (answerings.Broken Attribute) ∷ took
+    ∷ request 1004 (codes " rid='1004' sid='s1'><d/></body>") ∷ done ∷ ToQueue NoStream ∷ done ∷ ToQueue Over
+    ∷ request 1005 (codes " rid='1005' sid='s1' stream='t0' ack='1003' type='terminate'/>") ∷ request 1006 (codes " rid='1006' sid='s1' stream='t1' ack='1003' type='terminate'/>") ∷ []
+unfolding clients_compute
+streams_apart = refl
+
+-- seven streams may be added
+seven_added :
+    outcome (setup_of 1000 60 0)
+    (Add (codes "a") ∷ Add (codes "b") ∷ Add (codes "c") ∷ Add (codes "d") ∷ Add (codes "e") ∷ Add (codes "f") ∷ CloseStream 3 ∷ Add (codes "g") ∷ Add (codes "h") ∷ PutOn 7 (codes "<a/>") ∷ PutOn 3 (codes "<a/>") ∷ [])
+    ≡ done ∷ done ∷ done ∷ done ∷ done ∷ done ∷ done ∷ done ∷ ToQueue Full ∷ done ∷ ToQueue NoStream ∷ []
+unfolding clients_compute
+seven_added = refl

@@ -34,7 +34,7 @@ due_empty plain a now [] none = refl
 due_empty plain a now (x ∷ xs) none = absurd (cc)
 
 -- before the creation's answer no request is of no more use
-pub unspent : {places : Places} {inbox : List (List ℕ)} {plain : PlainClient} → HoldsRequests places inbox plain → agreed plain ≡ None → length places.slots ≡ length plain.requests
+pub unspent : {places : Places} {inbox : List (ℕ × List ℕ)} {plain : PlainClient} → HoldsRequests places inbox plain → agreed plain ≡ None → length places.slots ≡ length plain.requests
 unspent {places = places} {plain = plain} h none = by h.spent h.requests_are h.went_on
   where
     never : (o : Option Taken) → is_some o ≡ true → option_map (λ (t : Taken). agreed_by plain.setup t.tells) o ≡ None → ⊥
@@ -144,7 +144,7 @@ ack_there true true n m both is same = ap Some same
 ack_there true false n m both is same = absurd (cc)
 ack_there false test n m both is same = absurd (cc)
 
-pub later_some : {places : Places} {inbox : List (List ℕ)} {plain : PlainClient} (a : Agreed) → HoldsRequests places inbox plain → agreed plain ≡ Some a → 1 ≤ length plain.requests
+pub later_some : {places : Places} {inbox : List (ℕ × List ℕ)} {plain : PlainClient} (a : Agreed) → HoldsRequests places inbox plain → agreed plain ≡ Some a → 1 ≤ length plain.requests
 later_some {plain = plain} a h is = by (taken plain plain.setup.first) refl is
   where
     by : (o : Option Taken) → taken plain plain.setup.first ≡ o → option_map (λ (t : Taken). agreed_by plain.setup t.tells) o ≡ Some a → 1 ≤ length plain.requests

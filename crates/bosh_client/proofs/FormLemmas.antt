@@ -29,6 +29,7 @@ use Rattle.body_writer.specs.ReadBack.{ArePayloads, IsKey, IsRequest, IsWord, Is
 use Rattle.session_attrs.specs.Forms.{is_number, number_of}
 use Rattle.session_attrs.specs.Rows.{Says, told}
 use Rattle.session_attrs.proofs.NumberLemmas.{below_power}
+use Rattle.session_attrs.proofs.ServingLemmas.{allowed_text}
 use Rattle.bosh_client.specs.declared.agreed.Agreed.{Agreed}
 use Rattle.bosh_client.specs.declared.outgoing.Outgoing.{Outgoing}
 use Rattle.bosh_client.specs.declared.outgoing.Outgoing.TheVariants as outgoing
@@ -39,12 +40,12 @@ use Rattle.bosh_client.specs.AnswerReading.{answer_in, answer_of, payloads_at}
 use Rattle.bosh_client.specs.AnswerValues.{AnswerValues, values_of}
 use Rattle.bosh_client.specs.Keys.{announcement, key_at, newkey_at, number_at, seed_of, sequence_at}
 use Rattle.bosh_client.specs.Machine.{allows_pause, new_client, next_made, with_answer, with_request}
-use Rattle.bosh_client.specs.Outgoing.{front_of, longest_front, pause_in, size_of, size_of_all, stanzas_in}
+use Rattle.bosh_client.specs.Outgoing.{front_of, host_in, longest_front, pause_in, size_of, size_of_all, stanzas_in, stream_in}
 use Rattle.bosh_client.specs.PlainClient.{Made, Taken, PlainClient, id_of, is_answered, lowest, next_id, queued, taken}
 use Rattle.bosh_client.specs.Promises.{HasForm, IsName, IsNamed, IsOfSession}
 use Rattle.bosh_client.specs.ReadBack.{greatest_number}
 use Rattle.bosh_client.specs.Requests.{ack_for, agreed, agreed_by, creation_parts, later_parts, later_requests, with_keys}
-use Rattle.bosh_client.specs.Runs.{Call, Put, Restart, Pause, Terminate, NextRequest, Answer, HandOut, IsAllowed, after, client_after, step}
+use Rattle.bosh_client.specs.Runs.{Call, Put, PutOn, Add, CloseStream, Restart, Pause, Terminate, NextRequest, Answer, HandOut, IsAllowed, IsHost, after, client_after, step}
 use Rattle.bosh_client.specs.Setup.{is_setup}
 use Rattle.bosh_client.specs.StandsFor.{AreFrom}
 use Rattle.bosh_client.proofs.Fronts.{fits_parts, front_take, longest_few, longest_fits}
@@ -54,14 +55,17 @@ use Rattle.bosh_client.proofs.RunLemmas.{IsClient, MayQueue, by_if, client_is, n
 use Rattle.bosh_client.proofs.OpenLemmas.{at_least, first_of_these}
 use Rattle.bosh_client.proofs.ReadingLemmas.{told_is}
 use Rattle.bosh_client.proofs.SetupLemmas.{keys_range, setup_parts}
+use Rattle.bosh_client.proofs.StreamLemmas.{stream_small}
 
 -- What is queued.
 
--- a stanza by itself, and 1 second to those of 9 digits
+-- a stanza by itself, 1 second to those of 9 digits, a host, and one of eight streams
 abbrev IsItem : Outgoing → Type 0
-IsItem (outgoing.Stanza bytes) = IsTrue (cutting.is_stanza bytes)
+IsItem (outgoing.Stanza on bytes) = IsTrue (cutting.is_stanza bytes) × IfSome on IsStream
 IsItem outgoing.Restart = ⊤
 IsItem (outgoing.Pause seconds) = (1 ≤ seconds) × (seconds ≤ greatest_number)
+IsItem (outgoing.Add to) = IsHost to
+IsItem (outgoing.Close stream) = IsStream stream
 IsItem outgoing.Terminate = ⊤
 
 -- What one body takes.
@@ -69,20 +73,24 @@ IsItem outgoing.Terminate = ⊤
 -- stanzas of at most 1,000,000 bytes
 front_size : (items : List Outgoing) → size_of_all (front_of items) ≤ longest_stanza
 front_size [] = omega arith
-front_size (outgoing.Stanza bytes ∷ items) =
-    let all = outgoing.Stanza bytes ∷ items in
+front_size (outgoing.Stanza on bytes ∷ items) =
+    let all = outgoing.Stanza on bytes ∷ items in
     (fits_parts (longest_front (min most_children (length all)) all) (longest_fits (min most_children (length all)) all)).1
 front_size (outgoing.Restart ∷ items) = omega arith
 front_size (outgoing.Pause seconds ∷ items) = omega arith
+front_size (outgoing.Add to ∷ items) = omega arith
+front_size (outgoing.Close stream ∷ items) = omega arith
 front_size (outgoing.Terminate ∷ items) = omega arith
 
 front_few : (items : List Outgoing) → length (front_of items) ≤ 1024
 front_few [] = omega arith
-front_few (outgoing.Stanza bytes ∷ items) =
-    let all = outgoing.Stanza bytes ∷ items in
+front_few (outgoing.Stanza on bytes ∷ items) =
+    let all = outgoing.Stanza on bytes ∷ items in
     omega (arith, longest_few (min most_children (length all)) all)
 front_few (outgoing.Restart ∷ items) = omega arith
 front_few (outgoing.Pause seconds ∷ items) = omega arith
+front_few (outgoing.Add to ∷ items) = omega arith
+front_few (outgoing.Close stream ∷ items) = omega arith
 front_few (outgoing.Terminate ∷ items) = omega arith
 
 front_items : (items : List Outgoing) → All IsItem items → All IsItem (front_of items)
@@ -90,17 +98,21 @@ front_items items all = subst (λ (front : List Outgoing). All IsItem front) (sy
 
 joined_long : (items : List Outgoing) → length (joined (stanzas_in items)) ≡ size_of_all items
 joined_long [] = refl
-joined_long (outgoing.Stanza bytes ∷ items) =
-    omega (arith, length-append bytes (joined (stanzas_in items)), joined_long items, sum_by-cons size_of (outgoing.Stanza bytes) items)
+joined_long (outgoing.Stanza on bytes ∷ items) =
+    omega (arith, length-append bytes (joined (stanzas_in items)), joined_long items, sum_by-cons size_of (outgoing.Stanza on bytes) items)
 joined_long (outgoing.Restart ∷ items) = omega (arith, joined_long items, sum_by-cons size_of outgoing.Restart items)
 joined_long (outgoing.Pause seconds ∷ items) = omega (arith, joined_long items, sum_by-cons size_of (outgoing.Pause seconds) items)
+joined_long (outgoing.Add to ∷ items) = omega (arith, joined_long items, sum_by-cons size_of (outgoing.Add to) items)
+joined_long (outgoing.Close stream ∷ items) = omega (arith, joined_long items, sum_by-cons size_of (outgoing.Close stream) items)
 joined_long (outgoing.Terminate ∷ items) = omega (arith, joined_long items, sum_by-cons size_of outgoing.Terminate items)
 
 stanzas_few : (items : List Outgoing) → length (stanzas_in items) ≤ length items
 stanzas_few [] = omega arith
-stanzas_few (outgoing.Stanza bytes ∷ items) = omega (arith, stanzas_few items)
+stanzas_few (outgoing.Stanza on bytes ∷ items) = omega (arith, stanzas_few items)
 stanzas_few (outgoing.Restart ∷ items) = omega (arith, stanzas_few items)
 stanzas_few (outgoing.Pause seconds ∷ items) = omega (arith, stanzas_few items)
+stanzas_few (outgoing.Add to ∷ items) = omega (arith, stanzas_few items)
+stanzas_few (outgoing.Close stream ∷ items) = omega (arith, stanzas_few items)
 stanzas_few (outgoing.Terminate ∷ items) = omega (arith, stanzas_few items)
 
 element : (bytes : List ℕ) → IsTrue (cutting.is_stanza bytes) → IsElementWithin 32 64 bytes
@@ -110,10 +122,12 @@ element bytes is =
 
 elements : (items : List Outgoing) → All IsItem items → All (IsElementWithin 32 64) (stanzas_in items)
 elements [] all = All-nil (IsElementWithin 32 64)
-elements (outgoing.Stanza bytes ∷ items) all =
-    All-cons (IsElementWithin 32 64) bytes (stanzas_in items) (element bytes (All-head IsItem (outgoing.Stanza bytes) items all)) (elements items (All-tail IsItem (outgoing.Stanza bytes) items all))
+elements (outgoing.Stanza on bytes ∷ items) all =
+    All-cons (IsElementWithin 32 64) bytes (stanzas_in items) (element bytes (All-head IsItem (outgoing.Stanza on bytes) items all).0) (elements items (All-tail IsItem (outgoing.Stanza on bytes) items all))
 elements (outgoing.Restart ∷ items) all = elements items (All-tail IsItem outgoing.Restart items all)
 elements (outgoing.Pause seconds ∷ items) all = elements items (All-tail IsItem (outgoing.Pause seconds) items all)
+elements (outgoing.Add to ∷ items) all = elements items (All-tail IsItem (outgoing.Add to) items all)
+elements (outgoing.Close stream ∷ items) all = elements items (All-tail IsItem (outgoing.Close stream) items all)
 elements (outgoing.Terminate ∷ items) all = elements items (All-tail IsItem outgoing.Terminate items all)
 
 abbrev IsPause : ℕ → Type 0
@@ -121,10 +135,30 @@ IsPause seconds = (1 ≤ seconds) × (seconds ≤ greatest_number)
 
 pause_word : (items : List Outgoing) → All IsItem items → IfSome (pause_in items) IsPause
 pause_word [] all = tt
-pause_word (outgoing.Stanza bytes ∷ items) all = pause_word items (All-tail IsItem (outgoing.Stanza bytes) items all)
+pause_word (outgoing.Stanza on bytes ∷ items) all = pause_word items (All-tail IsItem (outgoing.Stanza on bytes) items all)
 pause_word (outgoing.Restart ∷ items) all = pause_word items (All-tail IsItem outgoing.Restart items all)
 pause_word (outgoing.Pause seconds ∷ items) all = All-head IsItem (outgoing.Pause seconds) items all
+pause_word (outgoing.Add to ∷ items) all = pause_word items (All-tail IsItem (outgoing.Add to) items all)
+pause_word (outgoing.Close stream ∷ items) all = pause_word items (All-tail IsItem (outgoing.Close stream) items all)
 pause_word (outgoing.Terminate ∷ items) all = pause_word items (All-tail IsItem outgoing.Terminate items all)
+
+host_word : (items : List Outgoing) → All IsItem items → IfSome (host_in items) IsHost
+host_word [] all = tt
+host_word (outgoing.Stanza on bytes ∷ items) all = host_word items (All-tail IsItem (outgoing.Stanza on bytes) items all)
+host_word (outgoing.Restart ∷ items) all = host_word items (All-tail IsItem outgoing.Restart items all)
+host_word (outgoing.Pause seconds ∷ items) all = host_word items (All-tail IsItem (outgoing.Pause seconds) items all)
+host_word (outgoing.Add to ∷ items) all = All-head IsItem (outgoing.Add to) items all
+host_word (outgoing.Close stream ∷ items) all = host_word items (All-tail IsItem (outgoing.Close stream) items all)
+host_word (outgoing.Terminate ∷ items) all = host_word items (All-tail IsItem outgoing.Terminate items all)
+
+stream_word : (items : List Outgoing) → All IsItem items → IfSome (stream_in items) IsStream
+stream_word [] all = tt
+stream_word (outgoing.Stanza on bytes ∷ items) all = (All-head IsItem (outgoing.Stanza on bytes) items all).1
+stream_word (outgoing.Restart ∷ items) all = tt
+stream_word (outgoing.Pause seconds ∷ items) all = tt
+stream_word (outgoing.Add to ∷ items) all = tt
+stream_word (outgoing.Close stream ∷ items) all = All-head IsItem (outgoing.Close stream) items all
+stream_word (outgoing.Terminate ∷ items) all = tt
 
 -- The parts of a request.
 
@@ -156,8 +190,8 @@ pause_fits (Some seconds) is = omega (arith, is.1)
 record IsWhole (parts : RequestParts) : Type 0 where
   rid : IsRid parts.rid
   sid : IfSome parts.sid IsName
-  stream : parts.stream ≡ None
-  to : parts.to ≡ None
+  stream : IfSome parts.stream IsStream
+  to : IfSome parts.to IsHost
   creation : IfSome parts.creation (λ creation. IsUtf8Of is_allowed creation.0 × (length creation.0 ≤ 1023) × IsWord creation.1 × IsWord creation.2)
   ack : IfSome parts.ack IsWord
   key : IfSome parts.key IsKeyText
@@ -170,8 +204,8 @@ form_request : (parts : RequestParts) → IsWhole parts → IsRequest parts
 form_request parts h = record {
   rid = h.rid;
   sid = of_sid parts.sid h.sid;
-  stream = subst (λ (o : Option ℕ). IfSome o IsStream) (sym h.stream) tt;
-  to = subst (λ (o : Option (List ℕ)). IfSome o (IsUtf8Of is_allowed)) (sym h.to) tt;
+  stream = h.stream;
+  to = of_host parts.to h.to;
   creation = of_creation parts.creation h.creation;
   ack = h.ack;
   key = (key_digits parts.key h.key).0;
@@ -183,7 +217,7 @@ form_request parts h = record {
         rid = omega (arith, h.rid.1);
         sid = short_sid parts.sid h.sid;
         stream = h.stream;
-        to = h.to;
+        to = short_host parts.to h.to;
         creation = short_creation parts.creation h.creation;
         ack = h.ack;
         key = (key_digits parts.key h.key).1;
@@ -201,6 +235,14 @@ form_request parts h = record {
     short_sid None is = tt
     short_sid (Some sid) is = is.1
 
+    of_host : (to : Option (List ℕ)) → IfSome to IsHost → IfSome to (IsUtf8Of is_allowed)
+    of_host None is = tt
+    of_host (Some to) is = (allowed_text to is.2).1
+
+    short_host : (to : Option (List ℕ)) → IfSome to IsHost → IfSome to (λ to. length to ≤ 1023)
+    short_host None is = tt
+    short_host (Some to) is = is.1
+
     of_creation : (creation : Option (List ℕ × ℕ × ℕ)) → IfSome creation (λ creation. IsUtf8Of is_allowed creation.0 × (length creation.0 ≤ 1023) × IsWord creation.1 × IsWord creation.2)
         → IfSome creation (λ creation. IsUtf8Of is_allowed creation.0 × IsWord creation.1 × IsWord creation.2)
     of_creation None is = tt
@@ -217,8 +259,8 @@ creation_form setup is first =
     record {
       rid = first;
       sid = tt;
-      stream = refl;
-      to = refl;
+      stream = tt;
+      to = tt;
       creation = (parts.to, parts.long, omega (arith, parts.wait), omega (arith, parts.hold));
       ack = by_if (λ (o : Option ℕ). IfSome o IsWord) setup.ack (Some 1) None (λ _. omega arith) (λ _. tt);
       key = tt;
@@ -289,8 +331,8 @@ later_form c a items is some past left name all =
     record {
       rid = (omega (arith, some), left);
       sid = name;
-      stream = refl;
-      to = refl;
+      stream = stream_word front fit;
+      to = host_word front fit;
       creation = tt;
       ack = ack_word (ack_for c a) (next_id c) left (ack_form c a some past);
       key =
@@ -308,7 +350,10 @@ later_form c a items is some past left name all =
 
 -- a later request is one for the session
 later_known : (c : PlainClient) (a : Agreed) (items : List Outgoing) → 1 ≤ c.setup.first → c.setup.first + 1 ≤ lowest c → All IsItem items → IsOfSession (later_parts c a (front_of items))
-later_known c a items some past all = record { sid = refl; stream = refl; to = refl; ack = ack_form c a some past; pause = pause_word (front_of items) (front_items items all) }
+later_known c a items some past all =
+    let front = front_of items in
+    let fit : All IsItem front = front_items items all in
+    record { sid = refl; stream = stream_word front fit; to = host_word front fit; ack = ack_form c a some past; pause = pause_word front fit }
 
 -- What is agreed allows pauses of 9 digits at most.
 
@@ -433,7 +478,10 @@ answered_form c rid t none h = record { items = h.items; forms = by (taken c c.s
         forms (subst (λ (o : Option Taken). IfSome (option_map (λ (a : Taken). agreed_by c.setup a.tells) o) (λ a. IsName a.sid)) still named)
 
 queues : (setup : ClientSetup) (c : PlainClient) (call : Call) → IsClient setup c → IsAllowed call → MayQueue c IsItem call
-queues setup c (Put stanza) client allowed = allowed
+queues setup c (Put stanza) client allowed = (allowed, tt)
+queues setup c (PutOn stream stanza) client allowed = λ has. (allowed, stream_small c stream has)
+queues setup c (Add to) client allowed = λ room. allowed
+queues setup c (CloseStream stream) client allowed = λ has. stream_small c stream has
 queues setup c Restart client allowed = tt
 queues setup c (Pause seconds) client allowed = pause_allowed c seconds client.reads
 queues setup c Terminate client allowed = tt

@@ -24,7 +24,7 @@ lowest_from : (c : PlainClient) (rid next : ℕ) (xs : List Made) → AreFrom ri
 lowest_from c rid next [] are is = omega (arith, is)
 lowest_from c rid next (x ∷ xs) are is = by (taken c (id_of x)) (lowest_from c (rid + 1) next xs are.1 (omega (arith, is)))
   where
-    by : (o : Option Taken) → unwrap_or (option_map id_of (find (λ request. not (is_answered c request)) xs)) next ≡ rid + 1 + answered_front (map (slot_of c) xs) → unwrap_or (option_map id_of (cond (not (is_some o)) (Some x) (find (λ request. not (is_answered c request)) xs))) next ≡ rid + answered_front (slot_by x o ∷ map (slot_of c) xs)
+    by : (o : Option Taken) → unwrap_or (option_map id_of (find (λ request. not (is_answered c request)) xs)) next ≡ rid + 1 + answered_front (map (slot_of c) xs) → unwrap_or (option_map id_of (cond (not (is_some o)) (Some x) (find (λ request. not (is_answered c request)) xs))) next ≡ rid + answered_front (slot_by c.setup x o ∷ map (slot_of c) xs)
     by None later = omega (arith, are.0)
     by (Some answer) later = omega (arith, later)
 
@@ -35,18 +35,18 @@ answered_past c (x ∷ xs) ys on =
     ap (λ (s : Slot). answered_front (s ∷ map (slot_of c) (xs ++ ys))) slot.1
     ∙ omega (arith, answered_past c xs ys (All-tail (λ request. goes_on c request ≡ true) x xs on))
 
-pub next_is : {places : Places} {inbox : List (List ℕ)} {plain : PlainClient} → HoldsRequests places inbox plain → places.first + length places.slots ≡ next_id plain
+pub next_is : {places : Places} {inbox : List (ℕ × List ℕ)} {plain : PlainClient} → HoldsRequests places inbox plain → places.first + length places.slots ≡ next_id plain
 next_is {places = places} {plain = plain} h =
     omega (arith, h.first_is, ap length h.slots_are, length-map h.rest (slot_of plain), ap length h.requests_are, length-append h.spent h.rest)
 
-pub lowest_is : {places : Places} {inbox : List (List ℕ)} {plain : PlainClient} → HoldsRequests places inbox plain → places.first + answered_front places.slots ≡ lowest plain
+pub lowest_is : {places : Places} {inbox : List (ℕ × List ℕ)} {plain : PlainClient} → HoldsRequests places inbox plain → places.first + answered_front places.slots ≡ lowest plain
 lowest_is {places = places} {plain = plain} h =
     let whole = lowest_from plain plain.setup.first (next_id plain) plain.requests h.ids refl in
     let parts = ap (λ (xs : List Made). answered_front (map (slot_of plain) xs)) h.requests_are ∙ answered_past plain h.spent h.rest h.went_on in
     let slots = ap answered_front h.slots_are in
     omega (arith, whole, parts, slots, h.first_is)
 
-pub open_is : {places : Places} {inbox : List (List ℕ)} {plain : PlainClient} → HoldsRequests places inbox plain → length places.slots - answered_front places.slots ≡ next_id plain - lowest plain
+pub open_is : {places : Places} {inbox : List (ℕ × List ℕ)} {plain : PlainClient} → HoldsRequests places inbox plain → length places.slots - answered_front places.slots ≡ next_id plain - lowest plain
 open_is h = omega (arith, next_is h, lowest_is h)
 
 -- The request with an id.
@@ -85,7 +85,7 @@ pub record IsSpent (places : Places) (plain : PlainClient) (rid : ℕ) : Type 0 
 pub record IsKept (places : Places) (plain : PlainClient) (rid : ℕ) : Type 0 where
   pub request : Made
   pub made : request_at plain rid ≡ Some request
-  pub slot : slot_at places rid ≡ Some (slot_by request (taken plain rid))
+  pub slot : slot_at places rid ≡ Some (slot_by plain.setup request (taken plain rid))
   -- it stands here among those that are remembered
   pub after : places.first ≤ rid
   pub within : rid - places.first < length places.slots
@@ -118,7 +118,7 @@ is_lower rid first slots lower =
     let test : nat_lt rid first ≡ true = grind (arith, nat_tests, lower) in
     rw test refl
 
-pub found : (places : Places) (inbox : List (List ℕ)) (plain : PlainClient) (rid : ℕ) → HoldsRequests places inbox plain → Found places plain rid
+pub found : (places : Places) (inbox : List (ℕ × List ℕ)) (plain : PlainClient) (rid : ℕ) → HoldsRequests places inbox plain → Found places plain rid
 found places inbox plain rid h = elim (cases_lt rid plain.setup.first) [
   | inl below ↦ inl (lower_missing plain.setup.first rid plain.requests h.ids below, is_lower rid places.first places.slots (omega (arith, h.first_is)))
   | inr above ↦ elim (cases_lt rid places.first) [
@@ -151,7 +151,7 @@ found places inbox plain rid h = elim (cases_lt rid plain.setup.first) [
               inr (inr (record {
                 request = x;
                 made = at ∙ is;
-                slot = slot ∙ ap (option_map (slot_of plain)) is ∙ ap (λ n. Some (slot_by x (taken plain n))) id;
+                slot = slot ∙ ap (option_map (slot_of plain)) is ∙ ap (λ n. Some (slot_by plain.setup x (taken plain n))) id;
                 after = here;
                 within = omega (arith, slice_get_within h.rest k x is, ap length h.slots_are, length-map h.rest (slot_of plain));
               }))
@@ -175,10 +175,10 @@ none_either_way : (b : Bool) → ◌≡◌ {A = Option (List ℕ)} None (if b th
 none_either_way true = refl
 none_either_way false = refl
 
-pub copy_is : (places : Places) (inbox : List (List ℕ)) (plain : PlainClient) (rid : ℕ) → HoldsRequests places inbox plain → copy_in (slot_at places rid) ≡ copy plain rid
+pub copy_is : (places : Places) (inbox : List (ℕ × List ℕ)) (plain : PlainClient) (rid : ℕ) → HoldsRequests places inbox plain → copy_in (slot_at places rid) ≡ copy plain rid
 copy_is places inbox plain rid h = by (found places inbox plain rid h)
   where
-    slot_copy : (x : Made) (o : Option Taken) → copy_in (Some (slot_by x o)) ≡ (if is_some o then None else Some (bytes_of x))
+    slot_copy : (x : Made) (o : Option Taken) → copy_in (Some (slot_by plain.setup x o)) ≡ (if is_some o then None else Some (bytes_of x))
     slot_copy x None = refl
     slot_copy x (Some answer) = refl
 
@@ -187,10 +187,10 @@ copy_is places inbox plain rid h = by (found places inbox plain rid h)
     by (inr (inl spent)) = ap copy_in spent.slot ∙ sym (ap (λ b. if b then None else option_map bytes_of (request_at plain rid)) spent.has_answer)
     by (inr (inr kept)) = ap copy_in kept.slot ∙ slot_copy kept.request (taken plain rid) ∙ ap (λ (o : Option Made). if is_some (taken plain rid) then None else option_map bytes_of o) (sym kept.made)
 
-pub open_in_is : (places : Places) (inbox : List (List ℕ)) (plain : PlainClient) (rid : ℕ) → HoldsRequests places inbox plain → is_some (request_at plain rid) ≡ true → open_in (slot_at places rid) ≡ not (is_some (taken plain rid))
+pub open_in_is : (places : Places) (inbox : List (ℕ × List ℕ)) (plain : PlainClient) (rid : ℕ) → HoldsRequests places inbox plain → is_some (request_at plain rid) ≡ true → open_in (slot_at places rid) ≡ not (is_some (taken plain rid))
 open_in_is places inbox plain rid h made = by (found places inbox plain rid h)
   where
-    slot_open : (x : Made) (o : Option Taken) → open_in (Some (slot_by x o)) ≡ not (is_some o)
+    slot_open : (x : Made) (o : Option Taken) → open_in (Some (slot_by plain.setup x o)) ≡ not (is_some o)
     slot_open x None = refl
     slot_open x (Some answer) = refl
 
@@ -236,7 +236,7 @@ stops_here c [] stays = refl
 stops_here c (x ∷ xs) stays =
     take_while-cons (goes_on c) x xs ∙ ap (λ b. cond b (x ∷ take_while (goes_on c) xs) []) (stays_slot c x (map (slot_of c) xs) stays)
 
-pub deliverable_is : {places : Places} {inbox : List (List ℕ)} {plain : PlainClient} → (h : HoldsRequests places inbox plain)
+pub deliverable_is : {places : Places} {inbox : List (ℕ × List ℕ)} {plain : PlainClient} → (h : HoldsRequests places inbox plain)
     → deliverable plain ≡ flat_map (payloads_for plain) h.spent ++ flat_map (payloads_for plain) (take_while (goes_on plain) h.rest)
 deliverable_is {plain = plain} h =
     ap (λ (xs : List Made). flat_map (payloads_for plain) (take_while (goes_on plain) xs)) h.requests_are
@@ -254,20 +254,20 @@ get-front (x ∷ xs) ys zero within = refl
 get-front (x ∷ xs) ys (suc n) within = get-front xs ys n (omega arith)
 
 -- the first payload that is left is the next one
-pub payload_is : {places : Places} {inbox : List (List ℕ)} {plain : PlainClient} → HoldsRequests places inbox plain → (inbox ≡ [] → comes_next places.slots ≡ false)
+pub payload_is : {places : Places} {inbox : List (ℕ × List ℕ)} {plain : PlainClient} → HoldsRequests places inbox plain → (inbox ≡ [] → comes_next places.slots ≡ false)
     → slice_get inbox 0 ≡ slice_get (deliverable plain) plain.handed_out
 payload_is {places = places} {inbox = inbox} {plain = plain} h stops = elim (cases_lt plain.handed_out (length left)) [
   | inl some ↦
-      ap (λ (xs : List (List ℕ)). slice_get xs 0) h.inbox_is ∙ get-drop plain.handed_out left
-      ∙ sym (ap (λ (xs : List (List ℕ)). slice_get xs plain.handed_out) (deliverable_is h) ∙ get-front left (flat_map (payloads_for plain) (take_while (goes_on plain) h.rest)) plain.handed_out some)
+      ap (λ (xs : List (ℕ × List ℕ)). slice_get xs 0) h.inbox_is ∙ get-drop plain.handed_out left
+      ∙ sym (ap (λ (xs : List (ℕ × List ℕ)). slice_get xs plain.handed_out) (deliverable_is h) ∙ get-front left (flat_map (payloads_for plain) (take_while (goes_on plain) h.rest)) plain.handed_out some)
   | inr all ↦
       let none : inbox ≡ [] = h.inbox_is ∙ drop_all plain.handed_out left all in
       let rest : take_while (goes_on plain) h.rest ≡ [] = stops_here plain h.rest (ap comes_next (sym h.slots_are) ∙ stops none) in
       let whole : deliverable plain ≡ left = deliverable_is h ∙ ap (λ (xs : List Made). left ++ flat_map (payloads_for plain) xs) rest ∙ append-nil left in
-      ap (λ (xs : List (List ℕ)). slice_get xs 0) none ∙ sym (ap (λ (xs : List (List ℕ)). slice_get xs plain.handed_out) whole ∙ slice_get_past left plain.handed_out all)
+      ap (λ (xs : List (ℕ × List ℕ)). slice_get xs 0) none ∙ sym (ap (λ (xs : List (ℕ × List ℕ)). slice_get xs plain.handed_out) whole ∙ slice_get_past left plain.handed_out all)
 ]
   where
-    left : List (List ℕ)
+    left : List (ℕ × List ℕ)
     left = flat_map (payloads_for plain) h.spent
 
 pub made_test : (plain : PlainClient) (rid next : ℕ) → AreFrom plain.setup.first plain.requests → plain.setup.first ≤ rid → next ≡ next_id plain → nat_lt rid next ≡ is_some (request_at plain rid)

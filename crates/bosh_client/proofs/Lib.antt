@@ -7,6 +7,7 @@ pub mod FoundLemmas
 pub mod Fronts
 pub mod KeyForms
 pub mod KeyLemmas
+pub mod NamingLemmas
 pub mod OpenLemmas
 pub mod PlacesLemmas
 pub mod ReadingLemmas
@@ -15,4 +16,5 @@ pub mod RequestSizes
 pub mod RunLemmas
 pub mod SetupLemmas
 pub mod StepLemmas
+pub mod StreamLemmas
 pub mod WrittenAnswers

@@ -85,9 +85,11 @@ room_of : (c : PlainClient) (a : Agreed) (items : List Outgoing) (now : ℕ) →
 room_of c a [] now due =
     let none : (next_id c - lowest c == 0) ≡ true = (and_parts (next_id c - lowest c == 0) (has_rested c a now) due).0 in
     grind (arith, nat_tests, none)
-room_of c a (outgoing.Stanza bytes ∷ more) now due = grind (arith, nat_tests, due)
+room_of c a (outgoing.Stanza on bytes ∷ more) now due = grind (arith, nat_tests, due)
 room_of c a (outgoing.Restart ∷ more) now due = grind (arith, nat_tests, due)
 room_of c a (outgoing.Pause seconds ∷ more) now due = grind (arith, nat_tests, due)
+room_of c a (outgoing.Add to ∷ more) now due = grind (arith, nat_tests, due)
+room_of c a (outgoing.Close stream ∷ more) now due = grind (arith, nat_tests, due)
 room_of c a (outgoing.Terminate ∷ more) now due = grind (arith, nat_tests, due)
 
 first_lowest : (c : PlainClient) → c.requests ≡ [] → lowest c ≡ next_id c

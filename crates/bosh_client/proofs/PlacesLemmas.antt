@@ -32,7 +32,7 @@ answer_goes_on (Answered payloads terminal ∷ slots) (suc n) slot within known 
     omega (arith, answer_goes_on slots n slot (omega arith) (omega arith) here is)
 
 -- an answer more keeps them
-pub answered-set : (slots : List Slot) (n : ℕ) (payloads : List (List ℕ)) (terminal : Bool) → answered_front slots ≤ answered_front (set slots n (Answered payloads terminal))
+pub answered-set : (slots : List Slot) (n : ℕ) (payloads : List (ℕ × List ℕ)) (terminal : Bool) → answered_front slots ≤ answered_front (set slots n (Answered payloads terminal))
 answered-set [] n payloads terminal = omega arith
 answered-set (slot ∷ slots) zero payloads terminal = by slot
   where

@@ -1,6 +1,6 @@
 -- Reading an answer gives exactly its meaning, and the first reason for which it has none.
-use Rattle.std.proofs.Common.{◌≡◌, ℕ, Bool, true, false, ◌||◌, List, Some, None, refl, sym, ◌∙◌, ap, subst}
-use Rattle.std.specs.Prelude.{Option, Ok, Err, IsTrue, is_none, is_some, not, ◌↔◌, cond, if◌then◌else◌}
+use Rattle.std.proofs.Common.{◌≡◌, ℕ, inl, inr, Bool, true, false, ◌||◌, List, Some, None, refl, sym, ◌∙◌, ap, subst}
+use Rattle.std.specs.Prelude.{Option, Ok, Err, IsSome, IsTrue, ◌⊎◌, is_none, is_some, not, ◌↔◌, cond, if◌then◌else◌}
 use Rattle.std.specs.Option.{ok_or, option_map}
 use Rattle.bosh_types.specs.Rid.{rid_of}
 use Rattle.session_attrs.specs.Forms.{number_of, says_httpbind}
@@ -13,7 +13,7 @@ use Rattle.bosh_client.specs.declared.said.AnswerType.TheVariants.{Terminate, Er
 use Rattle.bosh_client.specs.declared.said.Said.{Said}
 use Rattle.bosh_client.specs.declared.told.Told.{Told}
 use Rattle.bosh_client.specs.AnswerMeaning.{HasType, MeansAck, MeansAnswer, MeansEnd, broken_values, has_bad_attribute, type_of}
-use Rattle.bosh_client.specs.AnswerReading.{◌>>=◌, answer_with, end_by, is_error, said, said_in, told_from}
+use Rattle.bosh_client.specs.AnswerReading.{◌>>=◌, answer_with, end_by, end_with, is_error, said, said_in, told_from}
 use Rattle.bosh_client.specs.AnswerValues.{AnswerValues}
 
 -- A row both ways.
@@ -68,17 +68,18 @@ same_type : (o : Option AnswerType) (kind : AnswerType) → option_map Some o �
 same_type None kind is = absurd (cc)
 same_type (Some other) kind is = cc
 
-end_of_type : (v : AnswerValues) (type : Option (List ℕ)) (kind : Option AnswerType) → v.type ≡ type → said type_of type ≡ Some kind
-    → MeansEnd v (end_by v.condition kind) (is_error kind)
-end_of_type v None None type is = type
-end_of_type v None (Some kind) type is = absurd (cc)
-end_of_type v (Some text) None type is = absurd (by (type_of text) is)
+end_of_type : (v : AnswerValues) (type stream : Option (List ℕ)) (kind : Option AnswerType) → v.type ≡ type → v.stream ≡ stream → said type_of type ≡ Some kind
+    → MeansEnd v (end_by v.condition stream kind) (is_error kind)
+end_of_type v None stream None type names is = inl type
+end_of_type v None stream (Some kind) type names is = absurd (cc)
+end_of_type v (Some text) stream None type names is = absurd (by (type_of text) is)
   where
     by : (o : Option AnswerType) → option_map Some o ≡ Some None → ⊥
     by None is = cc
     by (Some kind) is = cc
-end_of_type v (Some text) (Some Terminate) type is = ((text, type, same_type (type_of text) Terminate is), refl, refl)
-end_of_type v (Some text) (Some Error) type is = (text, type, same_type (type_of text) Error is)
+end_of_type v (Some text) None (Some Terminate) type names is = ((text, type, same_type (type_of text) Terminate is), names, refl, refl)
+end_of_type v (Some text) (Some stream) (Some Terminate) type names is = inr ((text, type, same_type (type_of text) Terminate is), ap is_some names)
+end_of_type v (Some text) stream (Some Error) type names is = (text, type, same_type (type_of text) Error is)
 
 ack_of_text : (ack : Option (List ℕ)) (rid : Option ℕ) → said rid_of ack ≡ Some rid → MeansAck ack (is_some rid)
 ack_of_text None rid is =
@@ -97,21 +98,27 @@ told_means v payloads s httpbind is =
     let all = said_all v s is in
     record {
       xmlns = httpbind;
-      end = end_of_type v v.type s.kind refl all.kind;
+      end = end_of_type v v.type v.stream s.kind refl refl all.kind;
       sid = refl;
       requests = says_of number_of v.requests s.requests all.requests;
       polling = says_of number_of v.polling s.polling all.polling;
       maxpause = says_of number_of v.maxpause s.maxpause all.maxpause;
       ack = ack_of_text v.ack s.ack all.ack;
+      stream = refl;
       payloads_are = refl;
     }
 
 -- What means that says this.
 
-abbrev kind_of : Option ClientEnd → Bool → Option AnswerType
-kind_of None false = None
-kind_of None true = Some Error
-kind_of (Some end) error = Some Terminate
+-- what closes a stream has the type of what ends the session
+abbrev kind_named : (v : AnswerValues) → (v.type ≡ None) ⊎ (HasType v Terminate × IsSome v.stream) → Option AnswerType
+kind_named v (inl none) = None
+kind_named v (inr closes) = Some Terminate
+
+abbrev kind_of : (v : AnswerValues) (end : Option ClientEnd) (error : Bool) → MeansEnd v end error → Option AnswerType
+kind_of v None false means = kind_named v means
+kind_of v None true means = Some Error
+kind_of v (Some end) error means = Some Terminate
 
 has_said : (v : AnswerValues) (type : Option (List ℕ)) (kind : AnswerType) → v.type ≡ type → HasType v kind → said type_of type ≡ Some (Some kind)
 has_said v None kind type (text, is, reads) = absurd (cc)
@@ -119,22 +126,36 @@ has_said v (Some text) kind type (own, is, reads) =
     let same : text ≡ own = cc in
     ap (λ (t : List ℕ). option_map Some (type_of t)) same ∙ ap (option_map Some) reads
 
-type_said : (v : AnswerValues) (type : Option (List ℕ)) (end : Option ClientEnd) (error : Bool) → v.type ≡ type → MeansEnd v end error
-    → said type_of type ≡ Some (kind_of end error)
-type_said v None None false type means = refl
-type_said v (Some text) None false type means = absurd (cc)
-type_said v type None true is means = has_said v type Error is means
-type_said v type (Some end) error is means = has_said v type Terminate is means.0
+named_said : (v : AnswerValues) (means : (v.type ≡ None) ⊎ (HasType v Terminate × IsSome v.stream)) → said type_of v.type ≡ Some (kind_named v means)
+named_said v (inl none) = ap (said type_of) none
+named_said v (inr closes) = has_said v v.type Terminate refl closes.0
 
-end_same : (v : AnswerValues) (end : Option ClientEnd) (error : Bool) → MeansEnd v end error → end_by v.condition (kind_of end error) ≡ end
-end_same v None false means = refl
+type_said : (v : AnswerValues) (end : Option ClientEnd) (error : Bool) (means : MeansEnd v end error) → said type_of v.type ≡ Some (kind_of v end error means)
+type_said v None false means = named_said v means
+type_said v None true means = has_said v v.type Error refl means
+type_said v (Some end) error means = has_said v v.type Terminate refl means.0
+
+end_named : (v : AnswerValues) (means : (v.type ≡ None) ⊎ (HasType v Terminate × IsSome v.stream)) → end_by v.condition v.stream (kind_named v means) ≡ None
+end_named v (inl none) = refl
+end_named v (inr closes) = by v.stream closes.1
+  where
+    by : (stream : Option (List ℕ)) → IsSome stream → end_with v.condition stream ≡ None
+    by None is = absurd (cc)
+    by (Some stream) is = refl
+
+end_same : (v : AnswerValues) (end : Option ClientEnd) (error : Bool) (means : MeansEnd v end error) → end_by v.condition v.stream (kind_of v end error means) ≡ end
+end_same v None false means = end_named v means
 end_same v None true means = refl
-end_same v (Some end) error means = λ i. Some (record { condition = sym means.1 i })
+end_same v (Some end) error means = ap (end_with v.condition) means.1 ∙ (λ i. Some (record { condition = sym means.2 i }))
 
-error_same : (v : AnswerValues) (end : Option ClientEnd) (error : Bool) → MeansEnd v end error → is_error (kind_of end error) ≡ error
-error_same v None false means = refl
+error_named : (v : AnswerValues) (means : (v.type ≡ None) ⊎ (HasType v Terminate × IsSome v.stream)) → is_error (kind_named v means) ≡ false
+error_named v (inl none) = refl
+error_named v (inr closes) = refl
+
+error_same : (v : AnswerValues) (end : Option ClientEnd) (error : Bool) (means : MeansEnd v end error) → is_error (kind_of v end error means) ≡ error
+error_same v None false means = error_named v means
 error_same v None true means = refl
-error_same v (Some end) error means = sym means.2
+error_same v (Some end) error means = sym means.3
 
 ack_said : (ack : Option (List ℕ)) (acknowledges : Bool) → MeansAck ack acknowledges → (rid : Option ℕ) × (said rid_of ack ≡ Some rid) × (is_some rid ≡ acknowledges)
 ack_said None acknowledges means = (None, refl, sym means)
@@ -148,9 +169,9 @@ pub means_told : (v : AnswerValues) (payloads : List (List ℕ)) (t : Told) → 
 unfolding answer_with
 means_told v payloads t means =
     let ack = ack_said v.ack t.acknowledges means.ack in
-    let s : Said = record { kind = kind_of t.end t.error; ack = ack.0; requests = t.requests; polling = t.polling; maxpause = t.maxpause } in
+    let s : Said = record { kind = kind_of v t.end t.error means.end; ack = ack.0; requests = t.requests; polling = t.polling; maxpause = t.maxpause } in
     let is : said_in v ≡ Some s = all_said v s (record {
-      kind = type_said v v.type t.end t.error refl means.end;
+      kind = type_said v t.end t.error means.end;
       ack = ack.1;
       requests = said_of number_of v.requests t.requests means.requests;
       polling = said_of number_of v.polling t.polling means.polling;
@@ -164,6 +185,7 @@ means_told v payloads t means =
       polling = t.polling;
       maxpause = t.maxpause;
       acknowledges = ack.2 i;
+      stream = sym means.stream i;
       payloads = sym means.payloads_are i;
     } in
     ap (λ b. if b then ok_or (option_map (told_from v payloads) (said_in v)) whys.Attribute else Err whys.Namespace) means.xmlns

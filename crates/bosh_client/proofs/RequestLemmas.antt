@@ -8,7 +8,7 @@ use Rattle.std.proofs.lemmas.List.Elements.{All-append, All-nil, All-cons}
 use Rattle.bosh_client.specs.declared.exchanges.Slot.{Slot}
 use Rattle.bosh_client.specs.declared.exchanges.Slot.TheVariants.{Answered}
 use Rattle.bosh_client.specs.Places.{Places, comes_next}
-use Rattle.bosh_client.specs.PlainClient.{Made, Taken, PlainClient, goes_on, id_of, payloads_for, taken}
+use Rattle.bosh_client.specs.PlainClient.{Made, Taken, PlainClient, goes_on, id_of, lies_on, on_stream, payloads_for, taken}
 use Rattle.bosh_client.specs.StandsFor.{AreFrom, HoldsRequests, slot_by, slot_of}
 
 -- Ids in order.
@@ -28,23 +28,25 @@ from-drop rid (x ∷ xs) ys are =
 -- What is known of an answer.
 
 -- a request whose session goes on after it has an answer, which isn't terminal
-pub went_on_slot : (c : PlainClient) (x : Made) → goes_on c x ≡ true → (payloads : List (List ℕ)) × (slot_of c x ≡ Answered payloads false) × (payloads_for c x ≡ payloads) × (is_some (taken c (id_of x)) ≡ true)
+pub went_on_slot : (c : PlainClient) (x : Made) → goes_on c x ≡ true → (payloads : List (ℕ × List ℕ)) × (slot_of c x ≡ Answered payloads false) × (payloads_for c x ≡ payloads) × (is_some (taken c (id_of x)) ≡ true)
 went_on_slot c x on = by (taken c (id_of x)) on
   where
     open_end : (answer : Taken) → not (is_some answer.tells.end) ≡ true → is_some answer.tells.end ≡ false
     open_end answer is = elim (is_some answer.tells.end) as (λ b. not b ≡ true → b ≡ false) [ true ↦ λ h. absurd (cc) | false ↦ λ h. refl ] is
 
     by : (o : Option Taken) → (elim o as (λ _. Bool) [ None ↦ false | Some answer ↦ not (is_some answer.tells.end) ]) ≡ true
-        → (payloads : List (List ℕ)) × (slot_by x o ≡ Answered payloads false) × ((elim o as (λ _. List (List ℕ)) [ None ↦ [] | Some answer ↦ answer.tells.payloads ]) ≡ payloads) × (is_some o ≡ true)
+        → (payloads : List (ℕ × List ℕ)) × (slot_by c.setup x o ≡ Answered payloads false) × ((elim o as (λ _. List (ℕ × List ℕ)) [ None ↦ [] | Some answer ↦ on_stream (lies_on c.setup (id_of x) answer.tells) answer.tells.payloads ]) ≡ payloads) × (is_some o ≡ true)
     by None on = absurd (cc)
-    by (Some answer) on = (answer.tells.payloads, ap (λ b. Answered answer.tells.payloads b) (open_end answer on), refl, refl)
+    by (Some answer) on =
+        let payloads = on_stream (lies_on c.setup (id_of x) answer.tells) answer.tells.payloads in
+        (payloads, ap (λ b. Answered payloads b) (open_end answer on), refl, refl)
 
 -- a request that is remembered with an answer that isn't terminal has it
-pub answered_slot : (c : PlainClient) (x : Made) (payloads : List (List ℕ)) → Answered payloads false ≡ slot_of c x → (goes_on c x ≡ true) × (payloads_for c x ≡ payloads)
+pub answered_slot : (c : PlainClient) (x : Made) (payloads : List (ℕ × List ℕ)) → Answered payloads false ≡ slot_of c x → (goes_on c x ≡ true) × (payloads_for c x ≡ payloads)
 answered_slot c x payloads slot = by (taken c (id_of x)) slot
   where
-    by : (o : Option Taken) → Answered payloads false ≡ slot_by x o
-        → ((elim o as (λ _. Bool) [ None ↦ false | Some answer ↦ not (is_some answer.tells.end) ]) ≡ true) × ((elim o as (λ _. List (List ℕ)) [ None ↦ [] | Some answer ↦ answer.tells.payloads ]) ≡ payloads)
+    by : (o : Option Taken) → Answered payloads false ≡ slot_by c.setup x o
+        → ((elim o as (λ _. Bool) [ None ↦ false | Some answer ↦ not (is_some answer.tells.end) ]) ≡ true) × ((elim o as (λ _. List (ℕ × List ℕ)) [ None ↦ [] | Some answer ↦ on_stream (lies_on c.setup (id_of x) answer.tells) answer.tells.payloads ]) ≡ payloads)
     by None slot = absurd (cc)
     by (Some answer) slot =
         let end : false ≡ is_some answer.tells.end = cc in
@@ -54,7 +56,7 @@ answered_slot c x payloads slot = by (taken c (id_of x)) slot
 pub stays_slot : (c : PlainClient) (x : Made) (slots : List Slot) → comes_next (slot_of c x ∷ slots) ≡ false → goes_on c x ≡ false
 stays_slot c x slots stays = by (taken c (id_of x)) stays
   where
-    by : (o : Option Taken) → comes_next (slot_by x o ∷ slots) ≡ false → (elim o as (λ _. Bool) [ None ↦ false | Some answer ↦ not (is_some answer.tells.end) ]) ≡ false
+    by : (o : Option Taken) → comes_next (slot_by c.setup x o ∷ slots) ≡ false → (elim o as (λ _. Bool) [ None ↦ false | Some answer ↦ not (is_some answer.tells.end) ]) ≡ false
     by None stays = refl
     by (Some answer) stays = stays
 
@@ -75,7 +77,7 @@ drop-past (suc n) (x ∷ xs) ys is = drop-past n xs ys (omega arith)
 All-push : {X : Type 0} (P : X → Type 0) (xs : List X) (x : X) → All P xs → P x → All P (xs ++ x ∷ [])
 All-push P xs x are is = All-append P xs (x ∷ []) are (All-cons P x [] is (All-nil P))
 
-pub moved : (places next : Places) (payloads : List (List ℕ)) (plain : PlainClient) → places ≡ record { first = next.first - 1; slots = Answered payloads false ∷ next.slots } → next.first ≡ places.first + 1
+pub moved : (places next : Places) (payloads : List (ℕ × List ℕ)) (plain : PlainClient) → places ≡ record { first = next.first - 1; slots = Answered payloads false ∷ next.slots } → next.first ≡ places.first + 1
     → HoldsRequests places [] plain → HoldsRequests next payloads plain
 moved places next payloads plain is first h = by h.rest h.requests_are (sym (ap (λ (p : Places). p.slots) is) ∙ h.slots_are)
   where

@@ -6,7 +6,8 @@ use Rattle.std.proofs.lemmas.Fmt.{length-decimal-le}
 use Rattle.body_cutter.specs.Built.{Written}
 use Rattle.body_writer.specs.declared.request.RequestParts.{RequestParts}
 use Rattle.body_writer.specs.Attribute.{attribute, closed_with, escaped, escaped_byte, joined}
-use Rattle.body_writer.specs.ReadBack.{IsWord}
+use Rattle.stream_names.specs.Streams.{name_of}
+use Rattle.body_writer.specs.ReadBack.{IsStream, IsWord}
 use Rattle.body_writer.specs.Request.{request_text}
 use Rattle.body_writer.specs.RequestRows.{request_attributes, xmpp_rows, sid_rows, creation_rows, host_rows, number_rows, key_rows, terminate_rows, version_rows, restart_rows}
 use Rattle.body_writer.specs.Rows.{httpbind_row, named_rows, number_row, rows_text, text_row, value_row, xbosh_row, xmpp_version_row}
@@ -59,8 +60,8 @@ number_one name number size word fits = one (number_row name number) size (omega
 pub record AreShort (parts : RequestParts) : Type 0 where
   pub rid : IsWord parts.rid
   pub sid : IfSome parts.sid (λ sid. length sid ≤ 1024)
-  pub stream : parts.stream ≡ None
-  pub to : parts.to ≡ None
+  pub stream : IfSome parts.stream IsStream
+  pub to : IfSome parts.to (λ to. length to ≤ 1023)
   pub creation : IfSome parts.creation (λ creation. (length creation.0 ≤ 1023) × IsWord creation.1 × IsWord creation.2)
   pub ack : IfSome parts.ack IsWord
   pub key : IfSome parts.key (λ key. length key ≤ 40)
@@ -79,22 +80,16 @@ unfolding sid_rows
 sid_short None few = none 6200
 sid_short (Some sid) few = one (text_row (codes "sid") sid) 6200 (omega (arith, few, escaped_long sid))
 
-named_short : (stream : Option ℕ) → stream ≡ None → Short (named_rows stream) 0
+named_short : (stream : Option ℕ) → Short (named_rows stream) 40
 unfolding named_rows
-named_short None is = none 0
-named_short (Some stream) is = absurd (some_none stream is)
-  where
-    some_none : (stream : ℕ) → Some stream ≡ None → ⊥
-    some_none stream is = cc
+named_short None = none 40
+named_short (Some stream) = one (value_row (codes "stream") (name_of stream)) 40 (omega arith)
 
-creation_short : (creation : Option (List ℕ × ℕ × ℕ)) (to : Option (List ℕ)) → IfSome creation (λ creation. (length creation.0 ≤ 1023) × IsWord creation.1 × IsWord creation.2) → to ≡ None → Short (host_rows creation to) 6500
+creation_short : (creation : Option (List ℕ × ℕ × ℕ)) (to : Option (List ℕ)) → IfSome creation (λ creation. (length creation.0 ≤ 1023) × IsWord creation.1 × IsWord creation.2) → IfSome to (λ to. length to ≤ 1023) → Short (host_rows creation to) 6500
 unfolding host_rows creation_rows
-creation_short None None few unhosted = none 6500
-creation_short None (Some to) few unhosted = absurd (some_none to unhosted)
-  where
-    some_none : (to : List ℕ) → Some to ≡ None → ⊥
-    some_none to is = cc
-creation_short (Some (to, wait, hold)) other few unhosted =
+creation_short None None few long = none 6500
+creation_short None (Some to) few long = one (text_row (codes "to") to) 6500 (omega (arith, long, escaped_long to))
+creation_short (Some (to, wait, hold)) other few long =
     let rows =
     both (one (text_row (codes "to") to) 6200 (omega (arith, few.0, escaped_long to)))
     (both (one (value_row (codes "xml:lang") (codes "en")) 40 (omega arith))
@@ -147,7 +142,7 @@ rows_short parts s =
     (xmpp_short parts.creation parts.restart))
     (number_one (codes "rid") parts.rid 40 s.rid (omega arith)))
     (sid_short parts.sid s.sid))
-    (named_short parts.stream s.stream))
+    (named_short parts.stream))
     (creation_short parts.creation parts.to s.creation s.to))
     (number_short (codes "ack") parts.ack s.ack (omega arith)))
     (key_short (codes "key") parts.key s.key (omega arith)))

@@ -11,6 +11,7 @@ use Rattle.std.proofs.lemmas.List.Elements.{All-append, All-cons, All-head, All-
 use Rattle.std.proofs.lemmas.List.Folds.{find-append}
 use Rattle.std.proofs.lemmas.List.Sums.{take_while-cons}
 use Rattle.std.proofs.lemmas.Option.{slice_get_within}
+use Rattle.bosh_types.specs.Limits.{most_streams}
 use Rattle.bosh_types.specs.Rid.{greatest_rid}
 use Rattle.bosh_types.proofs.ById.{at_id-push_other}
 use Rattle.bosh_client.specs.declared.agreed.Agreed.{Agreed}
@@ -23,12 +24,12 @@ use Rattle.bosh_client.specs.declared.replies.Why.{Why}
 use Rattle.bosh_client.specs.declared.setup.ClientSetup.{ClientSetup}
 use Rattle.bosh_client.specs.declared.told.Told.{Told}
 use Rattle.bosh_client.specs.AnswerReading.{answer_of}
-use Rattle.bosh_client.specs.Machine.{new_client, accept, allows_pause, answer, copy, handed, is_due, is_due_by, is_full, is_over, lacks_sid, next_made, next_request, pause, put, restart, take_answer, terminate, with_answer, with_request}
+use Rattle.bosh_client.specs.Machine.{new_client, accept, add, allows_pause, answer, close_stream, copy, handed, has_stream, is_due, is_due_by, is_full, is_over, lacks_sid, misnames, next_made, next_request, pause, put, put_for, put_on, restart, take_answer, terminate, with_answer, with_request}
 use Rattle.bosh_client.specs.Outgoing.{front_of, is_of_stream}
-use Rattle.bosh_client.specs.PlainClient.{Made, Taken, PlainClient, bytes_of, deliverable, goes_on, has_ended, id_of, is_answered, items_made, lowest, next_id, payloads_for, queued, request_at, taken, was_handed, was_made, was_put}
+use Rattle.bosh_client.specs.PlainClient.{Made, Taken, PlainClient, bytes_of, deliverable, goes_on, has_ended, id_of, is_answered, items_made, lies_on, lowest, next_id, on_stream, payloads_for, queued, request_at, streams, taken, was_handed, was_made, was_put}
 use Rattle.bosh_client.specs.Promises.{Acknowledges, AllTaken, Begins, is_queued, payloads_in}
 use Rattle.bosh_client.specs.Requests.{agreed}
-use Rattle.bosh_client.specs.Runs.{Call, Put, Restart, Pause, Terminate, NextRequest, Answer, HandOut, Reply, ToQueue, ToNext, ToAnswer, ToHandOut, after, called, client_after, replies, step}
+use Rattle.bosh_client.specs.Runs.{Call, Put, PutOn, Add, CloseStream, Restart, Pause, Terminate, NextRequest, Answer, HandOut, Reply, ToQueue, ToNext, ToAnswer, ToHandOut, after, called, client_after, replies, step}
 use Rattle.bosh_client.specs.StandsFor.{AreFrom}
 use Rattle.bosh_client.proofs.FoundLemmas.{unmade_high, unmade_low}
 use Rattle.bosh_client.proofs.Fronts.{front_take}
@@ -48,9 +49,12 @@ pub not_false : (b : Bool) → not b ≡ false → b ≡ true
 not_false true is = refl
 not_false false is = absurd (cc)
 
--- what the call may queue is such, a pause where it is allowed
+-- what the call may queue is such, a pause where it is allowed, and what is for a stream where there is that stream
 abbrev pub MayQueue : PlainClient → (Outgoing → Type 0) → Call → Type 0
-MayQueue c Such (Put stanza) = Such (items.Stanza stanza)
+MayQueue c Such (Put stanza) = Such (items.Stanza None stanza)
+MayQueue c Such (PutOn stream stanza) = has_stream c stream ≡ true → Such (items.Stanza (Some stream) stanza)
+MayQueue c Such (Add to) = nat_lt (streams c).opened most_streams ≡ true → Such (items.Add to)
+MayQueue c Such (CloseStream stream) = has_stream c stream ≡ true → Such (items.Close stream)
 MayQueue c Such Restart = Such items.Restart
 MayQueue c Such (Pause seconds) = allows_pause (agreed c) seconds ≡ true → Such (items.Pause seconds)
 MayQueue c Such Terminate = Such items.Terminate
@@ -64,11 +68,27 @@ module _ (c : PlainClient) (Such : Outgoing → Type 0) (P : PlainClient × Repl
     (accepts : (item : Outgoing) → Such item → P (called ToQueue (accept c item)))
     (requests : (now : ℕ) → is_due c now ≡ true → next_id c ≤ greatest_rid → next_request c now ≡ with_request c (next_made c (agreed c)) → P (called ToNext (with_request c (next_made c (agreed c)))))
     (answers : (rid : ℕ) (t : Taken) → is_some (request_at c rid) ≡ true → taken c rid ≡ None → answer_of t.body ≡ Ok t.tells → t.tells.error ≡ false → P (with_answer c rid t, ToAnswer answerings.Done))
-    (hands : (payload : List ℕ) → slice_get (deliverable c) c.handed_out ≡ Some payload → P (record c { handed_out = c.handed_out + 1 }, ToHandOut (Some payload))) where
-  put_by : (stanza : List ℕ) → Such (items.Stanza stanza) → P (called ToQueue (put c stanza))
-  put_by stanza such =
+    (hands : (payload : ℕ × List ℕ) → slice_get (deliverable c) c.handed_out ≡ Some payload → P (record c { handed_out = c.handed_out + 1 }, ToHandOut (Some payload))) where
+  put_for_by : (on : Option ℕ) (stanza : List ℕ) → Such (items.Stanza on stanza) → P (called ToQueue (put_for c on stanza))
+  put_for_by on stanza such = by_if (λ p. P (called ToQueue p)) (is_full c) _ _ (λ _. same (ToQueue queueings.Full) refl) (λ _. accepts (items.Stanza on stanza) such)
+
+  put_by : (stanza : List ℕ) → Such (items.Stanza None stanza) → P (called ToQueue (put c stanza))
+  put_by stanza such = by_if (λ p. P (called ToQueue p)) (is_over c) _ _ (λ _. same (ToQueue queueings.Over) refl) (λ _. put_for_by None stanza such)
+
+  put_on_by : (stream : ℕ) (stanza : List ℕ) → (has_stream c stream ≡ true → Such (items.Stanza (Some stream) stanza)) → P (called ToQueue (put_on c stream stanza))
+  put_on_by stream stanza such =
       by_if (λ p. P (called ToQueue p)) (is_over c) _ _ (λ _. same (ToQueue queueings.Over) refl)
-      (λ _. by_if (λ p. P (called ToQueue p)) (is_full c) _ _ (λ _. same (ToQueue queueings.Full) refl) (λ _. accepts (items.Stanza stanza) such))
+      (λ _. by_if (λ p. P (called ToQueue p)) (has_stream c stream) _ _ (λ has. put_for_by (Some stream) stanza (such has)) (λ _. same (ToQueue queueings.NoStream) refl))
+
+  add_by : (to : List ℕ) → (nat_lt (streams c).opened most_streams ≡ true → Such (items.Add to)) → P (called ToQueue (add c to))
+  add_by to such =
+      by_if (λ p. P (called ToQueue p)) (is_over c) _ _ (λ _. same (ToQueue queueings.Over) refl)
+      (λ _. by_if (λ p. P (called ToQueue p)) (nat_lt (streams c).opened most_streams) _ _ (λ room. accepts (items.Add to) (such room)) (λ _. same (ToQueue queueings.Full) refl))
+
+  close_by : (stream : ℕ) → (has_stream c stream ≡ true → Such (items.Close stream)) → P (called ToQueue (close_stream c stream))
+  close_by stream such =
+      by_if (λ p. P (called ToQueue p)) (is_over c) _ _ (λ _. same (ToQueue queueings.Over) refl)
+      (λ _. by_if (λ p. P (called ToQueue p)) (has_stream c stream) _ _ (λ has. accepts (items.Close stream) (such has)) (λ _. same (ToQueue queueings.NoStream) refl))
 
   restart_by : Such items.Restart → P (called ToQueue (restart c))
   restart_by such = by_if (λ p. P (called ToQueue p)) (is_over c) _ _ (λ _. same (ToQueue queueings.Over) refl) (λ _. accepts items.Restart such)
@@ -90,9 +110,10 @@ module _ (c : PlainClient) (Such : Outgoing → Type 0) (P : PlainClient × Repl
   taken_by : (rid : ℕ) (body : List ℕ) (now : ℕ) (told : Result Told Why) → is_some (request_at c rid) ≡ true → taken c rid ≡ None → answer_of body ≡ told → P (called ToAnswer (take_answer c rid body now told))
   taken_by rid body now (Err why) made none reads = same (ToAnswer (answerings.Broken why)) refl
   taken_by rid body now (Ok tells) made none reads =
-      by_if (λ p. P (called ToAnswer p)) tells.error _ _ (λ _. same (ToAnswer (answerings.Again _ _)) refl)
+      by_if (λ p. P (called ToAnswer p)) (misnames c rid tells) _ _ (λ _. same (ToAnswer (answerings.Broken _)) refl)
+      (λ _. by_if (λ p. P (called ToAnswer p)) tells.error _ _ (λ _. same (ToAnswer (answerings.Again _ _)) refl)
       (λ fine. by_if (λ p. P (called ToAnswer p)) (lacks_sid c rid tells) _ _ (λ _. same (ToAnswer (answerings.Broken _)) refl)
-      (λ _. answers rid (record { body = body; tells = tells; moment = now }) made none reads fine))
+      (λ _. answers rid (record { body = body; tells = tells; moment = now }) made none reads fine)))
 
   absent : {X : Type 0} (o : Option X) → is_some o ≡ false → o ≡ None
   absent None is = refl
@@ -104,12 +125,15 @@ module _ (c : PlainClient) (Such : Outgoing → Type 0) (P : PlainClient × Repl
       (λ made. by_if (λ p. P (called ToAnswer p)) (is_some (taken c rid)) _ _ (λ _. same (ToAnswer answerings.Stale) refl)
       (λ none. taken_by rid body now (answer_of body) (not_false (is_some (request_at c rid)) made) (absent (taken c rid) none) refl))
 
-  handed_by : (o : Option (List ℕ)) → slice_get (deliverable c) c.handed_out ≡ o → P (called ToHandOut (handed c o))
+  handed_by : (o : Option (ℕ × List ℕ)) → slice_get (deliverable c) c.handed_out ≡ o → P (called ToHandOut (handed c o))
   handed_by None is = same (ToHandOut None) refl
   handed_by (Some payload) is = hands payload is
 
   pub step_with : (call : Call) → MayQueue c Such call → P (step c call)
   step_with (Put stanza) such = put_by stanza such
+  step_with (PutOn stream stanza) such = put_on_by stream stanza such
+  step_with (Add to) such = add_by to such
+  step_with (CloseStream stream) such = close_by stream such
   step_with Restart such = restart_by such
   step_with (Pause seconds) such = pause_by seconds such
   step_with Terminate such = terminate_by such
@@ -119,6 +143,9 @@ module _ (c : PlainClient) (Such : Outgoing → Type 0) (P : PlainClient × Repl
 
 anything : (c : PlainClient) (call : Call) → MayQueue c (λ item. ⊤) call
 anything c (Put stanza) = tt
+anything c (PutOn stream stanza) = λ has. tt
+anything c (Add to) = λ room. tt
+anything c (CloseStream stream) = λ has. tt
 anything c Restart = tt
 anything c (Pause seconds) = λ allows. tt
 anything c Terminate = tt
@@ -132,7 +159,7 @@ pub step_by : (c : PlainClient) (P : PlainClient × Reply → Type 0)
     → ((item : Outgoing) → P (called ToQueue (accept c item)))
     → ((now : ℕ) → is_due c now ≡ true → next_id c ≤ greatest_rid → next_request c now ≡ with_request c (next_made c (agreed c)) → P (called ToNext (with_request c (next_made c (agreed c)))))
     → ((rid : ℕ) (t : Taken) → is_some (request_at c rid) ≡ true → taken c rid ≡ None → answer_of t.body ≡ Ok t.tells → t.tells.error ≡ false → P (with_answer c rid t, ToAnswer answerings.Done))
-    → ((payload : List ℕ) → slice_get (deliverable c) c.handed_out ≡ Some payload → P (record c { handed_out = c.handed_out + 1 }, ToHandOut (Some payload)))
+    → ((payload : ℕ × List ℕ) → slice_get (deliverable c) c.handed_out ≡ Some payload → P (record c { handed_out = c.handed_out + 1 }, ToHandOut (Some payload)))
     → (call : Call) → P (step c call)
 step_by c P same accepts requests answers hands call = step_with c (λ item. ⊤) P same (λ item such. accepts item) requests answers hands call (anything c call)
 
@@ -187,7 +214,7 @@ grows_answers c rid t none =
         cc in
         let is : taken (with_answer c rid t) (id_of x) ≡ taken c (id_of x) = at_id-push_other c.answers rid (id_of x) t other in (
           ap (λ (o : Option Taken). elim o as (λ _. Bool) [ None ↦ false | Some a ↦ not (is_some a.tells.end) ]) is ∙ on,
-          sym (ap (λ (o : Option Taken). elim o as (λ _. List (List ℕ)) [ None ↦ [] | Some a ↦ a.tells.payloads ]) is),
+          sym (ap (λ (o : Option Taken). elim o as (λ _. List (ℕ × List ℕ)) [ None ↦ [] | Some a ↦ on_stream (lies_on c.setup (id_of x) a.tells) a.tells.payloads ]) is),
         )
 
 -- What was taken up to an acknowledged id stays taken.
@@ -368,7 +395,7 @@ answers_is setup c rid t h made none reads fine =
       no_errors = All-append E c.answers ((rid, t) ∷ []) h.no_errors (All-cons E (rid, t) [] fine (All-nil E));
     }
 
-hands_is : (setup : ClientSetup) (c : PlainClient) (payload : List ℕ) → IsClient setup c → slice_get (deliverable c) c.handed_out ≡ Some payload → IsClient setup (record c { handed_out = c.handed_out + 1 })
+hands_is : (setup : ClientSetup) (c : PlainClient) (payload : ℕ × List ℕ) → IsClient setup c → slice_get (deliverable c) c.handed_out ≡ Some payload → IsClient setup (record c { handed_out = c.handed_out + 1 })
 hands_is setup c payload h next = record {
   begins = h.begins;
   first = h.first;

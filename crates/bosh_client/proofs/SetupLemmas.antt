@@ -1,6 +1,6 @@
 -- What is known of the numbers of a setup.
-use Rattle.std.proofs.Common.{◌≡◌, ℕ, ◌≤◌, Bool, true, false, ◌&&◌, List, length, refl, arith}
-use Rattle.std.specs.Prelude.{Option, None, Some, chars, is_some, not, ◌==◌, nat_le, if◌then◌else◌}
+use Rattle.std.proofs.Common.{◌≡◌, ◌≤◌, Bool, true, false, ◌&&◌, length, refl, arith}
+use Rattle.std.specs.Prelude.{Option, None, Some, is_some, not, ◌==◌, nat_le}
 use Rattle.std.proofs.lemmas.Bool.{leb-true}
 use Rattle.std.proofs.lemmas.Bool.Decides.{nat_tests}
 use Rattle.body_cutter.specs.Chars.{is_allowed}

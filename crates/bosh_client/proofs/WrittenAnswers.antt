@@ -1,10 +1,11 @@
 -- The text of an answer tells its parts.
-use Rattle.std.proofs.Common.{◌≡◌, ◌∙◌, ℕ, ◌≤◌, true, false, List, [], ◌∷◌, refl, sym, ap, subst, append-nil}
+use Rattle.std.proofs.Common.{◌≡◌, ◌∙◌, ℕ, ◌<◌, ◌≤◌, inl, inr, List, [], ◌∷◌, refl, sym, ap, subst, append-nil}
 use Rattle.std.specs.Prelude.{Option, None, Some, Ok, is_some, IfSome, codes}
 use Rattle.std.specs.List.{All}
 use Rattle.std.specs.Option.{option_map}
 use Rattle.std.specs.Fmt.{decimal}
 use Rattle.bosh_types.specs.Condition.{name_of}
+use Rattle.bosh_types.specs.Limits.{most_streams}
 use Rattle.bosh_types.specs.Rid.{IsRid}
 use Rattle.bosh_types.specs.declared.condition.Condition.{Condition}
 use Rattle.bosh_types.specs.declared.condition.Condition.TheVariants.{BadRequest, HostUnknown, ImproperAddressing, ItemNotFound, OtherRequest, PolicyViolation, RemoteConnectionFailed, RemoteStreamError, SystemShutdown, UndefinedCondition}
@@ -30,12 +31,13 @@ use Rattle.session_attrs.specs.Forms.{is_httpbind, number_of}
 use Rattle.session_attrs.specs.Rows.{Says, told}
 use Rattle.session_attrs.proofs.NamedValues.{value_in, value_of_written, first, Looks, look_for, looks_none, looks_one, looks_both}
 use Rattle.session_attrs.proofs.WrittenNumbers.{told_number}
-use Rattle.bosh_client.specs.AnswerMeaning.{HasType, MeansAck, MeansAnswer, MeansEnd, condition_of, type_of}
+use Rattle.bosh_client.specs.AnswerMeaning.{HasType, MeansAck, MeansAnswer, MeansEnd, condition_of, naming_by, naming_of, type_of}
 use Rattle.bosh_client.specs.declared.said.AnswerType.{AnswerType}
 use Rattle.bosh_client.specs.declared.said.AnswerType.TheVariants as types
 use Rattle.bosh_client.specs.AnswerReading.{answer_in, answer_of, answer_with, payloads_at}
 use Rattle.bosh_client.specs.AnswerValues.{AnswerValues, values_by, values_of}
-use Rattle.bosh_client.specs.ReadBack.{IsInForm, end_in, is_error_kind, told_of}
+use Rattle.bosh_client.specs.ReadBack.{IsInForm, end_in, is_error_kind, naming_in, told_of}
+use Rattle.bosh_client.proofs.NamingLemmas.{name_found}
 use Rattle.bosh_client.proofs.ReadingLemmas.{means_told}
 
 -- Each value by its name, block by block.
@@ -177,21 +179,30 @@ type_means : (parts : AnswerParts) (kind : AnswerKind) (says : AnswerType) (text
     → HasType (values_in parts) says
 type_means parts kind says text is value reads = (text, ap (λ k. first (type_value k) None) is ∙ ap (λ o. first o None) value, reads)
 
-end_means : (parts : AnswerParts) (kind : AnswerKind) (condition : Option Condition) → parts.kind ≡ kind → parts.condition ≡ condition
-    → MeansEnd (values_in parts) (end_in kind condition) (is_error_kind kind)
+-- the stream as it is named
+stream_value : (parts : AnswerParts) (stream : Option ℕ) → parts.stream ≡ stream → (values_in parts).stream ≡ option_map names.name_of stream
+stream_value parts None is = ap (λ (s : Option ℕ). first (option_map names.name_of s) None) is
+stream_value parts (Some stream) is = ap (λ (s : Option ℕ). first (option_map names.name_of s) None) is
+
+end_means : (parts : AnswerParts) (kind : AnswerKind) (stream : Option ℕ) (condition : Option Condition) → parts.kind ≡ kind → parts.stream ≡ stream → parts.condition ≡ condition
+    → MeansEnd (values_in parts) (end_in kind stream condition) (is_error_kind kind)
 unfolding type_of
-end_means parts Usual condition kind is = ap (λ k. first (type_value k) None) kind
-end_means parts Terminate None kind is = (
+end_means parts Usual stream condition kind on is = inl (ap (λ k. first (type_value k) None) kind)
+end_means parts Terminate (Some stream) condition kind on is =
+    inr (type_means parts Terminate types.Terminate (codes "terminate") kind refl refl, ap is_some (stream_value parts (Some stream) on))
+end_means parts Terminate None None kind on is = (
   type_means parts Terminate types.Terminate (codes "terminate") kind refl refl,
+  stream_value parts None on,
   sym (ap (option_map condition_of) (ap (λ k. first (condition_value k parts.condition) None) kind ∙ ap (λ c. first (condition_value Terminate c) None) is)),
   refl,
 )
-end_means parts Terminate (Some condition) kind is = (
+end_means parts Terminate None (Some condition) kind on is = (
   type_means parts Terminate types.Terminate (codes "terminate") kind refl refl,
+  stream_value parts None on,
   ap Some (sym (condition_of-name condition)) ∙ sym (ap (option_map condition_of) (ap (λ k. first (condition_value k parts.condition) None) kind ∙ ap (λ c. first (condition_value Terminate c) None) is)),
   refl,
 )
-end_means parts Error condition kind is = type_means parts Error types.Error (codes "error") kind refl refl
+end_means parts Error stream condition kind on is = type_means parts Error types.Error (codes "error") kind refl refl
 
 number_means : (field : Created → ℕ) (created : Option Created) → IfSome created (λ c. field c ≤ 999999999) → Says (told number_of) None (first (number_in field created) None) (option_map field created)
 number_means field None within = refl
@@ -205,16 +216,22 @@ sid_means : (created : Option Created) → option_map (λ (c : Created). c.sid) 
 sid_means None = refl
 sid_means (Some created) = refl
 
-parts_mean : (parts : AnswerParts) → IsInForm parts → MeansAnswer (values_in parts) parts.payloads (told_of parts)
+naming_means : (parts : AnswerParts) (stream : Option ℕ) → parts.stream ≡ stream → IfSome stream (λ n. n < most_streams) → naming_in stream ≡ naming_of (values_in parts).stream
+naming_means parts None is small = ap naming_of (sym (stream_value parts None is))
+naming_means parts (Some stream) is small =
+    sym (ap naming_by (name_found stream (names.name_of stream) small refl)) ∙ ap naming_of (sym (stream_value parts (Some stream) is))
+
+parts_mean : (parts : AnswerParts) → IfSome parts.stream (λ n. n < most_streams) → IsInForm parts → MeansAnswer (values_in parts) parts.payloads (told_of parts)
 unfolding is_httpbind
-parts_mean parts form = record {
+parts_mean parts small form = record {
   xmlns = refl;
-  end = end_means parts parts.kind parts.condition refl refl;
+  end = end_means parts parts.kind parts.stream parts.condition refl refl refl;
   sid = sid_means parts.created;
   requests = number_means (λ c. c.terms.requests) parts.created form.requests;
   polling = number_means (λ c. c.terms.polling) parts.created form.polling;
   maxpause = number_means (λ c. c.terms.maxpause) parts.created form.maxpause;
   ack = ack_means parts.ack form.ack;
+  stream = naming_means parts parts.stream refl small;
   payloads_are = refl;
 }
 
@@ -241,4 +258,4 @@ answer_tells parts is form =
     let into = (answer_reads parts is).1 cut body in
     let cuts : body_cut_of text ≡ Ok cut = (body_cut text cut).1 body in
     ap (answer_in text) cuts ∙ ap (λ v. answer_with v (payloads_at text cut.children)) (values_are parts cut is body)
-    ∙ ap (answer_with (values_in parts)) into.children_are ∙ means_told (values_in parts) parts.payloads (told_of parts) (parts_mean parts form)
+    ∙ ap (answer_with (values_in parts)) into.children_are ∙ means_told (values_in parts) parts.payloads (told_of parts) (parts_mean parts is.stream form)

@@ -1,5 +1,5 @@
 -- What the values and the payloads of an answer mean to a client, attribute by attribute.
-use Rattle.std.specs.Prelude.{◌≡◌, ℕ, Bool, true, false, ◌||◌, not, IsTrue, List, [], ◌∷◌, Option, None, Some, is_some, codes, if◌then◌else◌}
+use Rattle.std.specs.Prelude.{◌≡◌, ℕ, Bool, true, false, ◌||◌, ◌⊎◌, not, IsSome, IsTrue, List, [], ◌∷◌, Option, None, Some, is_some, codes, if◌then◌else◌}
 use Rattle.std.specs.List.{find}
 use Rattle.std.specs.Option.{option_map, unwrap_or}
 use Rattle.std.specs.Str.{bytes_eq}
@@ -7,6 +7,8 @@ use Rattle.bosh_types.specs.Condition.{name_of}
 use Rattle.bosh_types.specs.Rid.{rid_of}
 use Rattle.bosh_types.specs.declared.condition.Condition.{Condition}
 use Rattle.bosh_types.specs.declared.condition.Condition.TheVariants.{BadRequest, HostUnknown, ImproperAddressing, ItemNotFound, OtherRequest, PolicyViolation, RemoteConnectionFailed, RemoteStreamError, SystemShutdown, UndefinedCondition}
+use Rattle.bosh_types.specs.Limits.{most_streams}
+use Rattle.stream_names.specs.Streams.{named, numbers_from}
 use Rattle.session_attrs.specs.Forms.{number_of, says_httpbind}
 use Rattle.session_attrs.specs.Rows.{Says, is_bad, told}
 use Rattle.bosh_client.specs.declared.replies.ClientEnd.{ClientEnd}
@@ -14,6 +16,8 @@ use Rattle.bosh_client.specs.declared.replies.Why.{Why}
 use Rattle.bosh_client.specs.declared.replies.Why.TheVariants.{Cut, Namespace, Attribute, NoSid}
 use Rattle.bosh_client.specs.declared.said.AnswerType.{AnswerType}
 use Rattle.bosh_client.specs.declared.said.AnswerType.TheVariants.{Terminate, Error}
+use Rattle.bosh_client.specs.declared.told.Naming.{Naming}
+use Rattle.bosh_client.specs.declared.told.Naming.TheVariants.{Unnamed, Stream, Unknown}
 use Rattle.bosh_client.specs.declared.told.Told.{Told}
 use Rattle.bosh_client.specs.AnswerValues.{AnswerValues}
 
@@ -35,12 +39,23 @@ type_of text =
 abbrev pub HasType : AnswerValues → AnswerType → Type 0
 HasType v kind = (text : List ℕ) × (v.type ≡ Some text) × (type_of text ≡ Some kind)
 
--- an answer is terminal exactly where its type says so, XEP-0124 sections 13 and 17, and only then its condition is read; it is an
--- error exactly where its type says so, and says nothing of the session's end then
+-- an answer is terminal exactly where its type says so and it names no stream, XEP-0124 sections 13, 16 and 17, and only then its condition
+-- is read: one that names a stream tells that this one is closed; it is an error exactly where its type says so, and says nothing of the
+-- session's end then
 abbrev pub MeansEnd : AnswerValues → Option ClientEnd → Bool → Type 0
-MeansEnd v None false = v.type ≡ None
+MeansEnd v None false = (v.type ≡ None) ⊎ (HasType v Terminate × IsSome v.stream)
 MeansEnd v None true = HasType v Error
-MeansEnd v (Some end) error = HasType v Terminate × (end.condition ≡ option_map condition_of v.condition) × (error ≡ false)
+MeansEnd v (Some end) error =
+    HasType v Terminate × (v.stream ≡ None) × (end.condition ≡ option_map condition_of v.condition) × (error ≡ false)
+
+-- which of the eight streams has the name, XEP-0124 section 16
+abbrev pub naming_by : Option ℕ → Naming
+naming_by None = Unknown
+naming_by (Some stream) = Stream stream
+
+abbrev pub naming_of : Option (List ℕ) → Naming
+naming_of None = Unnamed
+naming_of (Some name) = naming_by (named (numbers_from 0 most_streams) name)
 
 -- an acknowledgement is a request id, XEP-0124 section 9
 abbrev pub MeansAck : Option (List ℕ) → Bool → Type 0
@@ -59,6 +74,8 @@ pub record MeansAnswer (v : AnswerValues) (payloads : List (List ℕ)) (t : Told
   pub polling : Says (told number_of) None v.polling t.polling
   pub maxpause : Says (told number_of) None v.maxpause t.maxpause
   pub ack : MeansAck v.ack t.acknowledges
+  -- XEP-0124 section 16
+  pub stream : t.stream ≡ naming_of v.stream
   pub payloads_are : t.payloads ≡ payloads
 
 -- an attribute is out of form

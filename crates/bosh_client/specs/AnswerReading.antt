@@ -17,7 +17,7 @@ use Rattle.bosh_client.specs.declared.said.AnswerType.{AnswerType}
 use Rattle.bosh_client.specs.declared.said.AnswerType.TheVariants.{Terminate, Error}
 use Rattle.bosh_client.specs.declared.said.Said.{Said}
 use Rattle.bosh_client.specs.declared.told.Told.{Told}
-use Rattle.bosh_client.specs.AnswerMeaning.{condition_of, type_of}
+use Rattle.bosh_client.specs.AnswerMeaning.{condition_of, naming_of, type_of}
 use Rattle.bosh_client.specs.AnswerValues.{AnswerValues, values_of}
 
 -- first this, then the rest, unless a value is out of form
@@ -41,11 +41,15 @@ said_in v = do
   maxpause ← said number_of v.maxpause
   Some (record { kind = kind; ack = ack; requests = requests; polling = polling; maxpause = maxpause })
 
--- how a terminal answer ends the client; another one's condition is not looked at
-abbrev pub end_by : Option (List ℕ) → Option AnswerType → Option ClientEnd
-end_by condition None = None
-end_by condition (Some Terminate) = Some (record { condition = option_map condition_of condition })
-end_by condition (Some Error) = None
+-- how a terminal answer ends the client, which names no stream; another one's condition is not looked at
+abbrev pub end_with : Option (List ℕ) → Option (List ℕ) → Option ClientEnd
+end_with condition None = Some (record { condition = option_map condition_of condition })
+end_with condition (Some stream) = None
+
+abbrev pub end_by : Option (List ℕ) → Option (List ℕ) → Option AnswerType → Option ClientEnd
+end_by condition stream None = None
+end_by condition stream (Some Terminate) = end_with condition stream
+end_by condition stream (Some Error) = None
 
 -- whether it says that its request counts as not received
 abbrev pub is_error : Option AnswerType → Bool
@@ -56,13 +60,14 @@ is_error (Some Error) = true
 -- what an answer tells that says this
 abbrev pub told_from : AnswerValues → List (List ℕ) → Said → Told
 told_from v payloads s = record {
-  end = end_by v.condition s.kind;
+  end = end_by v.condition v.stream s.kind;
   error = is_error s.kind;
   sid = v.sid;
   requests = s.requests;
   polling = s.polling;
   maxpause = s.maxpause;
   acknowledges = is_some s.ack;
+  stream = naming_of v.stream;
   payloads = payloads;
 }
 

@@ -12,6 +12,7 @@ pub record AnswerValues : Type 0 where
   pub requests : Option (List ℕ)
   pub polling : Option (List ℕ)
   pub maxpause : Option (List ℕ)
+  pub stream : Option (List ℕ)
   pub ack : Option (List ℕ)
 
 -- the values by a look-up by name; all other attributes are ignored
@@ -24,6 +25,7 @@ values_by look = record {
   requests = look (codes "requests");
   polling = look (codes "polling");
   maxpause = look (codes "maxpause");
+  stream = look (codes "stream");
   ack = look (codes "ack");
 }
 

@@ -1,15 +1,18 @@
 -- The plain state of a client: full lists, from which nothing is ever taken.
-use Rattle.std.specs.Prelude.{ℕ, ◌+◌, ◌==◌, Bool, false, not, List, [], ◌∷◌, length, take, drop, filter, Option, None, Some, is_none, is_some}
+use Rattle.std.specs.Prelude.{ℕ, ◌+◌, ◌==◌, ◌||◌, Bool, false, not, List, [], ◌∷◌, length, map, take, drop, filter, Option, None, Some, is_none, is_some, if◌then◌else◌}
 use Rattle.std.specs.List.{find, flat_map, list_any, take_while}
 use Rattle.std.specs.Option.{option_map, option_or, unwrap_or}
 use Rattle.bosh_types.specs.ById.{at_id}
+use Rattle.stream_names.specs.PlainStreams.{PlainStreams, begun}
 use Rattle.body_writer.specs.declared.request.RequestParts.{RequestParts}
 use Rattle.body_writer.specs.Request.{request_text}
 use Rattle.bosh_client.specs.declared.outgoing.Outgoing.{Outgoing}
 use Rattle.bosh_client.specs.declared.replies.ClientEnd.{ClientEnd}
 use Rattle.bosh_client.specs.declared.setup.ClientSetup.{ClientSetup}
+use Rattle.bosh_client.specs.declared.told.Naming.{Naming}
+use Rattle.bosh_client.specs.declared.told.Naming.TheVariants.{Unnamed, Stream, Unknown}
 use Rattle.bosh_client.specs.declared.told.Told.{Told}
-use Rattle.bosh_client.specs.Outgoing.{is_of_stream, is_terminate}
+use Rattle.bosh_client.specs.Outgoing.{is_of_stream, is_terminate, streams_after}
 
 -- a request that was made: what it took of the queue, and its parts, which are its bytes for ever
 pub record Made : Type 0 where
@@ -54,9 +57,13 @@ was_put c = filter is_of_stream c.accepted
 abbrev pub was_made : PlainClient → List Outgoing
 was_made c = filter is_of_stream (items_made c)
 
--- a terminate was accepted, or is made
+-- the streams once all that was accepted is made, XEP-0124 section 16
+abbrev pub streams : PlainClient → PlainStreams
+streams c = streams_after begun c.accepted
+
+-- a terminate was accepted, or the last stream is to be closed, or such a request was made
 abbrev pub is_closing : PlainClient → Bool
-is_closing c = list_any is_terminate c.accepted
+is_closing c = list_any is_terminate c.accepted || (length (streams c).running == 0)
 
 -- the request with this id, and its bytes
 abbrev pub request_at : PlainClient → ℕ → Option Made
@@ -86,15 +93,29 @@ lowest c = unwrap_or (option_map id_of (find (λ request. not (is_answered c req
 abbrev pub goes_on : PlainClient → Made → Bool
 goes_on c request = elim (taken c (id_of request)) [ None ↦ false | Some answer ↦ is_none answer.tells.end ]
 
-abbrev pub payloads_for : PlainClient → Made → List (List ℕ)
-payloads_for c request = elim (taken c (id_of request)) [ None ↦ [] | Some answer ↦ answer.tells.payloads ]
+-- the stream on which the payloads of an answer lie: the one that it names, the first where it names none or answers the creation
+abbrev pub stream_named : Naming → ℕ
+stream_named Unnamed = 0
+stream_named (Stream stream) = stream
+stream_named Unknown = 0
+
+abbrev pub lies_on : ClientSetup → ℕ → Told → ℕ
+lies_on setup rid tells = if rid == setup.first then 0 else stream_named tells.stream
+
+-- each payload beside the stream on which it lies
+abbrev pub on_stream : ℕ → List (List ℕ) → List (ℕ × List ℕ)
+on_stream stream payloads = map (λ payload. (stream, payload)) payloads
+
+abbrev pub payloads_for : PlainClient → Made → List (ℕ × List ℕ)
+payloads_for c request =
+    elim (taken c (id_of request)) [ None ↦ [] | Some answer ↦ on_stream (lies_on c.setup (id_of request) answer.tells) answer.tells.payloads ]
 
 -- the payloads of the answers in the order of ids, up to the first id without an answer or with a terminal one
-abbrev pub deliverable : PlainClient → List (List ℕ)
+abbrev pub deliverable : PlainClient → List (ℕ × List ℕ)
 deliverable c = flat_map (payloads_for c) (take_while (goes_on c) c.requests)
 
 -- what was handed out
-abbrev pub was_handed : PlainClient → List (List ℕ)
+abbrev pub was_handed : PlainClient → List (ℕ × List ℕ)
 was_handed c = take c.handed_out (deliverable c)
 
 -- how the first terminal answer ended the client, in the order of taking

@@ -1,6 +1,7 @@
 -- What is said of a client after any calls.
 use Rattle.std.specs.Prelude.{◌≡◌, ℕ, ◌+◌, ◌<◌, ◌≤◌, true, ⊤, List, [], ◌∷◌, ◌++◌, filter, length, Option, None, Some, IfSome, IsSome, is_some, ◌⊎◌}
 use Rattle.std.specs.List.{list_all, list_any}
+use Rattle.bosh_types.specs.Limits.{most_streams}
 use Rattle.body_cutter.specs.Chars.{is_allowed}
 use Rattle.body_cutter.specs.Utf8.{IsUtf8Of}
 use Rattle.body_writer.specs.declared.request.RequestParts.{RequestParts}
@@ -8,11 +9,11 @@ use Rattle.body_writer.specs.ReadBack.{IsRequest}
 use Rattle.bosh_client.specs.declared.agreed.Agreed.{Agreed}
 use Rattle.bosh_client.specs.declared.outgoing.Outgoing.{Outgoing}
 use Rattle.bosh_client.specs.declared.setup.ClientSetup.{ClientSetup}
-use Rattle.bosh_client.specs.Outgoing.{is_of_stream, is_restart, is_stanza, is_terminate, pause_in, stanzas_in}
+use Rattle.bosh_client.specs.Outgoing.{host_in, is_of_stream, is_restart, is_stanza, lie_together, pause_in, stanzas_in, stream_in, terminates}
 use Rattle.bosh_client.specs.PlainClient.{Made, PlainClient, id_of, lowest, next_id, queued, taken}
 use Rattle.bosh_client.specs.ReadBack.{greatest_number}
 use Rattle.bosh_client.specs.Requests.{agreed, creation_parts}
-use Rattle.bosh_client.specs.Runs.{Reply, ToQueue, ToNext, ToAnswer, ToHandOut}
+use Rattle.bosh_client.specs.Runs.{IsHost, Reply, ToQueue, ToNext, ToAnswer, ToHandOut}
 
 -- one list begins another
 abbrev pub Begins : {X : Type 0} → List X → List X → Type 0
@@ -22,8 +23,8 @@ Begins {X = X} xs ys = (rest : List X) × (ys ≡ xs ++ rest)
 abbrev pub is_queued : PlainClient → List Outgoing
 is_queued c = filter is_of_stream (queued c)
 
--- the payloads that these replies handed out
-abbrev pub payloads_in : List Reply → List (List ℕ)
+-- the payloads that these replies handed out, each with the stream on which it lies
+abbrev pub payloads_in : List Reply → List (ℕ × List ℕ)
 payloads_in [] = []
 payloads_in (ToQueue reply ∷ replies) = payloads_in replies
 payloads_in (ToNext reply ∷ replies) = payloads_in replies
@@ -59,11 +60,12 @@ IsName sid = IsUtf8Of is_allowed sid × (length sid ≤ 1024)
 abbrev pub IsNamed : PlainClient → Type 0
 IsNamed c = IfSome (agreed c) (λ a. IsName a.sid)
 
--- a request for the session names it, but no stream and no host; it acknowledges a lower id, and pauses for 1 to 999,999,999 seconds
+-- a request for the session names it, and perhaps one of its eight streams, or the host to which it adds one; it acknowledges a lower id,
+-- and pauses for 1 to 999,999,999 seconds
 pub record IsOfSession (parts : RequestParts) : Type 0 where
   pub sid : IsSome parts.sid
-  pub stream : parts.stream ≡ None
-  pub to : parts.to ≡ None
+  pub stream : IfSome parts.stream (λ stream. stream < most_streams)
+  pub to : IfSome parts.to IsHost
   pub ack : IfSome parts.ack (λ ack. (1 ≤ ack) × (ack < parts.rid))
   pub pause : IfSome parts.pause (λ pause. (1 ≤ pause) × (pause ≤ greatest_number))
 
@@ -77,14 +79,16 @@ pub record HasForm (setup : ClientSetup) (parts : RequestParts) : Type 0 where
   pub form : IsRequest parts
   pub known : IsKnown setup parts parts.creation
 
--- stanzas alone, or nothing, or one item that is none
+-- stanzas alone, for the same stream, or nothing, or one item that is none
 abbrev pub IsAlone : List Outgoing → Type 0
-IsAlone items = (list_all is_stanza items ≡ true) ⊎ ((item : Outgoing) × (items ≡ item ∷ []))
+IsAlone items = ((list_all is_stanza items ≡ true) × (lie_together items ≡ true)) ⊎ ((item : Outgoing) × (items ≡ item ∷ []))
 
 -- a request carries just what it took of the queue
 pub record Carries (request : Made) : Type 0 where
   pub payloads : request.parts.payloads ≡ stanzas_in request.items
   pub restart : request.parts.restart ≡ list_any is_restart request.items
   pub pause : request.parts.pause ≡ pause_in request.items
-  pub terminate : request.parts.terminate ≡ list_any is_terminate request.items
+  pub stream : request.parts.stream ≡ stream_in request.items
+  pub to : request.parts.to ≡ host_in request.items
+  pub terminate : request.parts.terminate ≡ list_any terminates request.items
   pub alone : IsAlone request.items

@@ -8,7 +8,7 @@ use Rattle.bosh_client.specs.declared.outgoing.Outgoing.{Outgoing}
 use Rattle.bosh_client.specs.declared.setup.ClientSetup.{ClientSetup}
 use Rattle.bosh_client.specs.declared.told.Told.{Told}
 use Rattle.bosh_client.specs.Keys.{announcement, key_at, newkey_at}
-use Rattle.bosh_client.specs.Outgoing.{is_restart, is_terminate, pause_in, stanzas_in}
+use Rattle.bosh_client.specs.Outgoing.{host_in, is_restart, pause_in, stanzas_in, stream_in, terminates}
 use Rattle.bosh_client.specs.PlainClient.{PlainClient, lowest, next_id, taken}
 
 -- what the creation's answer says; what it leaves out is read as is usual, and one request may always be open
@@ -62,14 +62,14 @@ abbrev pub later_parts : PlainClient → Agreed → List Outgoing → RequestPar
 later_parts c a items = record {
   rid = next_id c;
   sid = Some a.sid;
-  stream = None;
-  to = None;
+  stream = stream_in items;
+  to = host_in items;
   creation = None;
   ack = ack_for c a;
   key = with_keys c.setup (Some (key_at c.setup.seed c.setup.keys (later_requests c)));
   newkey = with_keys c.setup (newkey_at c.setup.seed c.setup.keys (later_requests c));
   pause = pause_in items;
-  terminate = list_any is_terminate items;
+  terminate = list_any terminates items;
   restart = list_any is_restart items;
   payloads = stanzas_in items;
 }

@@ -1,5 +1,5 @@
 -- What a client may begin with.
-use Rattle.std.specs.Prelude.{ℕ, ◌==◌, ◌&&◌, ◌||◌, nat_le, Bool, not, List, length}
+use Rattle.std.specs.Prelude.{ℕ, ◌==◌, ◌&&◌, ◌||◌, nat_le, Bool, not, length}
 use Rattle.session_attrs.specs.Serving.{is_allowed_text}
 use Rattle.bosh_client.specs.declared.setup.ClientSetup.{ClientSetup}
 

@@ -8,7 +8,7 @@ use Rattle.bosh_client.specs.declared.setup.ClientSetup.{ClientSetup}
 use Rattle.bosh_client.specs.KeyPlace.{KeyPlace}
 use Rattle.bosh_client.specs.Keys.{number_at, sequence_at}
 use Rattle.bosh_client.specs.Places.{Places}
-use Rattle.bosh_client.specs.PlainClient.{Made, Taken, PlainClient, bytes_of, end_of, goes_on, id_of, is_closing, items_made, last_taken, next_id, payloads_for, queued, taken}
+use Rattle.bosh_client.specs.PlainClient.{Made, Taken, PlainClient, bytes_of, end_of, goes_on, id_of, is_closing, items_made, last_taken, lies_on, next_id, on_stream, payloads_for, queued, streams, taken}
 use Rattle.bosh_client.specs.Requests.{agreed, later_requests}
 use Rattle.bosh_client.specs.Setup.{is_setup}
 
@@ -18,15 +18,16 @@ AreFrom rid [] = Unit {0}
 AreFrom rid (request ∷ requests) = (id_of request ≡ rid) × AreFrom (rid + 1) requests
 
 -- what is remembered of a request
-abbrev pub slot_by : Made → Option Taken → Slot
-slot_by request None = Open (bytes_of request)
-slot_by request (Some answer) = Answered answer.tells.payloads (is_some answer.tells.end)
+abbrev pub slot_by : ClientSetup → Made → Option Taken → Slot
+slot_by setup request None = Open (bytes_of request)
+slot_by setup request (Some answer) =
+    Answered (on_stream (lies_on setup (id_of request) answer.tells) answer.tells.payloads) (is_some answer.tells.end)
 
 abbrev pub slot_of : PlainClient → Made → Slot
-slot_of c request = slot_by request (taken c (id_of request))
+slot_of c request = slot_by c.setup request (taken c (id_of request))
 
 -- requests that are of no more use, whose answers came and were handed out up to what is left of the last one, and the others
-pub record HoldsRequests (places : Places) (inbox : List (List ℕ)) (plain : PlainClient) : Type 0 where
+pub record HoldsRequests (places : Places) (inbox : List (ℕ × List ℕ)) (plain : PlainClient) : Type 0 where
   pub spent : List Made
   pub rest : List Made
   pub requests_are : plain.requests ≡ spent ++ rest
@@ -52,6 +53,7 @@ pub record Holds (c : Client) (plain : PlainClient) : Type 0 where
   -- what a client keeps just as the plain one does
   pub setup_is : c.setup ≡ plain.setup
   pub queue_is : c.queue ≡ queued plain
+  pub streams_are : c.streams ≡ streams plain
   pub closing_is : c.closing ≡ is_closing plain
   pub agreed_is : c.agreed ≡ agreed plain
   pub last_taken_is : c.last_taken ≡ last_taken plain

@@ -1,22 +1,23 @@
 // Answers are taken, and their payloads handed out.
 ghost use Rattle.std.specs.Prelude.{◌≡◌, ℕ, ◌+◌, ◌<◌, ◌≤◌, IfOk, IfSome, IsTrue, List, [], None, OnErr, false, is_none, is_some, length, true};
 ghost use Rattle.bosh_client.specs.Left.{left_in, left_of};
-ghost use Rattle.bosh_client.specs.Machine.{answer, hand_out, lacks_sid, with_answer};
+ghost use Rattle.bosh_client.specs.Machine.{answer, hand_out, hand_out_on, lacks_sid, is_unknown, misnames, with_answer};
 ghost use Rattle.bosh_client.specs.Places.{comes_next};
 ghost use Rattle.bosh_client.specs.declared.replies.Answered.TheVariants as answerings;
-ghost use Rattle.bosh_client.specs.PlainClient.{PlainClient, end_of, lowest, request_at, taken};
+ghost use Rattle.bosh_client.specs.PlainClient.{PlainClient, end_of, lies_on, lowest, request_at, taken};
+ghost use Rattle.bosh_client.specs.declared.told.Told.{Told};
 ghost use Rattle.bosh_client.specs.Requests.{agreed_by, agreement};
 ghost use Rattle.bosh_client.specs.StandsFor.{Does, HoldsRequests, StandsFor};
 
 use crate::agreed::Agreed;
 use crate::client::Client;
 use crate::exchanges::{Exchanges, is_open};
-use crate::inbox::Inbox;
+use crate::payloads::Payloads;
 use crate::reading::{AnswerError, read_answer};
 use crate::replies::{Answered, ClientEnd, Why};
 use crate::setup::ClientSetup;
-use crate::told::Told;
-use bosh_types::{CopyIn, Moment, Rid, Text};
+use crate::told::{Naming, Told};
+use bosh_types::{CopyIn, Moment, Rid, StreamNo, Text};
 use std::alloc::{AllocError, Global};
 
 impl Client {
@@ -49,6 +50,9 @@ impl Client {
             Err(AnswerError::Memory) => return Err(AllocError),
             Err(AnswerError::Broken(why)) => return Ok(Answered::Broken(why)),
         };
+        if self.misnames(rid, &told) {
+            return Ok(Answered::Broken(Why::Attribute));
+        }
         if told.error {
             return Ok(self.again(rid));
         }
@@ -65,6 +69,19 @@ impl Client {
     #[tactic(auto, unfolding(crate::specs::StandsFor::StandsFor))]
     pub fn hand_out(&mut self) -> Option<Text>
         ensures step { (plain : PlainClient) → StandsFor self.old plain → Does self.new result (hand_out plain) }
+        ensures fewer { IfSome result (λ payload. left_in self.new < left_in self.old) }
+    {
+        match self.hand_out_on() {
+            Some((_, payload)) => Some(payload),
+            None => None,
+        }
+    }
+
+    /// The next payload with the stream on which it lies: the one that its answer names, and the first where it names none or answers the
+    /// creation (XEP-0124, section 16). It takes no memory.
+    #[tactic(auto, unfolding(crate::specs::StandsFor::StandsFor))]
+    pub fn hand_out_on(&mut self) -> Option<(StreamNo, Text)>
+        ensures step { (plain : PlainClient) → StandsFor self.old plain → Does self.new result (hand_out_on plain) }
         ensures fewer { IfSome result (λ payload. left_in self.new < left_in self.old) }
     {
         move_on(&mut self.exchanges, &mut self.inbox);
@@ -110,6 +127,13 @@ impl Client {
         rid == self.setup.first && told.end.is_none() && told.sid.is_none()
     }
 
+    // Whether it has payloads on a stream that no session has.
+    fn misnames(&self, rid: Rid, told: &Told) -> bool
+        ensures { (plain : PlainClient) → plain.setup ≡ self.now.setup → result ≡ misnames plain rid told.now }
+    {
+        rid != self.setup.first && is_unknown(told.stream) && !told.payloads.is_empty()
+    }
+
     // What is to be sent again once the request with this id, which has no answer, counts as not received.
     #[tactic(auto, unfolding(crate::specs::StandsFor::StandsFor))]
     fn again(&self, rid: Rid) -> Answered
@@ -142,13 +166,15 @@ impl Client {
         self.agreed = made.or(self.agreed.take());
         self.end = self.end.or(told.end);
         self.last_taken = now;
-        self.exchanges.fill(rid, told.payloads, told.end.is_some());
+        let on = lies_on(&self.setup, rid, told.stream);
+        let payloads = Payloads::new(on, told.payloads);
+        self.exchanges.fill(rid, payloads, told.end.is_some());
         move_on(&mut self.exchanges, &mut self.inbox);
     }
 }
 
 // Goes on to the next answer that has payloads to be handed out. It takes no memory.
-fn move_on(exchanges: &mut Exchanges, inbox: &mut Inbox)
+fn move_on(exchanges: &mut Exchanges, inbox: &mut Payloads)
     ensures stands { (plain : PlainClient) → HoldsRequests exchanges.old inbox.old plain → HoldsRequests exchanges.new inbox.new plain }
     ensures stops { inbox.new ≡ [] → comes_next exchanges.new.slots ≡ false }
     ensures left { length inbox.new + left_of exchanges.new.slots ≡ length inbox.old + left_of exchanges.old.slots }
@@ -158,6 +184,29 @@ fn move_on(exchanges: &mut Exchanges, inbox: &mut Inbox)
             Some(payloads) => *inbox = payloads,
             None => return,
         }
+    }
+}
+
+fn is_unknown(naming: Naming) -> bool
+    ensures { result ≡ is_unknown naming }
+{
+    match naming {
+        Naming::Unnamed => false,
+        Naming::Stream(_) => false,
+        Naming::Unknown => true,
+    }
+}
+
+// The stream on which the payloads of an answer lie.
+fn lies_on(setup: &ClientSetup, rid: Rid, naming: Naming) -> StreamNo
+    ensures { (told : Told) → told.stream ≡ naming → result ≡ lies_on setup.now rid told }
+{
+    if rid == setup.first {
+        return StreamNo::unnamed();
+    }
+    match naming {
+        Naming::Stream(stream) => stream,
+        _ => StreamNo::unnamed(),
     }
 }
 

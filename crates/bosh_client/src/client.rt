@@ -5,25 +5,27 @@ ghost use Rattle.bosh_client.specs.StandsFor.{HoldsKeys, StandsFor};
 
 use crate::agreed::Agreed;
 use crate::exchanges::Exchanges;
-use crate::inbox::Inbox;
 use crate::keys::Keys;
+use crate::payloads::Payloads;
 use crate::queue::Queue;
 use crate::replies::ClientEnd;
 use crate::setup::ClientSetup;
 use bosh_types::{CopyIn, Moment};
 use std::alloc::{AllocError, Global};
+use stream_names::Streams;
 
 /// One client of one session, apart from every connection, clock and thread (XEP-0124, XEP-0206). It keeps what its next
 /// calls need and forgets the rest.
 #[derive(Drop)]
 pub struct Client {
     pub(crate) setup: ClientSetup,
-    // What is to be sent, and whether it ends with a terminate, or a request did.
+    // What is to be sent; the streams once all of it was; and whether it ends with a terminate or closes the last stream, or a request did.
     pub(crate) queue: Queue,
+    pub(crate) streams: Streams,
     pub(crate) closing: bool,
     // The requests that have no answer, and those whose answers came early; what is left of the answer before them.
     pub(crate) exchanges: Exchanges,
-    pub(crate) inbox: Inbox,
+    pub(crate) inbox: Payloads,
     // What the creation's answer says, once that was taken.
     pub(crate) agreed: Option<Agreed>,
     pub(crate) keys: Option<Keys>,
@@ -44,9 +46,10 @@ impl Client {
         Ok(Client {
             setup,
             queue: Queue::new(alloc),
+            streams: Streams::new(),
             closing: false,
             exchanges: Exchanges::new(alloc, first),
-            inbox: Inbox::new(alloc),
+            inbox: Payloads::none(alloc),
             agreed: None,
             keys,
             last_taken: Moment::from_millis(0),

@@ -4,7 +4,7 @@ ghost use Rattle.bosh_types.specs.Rid.{greatest_rid};
 ghost use Rattle.bosh_client.specs.declared.exchanges.Slot.TheVariants.{Answered, Open};
 ghost use Rattle.bosh_client.specs.Places.{answered_front, comes_next, filled, is_open, slot_at};
 
-use crate::inbox::Inbox;
+use crate::payloads::Payloads;
 use bosh_types::{Rid, SharedText};
 use std::alloc::{AllocError, Global};
 use std::collections::VecDeque;
@@ -16,7 +16,7 @@ pub(crate) enum Slot {
     /// It has no answer yet, and these bytes.
     Open(SharedText),
     /// Its answer was taken, with these payloads, and may be terminal.
-    Answered { payloads: Inbox, terminal: bool },
+    Answered { payloads: Payloads, terminal: bool },
 }
 
 /// The requests from the lowest id on that is still of use, one for each id.
@@ -98,7 +98,7 @@ impl Exchanges {
     }
 
     /// The request with this id has its answer. It takes no memory.
-    pub(crate) fn fill(&mut self, rid: Rid, payloads: Inbox, terminal: bool)
+    pub(crate) fn fill(&mut self, rid: Rid, payloads: Payloads, terminal: bool)
         ensures { self.new ≡ filled self.old rid (Answered payloads terminal) }
     {
         let Some(ahead) = rid.value().checked_sub(self.first) else {
@@ -112,7 +112,7 @@ impl Exchanges {
     }
 
     /// Takes the payloads of the first answer, where the first request has one that isn't terminal. It takes no memory.
-    pub(crate) fn take_front(&mut self) -> Option<Inbox>
+    pub(crate) fn take_front(&mut self) -> Option<Payloads>
         ensures some { IfSome result (λ payloads. self.old ≡ record { first = self.new.first - 1; slots = Answered payloads false ∷ self.new.slots }) }
         ensures moved { IfSome result (λ payloads. self.new.first ≡ self.old.first + 1) }
         ensures none { IfNone result (self.new ≡ self.old) }

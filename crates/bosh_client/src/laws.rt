@@ -59,7 +59,7 @@ pub fn requests_have_the_form_that_reads_back()
         All (λ request. HasForm setup request.parts) (client_after setup calls).requests }
 {}
 
-/// A request carries just what it took of the queue: stanzas alone, or one restart, pause or terminate.
+/// A request carries just what it took of the queue: stanzas alone, for the same stream, or one item of another kind.
 pub fn requests_carry_what_they_took()
     ensures { (setup : ClientSetup) (calls : List Call) → All Carries (client_after setup calls).requests }
 {}

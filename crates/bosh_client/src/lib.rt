@@ -11,6 +11,7 @@ mod inbox;
 mod keys;
 mod laws;
 mod outgoing;
+mod payloads;
 mod queue;
 mod queueing;
 mod reading;
@@ -32,4 +33,4 @@ pub use laws::{
 pub use outgoing::Outgoing;
 pub use replies::{Answered, ClientEnd, Next, Queued, Why};
 pub use setup::ClientSetup;
-pub use told::Told;
+pub use told::{Naming, Told};

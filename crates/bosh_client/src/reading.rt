@@ -6,7 +6,7 @@ ghost use Rattle.bosh_client.specs.AnswerValues.{values_of};
 
 use crate::inbox::Inbox;
 use crate::replies::Why;
-use crate::said::{Said, end_by, is_error, said_in, says_httpbind};
+use crate::said::{Said, end_by, is_error, naming_of, said_in, says_httpbind};
 use crate::told::Told;
 use body_cutter::{Cut, CutError, Span, cut};
 use bosh_types::Text;
@@ -63,13 +63,18 @@ fn told_from(alloc: Global, cut: &Cut, text: &[u8], said: Said) -> Result<Told, 
     let sid = copy_of(alloc, value_of(cut, text, b"sid"))?;
     let payloads = payloads_at(alloc, text, cut.children.as_slice())?;
     Ok(Told {
-        end: end_by(value_of(cut, text, b"condition"), said.kind),
+        end: end_by(
+            value_of(cut, text, b"condition"),
+            value_of(cut, text, b"stream"),
+            said.kind,
+        ),
         error: is_error(said.kind),
         sid,
         requests: said.requests,
         polling: said.polling,
         maxpause: said.maxpause,
         acknowledges: said.ack.is_some(),
+        stream: naming_of(value_of(cut, text, b"stream")),
         payloads,
     })
 }

@@ -8,8 +8,10 @@ pub enum Queued {
     Done,
     /// The client has ended, or a terminate was queued.
     Over,
-    /// 1024 stanzas are queued already.
+    /// 1024 stanzas are queued already; or eight streams were opened.
     Full,
+    /// The stream was never opened, or was closed by this client.
+    NoStream,
     /// The pause is of 0 seconds or longer than the manager allows, or the manager's word on it has not come.
     TooLong,
 }
@@ -48,7 +50,8 @@ pub enum Why {
     Cut(CutRefusal),
     /// It isn't in the namespace of the protocol.
     Namespace,
-    /// Its `type` is neither `terminate` nor `error`, its `ack` is no request id, or its `requests`, `polling` or `maxpause` is no number.
+    /// Its `type` is neither `terminate` nor `error`, its `ack` is no request id, or its `requests`, `polling` or `maxpause` is no number;
+    /// or it has payloads on a stream whose name none of eight has, and doesn't answer a creation.
     Attribute,
     /// It answers a creation, has no `type` and names no session.
     NoSid,

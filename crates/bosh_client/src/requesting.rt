@@ -29,7 +29,7 @@ impl Client {
     /// queued, an empty request is due once none is open, but in a polling client only the agreed seconds after the last answer
     /// (section 12). Before the creation's answer only the creation is due. `Nothing` exactly where nothing is due, or the
     /// client ended; `RidsSpent` exactly where something is due and no id is left. Both change nothing. A body takes as
-    /// many stanzas as it may, at most 1024 and 1,000,000 bytes, or one restart, pause or terminate. An `Err` comes from want of
+    /// many stanzas for the same stream as it may, at most 1024 and 1,000,000 bytes, or one of anything else. An `Err` comes from want of
     /// memory alone, and the client is as before.
     #[tactic(auto, unfolding(crate::specs::StandsFor::StandsFor))]
     pub fn next_request(&mut self, alloc: Global, now: Moment) -> Result<Next, AllocError>
@@ -169,8 +169,8 @@ impl Client {
         Ok(RequestParts {
             rid,
             sid: self.sid(alloc)?,
-            stream: None,
-            to: None,
+            stream: load.stream,
+            to: self.queue.host_in(alloc)?,
             creation: None,
             ack: self.ack_for(rid),
             key: self.keys.as_ref().map(|keys| keys.key()),
@@ -235,9 +235,11 @@ fn most_open(agreed: &Agreed, item: &Outgoing) -> u64
 {
     let requests = u64::from(agreed.requests);
     match item {
-        Outgoing::Stanza(_) => requests,
+        Outgoing::Stanza { .. } => requests,
         Outgoing::Restart => requests,
         Outgoing::Pause(_) => requests + 1,
+        Outgoing::Add(_) => requests,
+        Outgoing::Close(_) => requests + 1,
         Outgoing::Terminate => requests + 1,
     }
 }

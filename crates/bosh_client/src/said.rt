@@ -5,14 +5,16 @@ ghost use Rattle.std.specs.Str.{bytes_eq};
 ghost use Rattle.bosh_types.specs.Condition.{name_of};
 ghost use Rattle.bosh_types.specs.Rid.{rid_of};
 ghost use Rattle.session_attrs.specs.Forms.{number_of, says_httpbind};
-ghost use Rattle.bosh_client.specs.AnswerMeaning.{condition_of, type_of};
-ghost use Rattle.bosh_client.specs.AnswerReading.{end_by, is_error, said, said_in};
+ghost use Rattle.bosh_client.specs.AnswerMeaning.{condition_of, naming_of, type_of};
+ghost use Rattle.bosh_client.specs.AnswerReading.{end_by, end_with, is_error, said, said_in};
 ghost use Rattle.bosh_client.specs.AnswerValues.{values_of};
 
 use crate::replies::ClientEnd;
+use crate::told::Naming;
 use body_cutter::Cut;
 use bosh_types::{Condition, Rid};
 use session_attrs::{is_httpbind, number_of, value_of};
+use stream_names::number_of as stream_named;
 
 // What the `type` of an answer says.
 #[derive(Clone, Copy)]
@@ -113,14 +115,41 @@ pub(crate) fn says_httpbind(value: Option<&[u8]>) -> bool
 }
 
 /// How an answer ends the client, where it is terminal: only then its condition is looked at.
-pub(crate) fn end_by(condition: Option<&[u8]>, kind: Option<AnswerType>) -> Option<ClientEnd>
-    ensures { result ≡ end_by (option_copied condition.entry) kind }
+pub(crate) fn end_by(
+    condition: Option<&[u8]>,
+    stream: Option<&[u8]>,
+    kind: Option<AnswerType>,
+) -> Option<ClientEnd>
+    ensures { result ≡ end_by (option_copied condition.entry) (option_copied stream.entry) kind }
 {
     match kind? {
         AnswerType::Error => None,
-        AnswerType::Terminate => Some(ClientEnd {
+        AnswerType::Terminate => end_with(condition, stream),
+    }
+}
+
+// An answer that names a stream tells of that one alone.
+fn end_with(condition: Option<&[u8]>, stream: Option<&[u8]>) -> Option<ClientEnd>
+    ensures { result ≡ end_with (option_copied condition.entry) (option_copied stream.entry) }
+{
+    match stream {
+        Some(_) => None,
+        None => Some(ClientEnd {
             condition: condition_row(condition),
         }),
+    }
+}
+
+/// Which stream an answer names.
+pub(crate) fn naming_of(name: Option<&[u8]>) -> Naming
+    ensures { result ≡ naming_of (option_copied name.entry) }
+{
+    let Some(name) = name else {
+        return Naming::Unnamed;
+    };
+    match stream_named(name) {
+        Some(stream) => Naming::Stream(stream),
+        None => Naming::Unknown,
     }
 }
 

@@ -1,6 +1,17 @@
 use crate::inbox::Inbox;
 use crate::replies::ClientEnd;
-use bosh_types::Text;
+use bosh_types::{StreamNo, Text};
+
+/// The stream that an answer names (XEP-0124, section 16).
+#[derive(Clone, Copy, Debug, PartialEq, Eq)]
+pub enum Naming {
+    /// It names none.
+    Unnamed,
+    /// It names this one.
+    Stream(StreamNo),
+    /// No stream has that name.
+    Unknown,
+}
 
 /// What an answer tells a client.
 #[derive(Debug, Drop)]
@@ -18,6 +29,8 @@ pub struct Told {
     pub maxpause: Option<u32>,
     /// Whether it acknowledges (XEP-0124, section 9).
     pub acknowledges: bool,
+    /// The stream that it names.
+    pub stream: Naming,
     /// Its payloads in order, each as its exact bytes.
     pub payloads: Inbox,
 }

@@ -249,6 +249,7 @@ where
             }
             Queued::Over => return Ok(Held::Over),
             Queued::Full => {}
+            Queued::NoStream => unreachable!(),
             Queued::TooLong => unreachable!(),
         }
         if has_ended {

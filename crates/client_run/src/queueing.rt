@@ -44,6 +44,7 @@ pub(crate) fn put<R: Wait, B: Bell>(
             Queued::Full => {
                 bell.wait();
             }
+            Queued::NoStream => unreachable!(),
             Queued::TooLong => unreachable!(),
         }
     }

@@ -19,7 +19,7 @@ use Rattle.two_ends.specs.Asked.{ending_in, greatest_open, ids_of, if_open, is_o
 use Rattle.two_ends.specs.Summed.{counted}
 use Rattle.world_laws.specs.declared.event.WorldEvent.{WorldEvent}
 use Rattle.world_laws.specs.declared.event.WorldEvent.TheVariants.{At, Put, Send, Carry, Give, Return}
-use Rattle.world_laws.specs.Complete.{EndsWell, IsComplete}
+use Rattle.world_laws.specs.Complete.{EndsFaultless, IsComplete, NamesNone}
 use Rattle.world_laws.specs.Manager.{PlainManager}
 use Rattle.world_laws.specs.Promises.{KeepsBothPrefixes}
 use Rattle.world_laws.specs.Setup.{IsAllowed, IsWorldSetup}
@@ -44,11 +44,12 @@ after_more : (events : List WorldEvent) (w : PlainWorld) (event : WorldEvent) �
 after_more [] w event = refl
 after_more (first ∷ events) w event = after_more events (step w first).after event
 
--- events led there of which none is late
+-- events led there of which none is late and none names a stream
 record Reached (w : PlainWorld) (load : PlainLoad) : Type 0 where
   events : List WorldEvent
   allowed : All IsAllowed events
   timely : IsTimely w events
+  unnamed : All NamesNone events
   world_is : load.world ≡ after w events
 
 timely_more : (events : List WorldEvent) (w : PlainWorld) (event : WorldEvent) → IsTimely w events → IsInTime (after w events) event → IsTimely w (events ++ event ∷ [])
@@ -88,35 +89,36 @@ greatest_untaken c rid is = by (last_of (ids_of c)) is
 
 -- counts change nothing in the world
 recounted : (w : PlainWorld) (load other : PlainLoad) → other.world ≡ load.world → Reached w load → Reached w other
-recounted w load other same reached = record { events = reached.events; allowed = reached.allowed; timely = reached.timely; world_is = same ∙ reached.world_is }
+recounted w load other same reached = record { events = reached.events; allowed = reached.allowed; timely = reached.timely; unnamed = reached.unnamed; world_is = same ∙ reached.world_is }
 
 module _ (law : StanzaLaw) (w : PlainWorld) where
   abbrev Comes : PlainLoad → Type 0
   Comes load = Reached w load
 
-  happens_comes : (event : WorldEvent) (load : PlainLoad) → IsAllowed event → IsInTime load.world event → Comes load → Comes (happens event load)
-  happens_comes event load allowed early reached = record {
+  happens_comes : (event : WorldEvent) (load : PlainLoad) → IsAllowed event → NamesNone event → IsInTime load.world event → Comes load → Comes (happens event load)
+  happens_comes event load allowed unnamed early reached = record {
     events = reached.events ++ event ∷ [];
     allowed = All-push IsAllowed reached.events event reached.allowed allowed;
     timely = timely_more reached.events w event reached.timely (subst (λ (v : PlainWorld). IsInTime v event) reached.world_is early);
+    unnamed = All-push NamesNone reached.events event reached.unnamed unnamed;
     world_is = ap (λ v. (step v event).after) reached.world_is ∙ sym (after_more reached.events w event);
   }
 
   carries_comes : (rid : ℕ) (load : PlainLoad) → taken load.world.client rid ≡ None → Comes load → Comes (carries rid load)
   carries_comes rid load early reached =
-      happens_comes (Carry rid) (record load { copies = counted (load.copies + 1) }) tt early
+      happens_comes (Carry rid) (record load { copies = counted (load.copies + 1) }) tt tt early
       (recounted w load (record load { copies = counted (load.copies + 1) }) refl reached)
 
   puts_comes : (load : PlainLoad) → Comes load → Comes (puts_one load)
   puts_comes load reached =
       let number = counted (load.puts + 1) in
-      happens_comes (Put _) (record load { puts = number }) ((law _).1 (client_stanza number (counted_low (load.puts + 1)))) tt
+      happens_comes (Put _) (record load { puts = number }) ((law _).1 (client_stanza number (counted_low (load.puts + 1)))) tt tt
       (recounted w load (record load { puts = number }) refl reached)
 
   gives_comes : (load : PlainLoad) → Comes load → Comes (gives_one load)
   gives_comes load reached =
       let number = counted (load.gives + 1) in
-      happens_comes (Give _) (record load { gives = number }) ((law _).1 (server_stanza number (counted_low (load.gives + 1)))) tt
+      happens_comes (Give _) (record load { gives = number }) ((law _).1 (server_stanza number (counted_low (load.gives + 1)))) tt tt
       (recounted w load (record load { gives = number }) refl reached)
 
   some_comes : (rid : Option ℕ) (load : PlainLoad) → ((id : ℕ) → rid ≡ Some id → taken load.world.client id ≡ None) → Comes load → Comes (carries_some rid load)
@@ -131,20 +133,20 @@ module _ (law : StanzaLaw) (w : PlainWorld) where
 
   returns_comes : (number : Option ℕ) (load : PlainLoad) → Comes load → Comes (returns_some number load)
   returns_comes None load reached = reached
-  returns_comes (Some number) load reached = happens_comes (Return number) load tt tt reached
+  returns_comes (Some number) load reached = happens_comes (Return number) load tt tt tt reached
 
   for_comes : (rid : Option ℕ) (load : PlainLoad) → Comes load → Comes (returns_for rid load)
   for_comes None load reached = reached
   for_comes (Some rid) load reached = returns_comes (last_answer rid load.world.written) load reached
 
   waits_comes : (millis : ℕ) (load : PlainLoad) → Comes load → Comes (waits millis load)
-  waits_comes millis load reached = happens_comes (At _) load (counted_low (load.world.moment + millis)) tt reached
+  waits_comes millis load reached = happens_comes (At _) load (counted_low (load.world.moment + millis)) tt tt reached
 
   brings_comes : (word rest : ℕ) (load : PlainLoad) → Comes load → Comes (brings word rest load)
   brings_comes word rest load reached =
       split Comes (nat_lt rest 2) _ _ (λ _. puts_comes load reached) (λ _.
       split Comes (rest == 2) _ _ (λ _. gives_comes load reached) (λ _.
-      split Comes (rest == 3) _ _ (λ _. happens_comes Send load tt tt reached) (λ _.
+      split Comes (rest == 3) _ _ (λ _. happens_comes Send load tt tt tt reached) (λ _.
       split Comes (rest == 4) _ _ (λ _. low_comes load reached) (λ _.
       split Comes (rest == 5) _ _ (λ _. high_comes load reached) (λ _.
       split Comes (rest == 6) _ _ (λ _. for_comes (lowest_open load.world.client) load reached) (λ _. waits_comes _ load reached))))))
@@ -161,7 +163,7 @@ module _ (law : StanzaLaw) (w : PlainWorld) where
       let low = carries_lowest sent in
       let high = carries_greatest low in
       for_comes (lowest_open high.world.client) high
-      (high_comes low (low_comes sent (happens_comes Send load tt tt reached)))
+      (high_comes low (low_comes sent (happens_comes Send load tt tt tt reached)))
 
   rounds_come : (count : ℕ) (load : PlainLoad) → Comes load → Comes (rounds count load)
   unfolding rounds
@@ -199,8 +201,8 @@ unfolding load_of
 load_reached law number =
     let first = first_id (word number 0) in
     let w = new_world host greeting (setup_of first) in
-    let start : Reached w (beginning first) = record { events = []; allowed = All-nil IsAllowed; timely = tt; world_is = refl } in
-    let created = happens_comes law w (Return 1) _ tt tt (carries_comes law w first _ (first_sent first) (happens_comes law w Send _ tt tt start)) in
+    let start : Reached w (beginning first) = record { events = []; allowed = All-nil IsAllowed; timely = tt; unnamed = All-nil NamesNone; world_is = refl } in
+    let created = happens_comes law w (Return 1) _ tt tt tt (carries_comes law w first _ (first_sent first) (happens_comes law w Send _ tt tt tt start)) in
     rounds_come law w 100 _ (turns_come law w number 2000 _ created)
 
 -- so each end has a beginning of what was sent at the other
@@ -221,6 +223,19 @@ load_completes law complete number =
     let reached = load_reached law number in
     subst IsComplete (sym reached.world_is) (complete host greeting (setup_of first) reached.events (load_begins first (first_is_id (word number 0))) reached.allowed reached.timely)
 
-pub ends_well : (o : Option PlainManager) → EndsWell o → IsOverWell (ending_in o)
+-- since its client names no stream, by no request of its own but a terminate
+abbrev pub UnnamedLaw : Type 0
+UnnamedLaw = (host : List ℕ) (greeting : List (List ℕ)) (setup : ClientSetup) (events : List WorldEvent)
+    → IsWorldSetup host greeting setup → All IsAllowed events → IsTimely (new_world host greeting setup) events → All NamesNone events
+    → EndsFaultless (after (new_world host greeting setup) events).manager
+
+pub load_ends : StanzaLaw → UnnamedLaw → (number : ℕ) → EndsFaultless (load_of number).world.manager
+load_ends law unnamed number =
+    let first = first_id (word number 0) in
+    let reached = load_reached law number in
+    subst (λ (w : PlainWorld). EndsFaultless w.manager) (sym reached.world_is)
+    (unnamed host greeting (setup_of first) reached.events (load_begins first (first_is_id (word number 0))) reached.allowed reached.timely reached.unnamed)
+
+pub ends_well : (o : Option PlainManager) → EndsFaultless o → IsOverWell (ending_in o)
 ends_well None is = tt
 ends_well (Some m) is = is

@@ -1,5 +1,5 @@
 -- What is known of lines that were read.
-use Rattle.std.proofs.Common.{◌≡◌, ◌≤◌, ◌<◌, ℕ, List, Bool, true, false, Option, Some, None, refl, arith, if◌then◌else◌}
+use Rattle.std.proofs.Common.{◌≡◌, ◌≤◌, ◌<◌, ◌&&◌, ℕ, List, Bool, true, false, Option, Some, None, length, refl, arith, if◌then◌else◌}
 use Rattle.std.specs.Prelude.{◌^◌, nat_le, ⊤, IsTrue, codes}
 use Rattle.std.specs.Option.{option_and_then}
 use Rattle.std.specs.Str.{bytes_eq}
@@ -8,6 +8,8 @@ use Rattle.bosh_types.specs.Rid.{IsRid, greatest_rid, rid_of}
 use Rattle.bosh_types.proofs.RidLemmas.{rid_of-IsRid}
 use Rattle.bosh_types.specs.declared.ending.Closing.{Closing}
 use Rattle.body_cutter.specs.Cutting.{is_stanza}
+use Rattle.session_attrs.specs.Serving.{is_allowed_text, is_host_name}
+use Rattle.bosh_client.specs.Runs.{IsHost}
 use Rattle.script_text.specs.declared.line.LineRead.{LineRead}
 use Rattle.script_text.specs.declared.line.LineRead.TheVariants as drives
 use Rattle.script_text.specs.declared.line.ScriptLine.{ScriptLine}
@@ -15,15 +17,17 @@ use Rattle.script_text.specs.declared.line.ScriptLine.TheVariants as said
 use Rattle.script_text.specs.Line.{closing_of, line_of, rest_of, word_of}
 use Rattle.script_text.specs.Said.{IsWellRead}
 use Rattle.script_text.proofs.SaidLemmas.{lines_well}
-use Rattle.session_laws.proofs.Tests.{split}
+use Rattle.session_laws.proofs.Tests.{both_true, split}
 use Rattle.world_laws.specs.declared.event.WorldEvent.{WorldEvent}
 use Rattle.world_laws.specs.declared.event.WorldEvent.TheVariants as events
 use Rattle.world_laws.specs.Setup.{IsAllowed}
 use Rattle.pair_text.specs.declared.line.ClientTerms.{ClientTerms}
 use Rattle.pair_text.specs.declared.line.PairLine.{PairLine}
 use Rattle.pair_text.specs.declared.line.PairLine.TheVariants as lines
-use Rattle.pair_text.specs.Line.{at_line, carry_line, client_line, count_of, flag_of, number_of, of_rest, of_words, pair_line_of, pause_line, return_line, seconds_of, shared_line, shared_said, shut_line, stanza_line, terms_from, terms_of, word_line, words_line}
+use Rattle.pair_text.specs.Line.{at_line, carry_line, client_line, count_of, event_line, flag_of, named_line, of_rest, of_words, pair_line_of, pause_line, return_line, seconds_of, shared_line, shared_said, shut_line, stanza_line, terms_from, terms_of, word_line, words_line}
+use Rattle.pair_text.specs.Numbers.{number_of}
 use Rattle.pair_text.specs.Said.{IsSaid, IsWellSaid}
+use Rattle.pair_text.specs.StreamLine.{add_line, give_on_line, put_on_line, shut_on, shut_on_line, stanza_at, stanza_on, stop_on_line, stream_line, stream_of}
 
 -- a line whose first word isn't one of these says nothing here
 abbrev WellWords : Option (Option PairLine) → Type 0
@@ -113,6 +117,91 @@ well_shut text = by (closing_of text)
     by None = tt
     by (Some closing) = tt
 
+-- what adds a stream or names one
+abbrev WellEvent : Option WorldEvent → Type 0
+WellEvent None = ⊤
+WellEvent (Some event) = IsAllowed event
+
+abbrev WellNamed : Option (Option WorldEvent) → Type 0
+WellNamed None = ⊤
+WellNamed (Some event) = WellEvent event
+
+host_is : (text : List ℕ) → is_host_name text ≡ true → IsHost text
+unfolding is_host_name
+host_is text is =
+    let parts = both_true (nat_le 1 (length text) && nat_le (length text) 1023) (is_allowed_text text) is in
+    let sizes = both_true (nat_le 1 (length text)) (nat_le (length text) 1023) parts.0 in
+    (leb-true 1 (length text) sizes.0, leb-true (length text) 1023 sizes.1, parts.1)
+
+well_add : (text : List ℕ) → WellEvent (add_line text)
+well_add text = split WellEvent (is_host_name text) _ _ (host_is text) (λ not. tt)
+
+-- the text beside a stream is a stanza
+abbrev WellStanza : Option (ℕ × List ℕ) → Type 0
+WellStanza None = ⊤
+WellStanza (Some on) = IsTrue (is_stanza on.1)
+
+well_at_stream : (stream : Option ℕ) (text : List ℕ) → WellStanza (stanza_at stream text)
+well_at_stream None text = tt
+well_at_stream (Some stream) text = split WellStanza (is_stanza text) _ _ (λ is. is) (λ not. tt)
+
+well_stanza : (text : List ℕ) → WellStanza (stanza_on text)
+well_stanza text = by (rest_of text)
+  where
+    by : (o : Option (List ℕ)) → WellStanza (option_and_then (λ stanza. stanza_at (stream_of (word_of text)) stanza) o)
+    by None = tt
+    by (Some stanza) = well_at_stream (stream_of (word_of text)) stanza
+
+well_put_on : (text : List ℕ) → WellEvent (put_on_line text)
+well_put_on text = by (stanza_on text) (well_stanza text)
+  where
+    by : (o : Option (ℕ × List ℕ)) → WellStanza o → WellEvent (elim o [ None ↦ None | Some on ↦ Some (events.PutOn on.0 on.1) ])
+    by None well = tt
+    by (Some on) well = well
+
+well_give_on : (text : List ℕ) → WellEvent (give_on_line text)
+well_give_on text = by (stanza_on text) (well_stanza text)
+  where
+    by : (o : Option (ℕ × List ℕ)) → WellStanza o → WellEvent (elim o [ None ↦ None | Some on ↦ Some (events.GiveOn on.0 on.1) ])
+    by None well = tt
+    by (Some on) well = well
+
+well_stop_on : (text : List ℕ) → WellEvent (stop_on_line text)
+well_stop_on text = by (stream_of text)
+  where
+    by : (o : Option ℕ) → WellEvent (elim o [ None ↦ None | Some stream ↦ Some (events.StopOn stream) ])
+    by None = tt
+    by (Some stream) = tt
+
+well_shut_on : (text : List ℕ) → WellEvent (shut_on_line text)
+well_shut_on text = by (rest_of text)
+  where
+    shuts : (stream : Option ℕ) (closing : Option Closing) → WellEvent (shut_on stream closing)
+    shuts None closing = tt
+    shuts (Some stream) None = tt
+    shuts (Some stream) (Some closing) = tt
+
+    by : (o : Option (List ℕ)) → WellEvent (option_and_then (λ closing. shut_on (stream_of (word_of text)) (closing_of closing)) o)
+    by None = tt
+    by (Some closing) = shuts (stream_of (word_of text)) (closing_of closing)
+
+well_stream : (word rest : List ℕ) → WellNamed (stream_line word rest)
+unfolding stream_line
+well_stream word rest =
+    split WellNamed (bytes_eq word (codes "add")) _ _ (λ _. well_add rest) (λ _.
+    split WellNamed (bytes_eq word (codes "puton")) _ _ (λ _. well_put_on rest) (λ _.
+    split WellNamed (bytes_eq word (codes "stopon")) _ _ (λ _. well_stop_on rest) (λ _.
+    split WellNamed (bytes_eq word (codes "giveon")) _ _ (λ _. well_give_on rest) (λ _.
+    split WellNamed (bytes_eq word (codes "shuton")) _ _ (λ _. well_shut_on rest) (λ _. tt)))))
+
+well_event : (o : Option WorldEvent) → WellEvent o → IsWellSaid (event_line o)
+well_event None well = tt
+well_event (Some event) well = well
+
+well_named : (o : Option (Option WorldEvent)) → WellNamed o → WellWords (named_line o)
+well_named None well = tt
+well_named (Some event) well = well_event event well
+
 well_shared_said : (line : ScriptLine) → IsWellRead (drives.Line line) → IsWellSaid (shared_said line)
 well_shared_said (said.Open rid) well = tt
 well_shared_said (said.Short rid stanza) well = tt
@@ -146,7 +235,7 @@ well_words word rest =
     split WellWords (bytes_eq word (codes "carry")) _ _ (λ _. well_carry rest) (λ _.
     split WellWords (bytes_eq word (codes "give")) _ _ (λ _. well_give rest) (λ _.
     split WellWords (bytes_eq word (codes "shut")) _ _ (λ _. well_shut rest) (λ _.
-    split WellWords (bytes_eq word (codes "return")) _ _ (λ _. well_return rest) (λ _. tt))))))))
+    split WellWords (bytes_eq word (codes "return")) _ _ (λ _. well_return rest) (λ _. well_named (stream_line word rest) (well_stream word rest)))))))))
 
 well_of_words : (line : List ℕ) (o : Option (Option PairLine)) → WellWords o → IsWellSaid (of_words line o)
 well_of_words line None well = well_word line

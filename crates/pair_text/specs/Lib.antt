@@ -1,8 +1,10 @@
 pub mod Line
 pub mod Load
 pub mod Loads
+pub mod Numbers
 pub mod Report
 pub mod Said
 pub mod Script
 pub mod Stands
+pub mod StreamLine
 pub mod Told

@@ -15,10 +15,8 @@ use Rattle.world_laws.specs.declared.event.WorldEvent.TheVariants as events
 use Rattle.pair_text.specs.declared.line.ClientTerms.{ClientTerms}
 use Rattle.pair_text.specs.declared.line.PairLine.{PairLine}
 use Rattle.pair_text.specs.declared.line.PairLine.TheVariants as lines
-
--- a number in plain decimal: `0`, or one that a request id might be
-unfoldable pub number_of : List ℕ → Option ℕ
-number_of text = if bytes_eq text (codes "0") then Some 0 else rid_of text
+use Rattle.pair_text.specs.Numbers.{number_of}
+use Rattle.pair_text.specs.StreamLine.{stream_line}
 
 -- a number that 32 bits hold
 abbrev pub within_32 : Option ℕ → Option ℕ
@@ -98,6 +96,16 @@ word_line line =
     else if bytes_eq line (codes "send") then Some (lines.Event events.Send)
     else shared_line (line_of line)
 
+-- what happens, if anything does
+abbrev pub event_line : Option WorldEvent → Option PairLine
+event_line None = None
+event_line (Some event) = Some (lines.Event event)
+
+-- a line that adds a stream or names one
+abbrev pub named_line : Option (Option WorldEvent) → Option (Option PairLine)
+named_line None = None
+named_line (Some event) = Some (event_line event)
+
 -- what a line says whose first word is this, where more follows
 unfoldable pub words_line : List ℕ → List ℕ → Option (Option PairLine)
 words_line word rest =
@@ -109,7 +117,7 @@ words_line word rest =
     else if bytes_eq word (codes "give") then Some (stanza_line events.Give rest)
     else if bytes_eq word (codes "shut") then Some (shut_line rest)
     else if bytes_eq word (codes "return") then Some (return_line rest)
-    else None
+    else named_line (stream_line word rest)
 
 abbrev pub of_words : List ℕ → Option (Option PairLine) → Option PairLine
 of_words line None = word_line line

@@ -11,7 +11,7 @@ use Rattle.two_ends.specs.Asked.{ending_in, greatest_open, last_answer, lowest_o
 use Rattle.two_ends.specs.Summed.{counted}
 use Rattle.world_laws.specs.declared.event.WorldEvent.{WorldEvent}
 use Rattle.world_laws.specs.declared.event.WorldEvent.TheVariants.{At, Put, Send, Carry, Give, Return}
-use Rattle.world_laws.specs.Complete.{IsComplete, IsLeft}
+use Rattle.world_laws.specs.Complete.{IsComplete, IsFaultless}
 use Rattle.world_laws.specs.Promises.{KeepsBothPrefixes}
 use Rattle.world_laws.specs.Steps.{step}
 use Rattle.world_laws.specs.Sums.{sums_of}
@@ -151,7 +151,7 @@ load_text number = line_of (told_of number (load_of number))
 
 -- the session of a load goes on, or its client was silent for too long, or its journal is full, or one of the two ends ended it
 abbrev pub IsOverWell : Option Ending → Type 0
-IsOverWell ending = IfSome ending IsLeft
+IsOverWell ending = IfSome ending IsFaultless
 
 -- the sink was given the line of this number's run and nothing else, in whose world each end has a beginning of what was sent at
 -- the other, and nothing went wrong by itself between them: so the line says `over none`, or one of the endings that are left

@@ -15,6 +15,9 @@ use Rattle.pair_text.specs.declared.report.PairReport.TheVariants.{Saw, Summed, 
 -- the word of a line that was refused
 abbrev pub word_text : Word → List ℕ
 word_text words.Put = codes "put"
+word_text words.PutOn = codes "puton"
+word_text words.Add = codes "add"
+word_text words.StopOn = codes "stopon"
 word_text words.Restart = codes "restart"
 word_text words.Pause = codes "pause"
 word_text words.Stop = codes "stop"
@@ -33,10 +36,15 @@ request_line rid body = codes "req " ++ decimal rid ++ codes " " ++ body
 abbrev pub answer_line : ℕ → ℕ → List ℕ → List ℕ
 answer_line number rid body = codes "ans " ++ decimal number ++ codes " " ++ decimal rid ++ codes " " ++ body
 
+-- what was handed out on a stream that isn't the first
+abbrev pub got_on_line : ℕ → List ℕ → List ℕ
+got_on_line stream stanza = codes "got " ++ decimal stream ++ codes " " ++ stanza
+
 -- what was seen, without an LF
 unfoldable pub seen_text : SeenItem → List ℕ
 seen_text (seen.RefusedFull word) = codes "refused " ++ word_text word ++ codes " full"
 seen_text (seen.RefusedOver word) = codes "refused " ++ word_text word ++ codes " over"
+seen_text (seen.RefusedNone word) = codes "refused " ++ word_text word ++ codes " none"
 seen_text seen.RefusedLong = codes "refused pause long"
 seen_text (seen.Req rid body) = request_line rid body
 seen_text seen.Nothing = codes "none"
@@ -47,6 +55,7 @@ seen_text (seen.Ans number rid body) = answer_line number rid body
 seen_text (seen.Gone rid) = codes "gone " ++ decimal rid
 seen_text (seen.Over ending) = codes "over " ++ ending_text ending
 seen_text (seen.Got stanza) = codes "got " ++ stanza
+seen_text (seen.GotOn stream stanza) = got_on_line stream stanza
 seen_text (seen.Stale rid) = codes "stale " ++ decimal rid
 seen_text (seen.Broken rid) = codes "broken " ++ decimal rid
 seen_text (seen.Again first last) = codes "again " ++ decimal first ++ codes " " ++ decimal last

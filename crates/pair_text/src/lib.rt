@@ -7,9 +7,11 @@ mod laws;
 mod line;
 mod load;
 mod load_line;
+mod numbers;
 mod pair;
 mod report;
 mod run;
+mod stream_line;
 
 pub use laws::reports_tell_of_one_world;
 pub use line::{ClientTerms, PairLine, read_pair_line};

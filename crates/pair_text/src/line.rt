@@ -2,8 +2,11 @@
 ghost use Rattle.std.specs.Prelude.{◌≡◌, IfOk, None};
 ghost use Rattle.bosh_types.specs.Rid.{rid_of};
 ghost use Rattle.world_laws.specs.declared.event.WorldEvent.TheVariants.{Put, Give};
-ghost use Rattle.pair_text.specs.Line.{at_line, carry_line, client_line, count_of, flag_of, number_of, pair_line_of, pause_line, return_line, seconds_of, shared_said, shut_line, stanza_line, terms_of, word_line, words_line};
+ghost use Rattle.pair_text.specs.StreamLine.{stream_line};
+ghost use Rattle.pair_text.specs.Line.{at_line, carry_line, client_line, count_of, event_line, flag_of, named_line, pair_line_of, pause_line, return_line, seconds_of, shared_said, shut_line, stanza_line, terms_of, word_line, words_line};
 
+use crate::numbers::read_number;
+use crate::stream_line::read_stream_line;
 use bosh_types::{Moment, Rid, Stanzas, Text};
 use script_text::{LineRead, ScriptLine, read_closing, read_line, split_word};
 use session_attrs::is_stanza;
@@ -17,7 +20,8 @@ pub enum PairLine {
     Host { name: Text, greeting: Stanzas },
     /// `client RID WAIT HOLD ACK KEYS`: the client begins with these.
     Client(ClientTerms),
-    /// What happens in the world: `at`, `put`, `restart`, `pause`, `stop`, `send`, `carry`, `give`, `shut`, `return`.
+    /// What happens in the world: `at`, `put`, `restart`, `pause`, `stop`, `send`, `carry`, `give`, `shut`, `return`; and on one of several
+    /// streams `add`, `puton`, `stopon`, `giveon`, `shuton`.
     Event(WorldEvent),
     /// `end`
     End,
@@ -83,7 +87,27 @@ fn read_words_line(
     if word == b"return".as_slice() {
         return Ok(Some(read_return(rest)));
     }
-    Ok(None)
+    read_named_line(alloc, word, rest)
+}
+
+// A line that adds a stream or names one.
+fn read_named_line(
+    alloc: Global,
+    word: &[u8],
+    rest: &[u8],
+) -> Result<Option<Option<PairLine>>, AllocError>
+    ensures { IfOk result (λ said. said ≡ named_line (stream_line word.now rest.now)) }
+{
+    match read_stream_line(alloc, word, rest)? {
+        Some(event) => Ok(Some(event_line(event))),
+        None => Ok(None),
+    }
+}
+
+fn event_line(event: Option<WorldEvent>) -> Option<PairLine>
+    ensures { result ≡ event_line event }
+{
+    Some(PairLine::Event(event?))
 }
 
 // A line of one word, or one that scripts of one manager have too.
@@ -139,17 +163,6 @@ fn read_terms(text: &[u8]) -> Option<ClientTerms>
         ack: read_flag(ack)?,
         keys: read_count(keys)?,
     })
-}
-
-// A number in plain decimal.
-#[tactic(auto, unfolding(crate::specs::Line::number_of))]
-fn read_number(text: &[u8]) -> Option<u64>
-    ensures { result ≡ number_of text.now }
-{
-    if text == b"0".as_slice() {
-        return Some(0);
-    }
-    Some(Rid::read(text)?.value())
 }
 
 // A number that 32 bits hold.

@@ -2,9 +2,9 @@
 ghost use Rattle.std.specs.Prelude.{◌≡◌, ◌++◌, ◌∷◌, [], IfOk, OnOk, codes};
 ghost use Rattle.std.specs.Fmt.{decimal};
 ghost use Rattle.script_text.specs.Report.{kind_text};
-ghost use Rattle.pair_text.specs.Report.{answer_line, end_text, pair_line_text, pair_report_text, request_line, seen_text, sums_text, word_text};
+ghost use Rattle.pair_text.specs.Report.{answer_line, end_text, got_on_line, pair_line_text, pair_report_text, request_line, seen_text, sums_text, word_text};
 
-use bosh_types::{Condition, Rid};
+use bosh_types::{Condition, Rid, StreamNo};
 use script_text::{BadKind, kind_name, push_ending, push_inward, push_number};
 use std::alloc::{AllocError, Global};
 use two_ends::Sums;
@@ -55,6 +55,7 @@ fn push_seen(alloc: Global, text: &mut Vec<u8>, item: &SeenItem) -> Result<(), A
     match item {
         SeenItem::RefusedFull { line } => push_words(text, "refused ", word_text(*line), " full"),
         SeenItem::RefusedOver { line } => push_words(text, "refused ", word_text(*line), " over"),
+        SeenItem::RefusedNone { line } => push_words(text, "refused ", word_text(*line), " none"),
         SeenItem::RefusedLong => text.extend_from_slice(b"refused pause long"),
         SeenItem::Req { rid, body } => push_request(alloc, text, *rid, body.as_slice()),
         SeenItem::Nothing => text.extend_from_slice(b"none"),
@@ -80,6 +81,7 @@ fn push_seen(alloc: Global, text: &mut Vec<u8>, item: &SeenItem) -> Result<(), A
             text.extend_from_slice(b"got ")?;
             text.extend_from_slice(stanza.as_slice())
         }
+        SeenItem::GotOn { stream, stanza } => push_got_on(alloc, text, *stream, stanza.as_slice()),
         SeenItem::Stale { rid } => push_rid(alloc, text, "stale ", *rid),
         SeenItem::Broken { rid } => push_rid(alloc, text, "broken ", *rid),
         SeenItem::Again { first, last } => push_again(alloc, text, *first, *last),
@@ -147,11 +149,28 @@ fn push_answer(
     text.extend_from_slice(body)
 }
 
+// What was handed out on a stream that isn't the first.
+fn push_got_on(
+    alloc: Global,
+    text: &mut Vec<u8>,
+    stream: StreamNo,
+    stanza: &[u8],
+) -> Result<(), AllocError>
+    ensures { OnOk result (text.new.items ≡ text.old.items ++ got_on_line stream stanza.now) }
+{
+    text.extend_from_slice(b"got ")?;
+    push_number_and_space(alloc, text, u64::from(stream.number()))?;
+    text.extend_from_slice(stanza)
+}
+
 fn word_text(word: Word) -> &'static str
     ensures { result.now ≡ word_text word }
 {
     match word {
         Word::Put => "put",
+        Word::PutOn => "puton",
+        Word::Add => "add",
+        Word::StopOn => "stopon",
         Word::Restart => "restart",
         Word::Pause => "pause",
         Word::Stop => "stop",

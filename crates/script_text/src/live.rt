@@ -16,7 +16,7 @@ ghost use Rattle.script_text.specs.Stands.{IsEvent, IsLive, IsTurn};
 use crate::event::Event;
 use crate::report::{Refusal, ReportLine};
 use crate::words::terminal_body;
-use bosh_types::{Closing, Condition, Ending, Moment, SharedText, Ticket};
+use bosh_types::{Closing, Condition, Ending, Moment, SharedText, StreamNo, Ticket};
 use session_attrs::Request;
 use session_calls::{arrive, back, back_closed, collect, take_inward, tick};
 use session_core::{Arrived, Collected, Taken, Ticked};
@@ -154,7 +154,7 @@ impl Live {
         requires { IsEvent (Gives stanza) }
         ensures { IfOk result (λ turned. (s : PlainLive) → IsLive self s → IsTurn turned (turn_at now (Gives stanza) s)) }
     {
-        let taken = back(&mut self.session, stanza, now)?;
+        let taken = back(&mut self.session, StreamNo::unnamed(), stanza, now)?;
         let lines = refused_back(alloc, self.number, taken)?;
         self.told(alloc, lines, None)
     }
@@ -162,7 +162,7 @@ impl Live {
     fn shut(mut self, alloc: Global, now: Moment, closing: Closing) -> Result<Turned, AllocError>
         ensures { IfOk result (λ turned. (s : PlainLive) → IsLive self s → IsTurn turned (turn_at now (Shuts closing) s)) }
     {
-        let taken = back_closed(&mut self.session, closing, now)?;
+        let taken = back_closed(&mut self.session, StreamNo::unnamed(), closing, now)?;
         let lines = refused_shut(alloc, self.number, taken)?;
         self.told(alloc, lines, None)
     }

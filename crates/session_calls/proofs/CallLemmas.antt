@@ -5,7 +5,6 @@ use Rattle.bosh_types.specs.declared.ending.Closing.{Closing}
 use Rattle.bosh_types.specs.declared.inward.Inward.{Inward}
 use Rattle.parked_gate.specs.Histories.{Appends}
 use Rattle.session_attrs.specs.declared.request.Request.{Request}
-use Rattle.session_core.specs.Copy.{unnamed}
 use Rattle.session_core.specs.Journal as plain
 use Rattle.session_core.specs.Journal.{Call, Arrive, Back, BackClosed, Collect, TakeInward, Tick, Reply, ToArrive, ToBack, ToCollect, ToTakeInward, ToTick, Journal, IsAllowed, state_of, reply_of, entered_by, called}
 use Rattle.session_core.specs.Machine.{arrive, back, back_closed, collect, take_inward, tick}
@@ -83,26 +82,12 @@ module _ (log later : List Entry) (journal : Journal) (is : IsJournalOf log jour
       let both = steps_to log later journal (Back stream stanza now) allowed is (reply_in told) steps in
       (to_back reply _ (sym told_is ∙ both.0 ∙ replied ToBack (back (state_of journal) stream stanza now)), both.1)
 
-  pub back_at : (stream : ℕ) → stream ≡ unnamed → (stanza : List ℕ) (now : ℕ) → IsAllowed (Back stream stanza now)
-      → (told : Told) (reply : Taken) → reply_in told ≡ ToBack reply → Steps log 0 (Back stream stanza now) (reply_in told) later
-      → (reply ≡ (back (state_of journal) unnamed stanza now).1) × IsJournalOf later (after_call journal (Back unnamed stanza now))
-  back_at stream is_unnamed stanza now allowed told reply told_is steps =
-      subst (λ n. (reply ≡ (back (state_of journal) n stanza now).1) × IsJournalOf later (after_call journal (Back n stanza now))) is_unnamed
-      (back_to stream stanza now allowed told reply told_is steps)
-
   pub closed_to : (stream : ℕ) (closing : Closing) (now : ℕ)
       → (told : Told) (reply : Taken) → reply_in told ≡ ToBack reply → Steps log 0 (BackClosed stream closing now) (reply_in told) later
       → (reply ≡ (back_closed (state_of journal) stream closing now).1) × IsJournalOf later (after_call journal (BackClosed stream closing now))
   closed_to stream closing now told reply told_is steps =
       let both = steps_to log later journal (BackClosed stream closing now) tt is (reply_in told) steps in
       (to_back reply _ (sym told_is ∙ both.0 ∙ replied ToBack (back_closed (state_of journal) stream closing now)), both.1)
-
-  pub closed_at : (stream : ℕ) → stream ≡ unnamed → (closing : Closing) (now : ℕ)
-      → (told : Told) (reply : Taken) → reply_in told ≡ ToBack reply → Steps log 0 (BackClosed stream closing now) (reply_in told) later
-      → (reply ≡ (back_closed (state_of journal) unnamed closing now).1) × IsJournalOf later (after_call journal (BackClosed unnamed closing now))
-  closed_at stream is_unnamed closing now told reply told_is steps =
-      subst (λ n. (reply ≡ (back_closed (state_of journal) n closing now).1) × IsJournalOf later (after_call journal (BackClosed n closing now))) is_unnamed
-      (closed_to stream closing now told reply told_is steps)
 
   pub tick_to : (now : ℕ) (told : Told) (reply : Ticked) → told ≡ tellings.Tick reply → Steps log 0 (Tick now) (reply_in told) later
       → (reply ≡ (tick (state_of journal) now).1) × IsJournalOf later (after_call journal (Tick now))

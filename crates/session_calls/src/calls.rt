@@ -1,6 +1,5 @@
 // Each call and its reply.
 ghost use Rattle.std.specs.Prelude.{◌≡◌, ◌<◌, IfOk, IfSome, OnErr};
-ghost use Rattle.session_core.specs.Copy.{unnamed};
 ghost use Rattle.session_core.specs.Journal.{Arrive, Back, BackClosed, Collect, IsAllowed, Journal, TakeInward, Tick, state_of};
 ghost use Rattle.session_core.specs.Machine.{arrive, back, back_closed, collect, take_inward, tick};
 ghost use Rattle.session_journal.specs.Stored.{IsJournalOf};
@@ -33,14 +32,18 @@ pub fn arrive(
     }
 }
 
-/// The server gives a stanza on the unnamed stream.
-pub fn back(session: &mut Journalled, stanza: SharedText, now: Moment) -> Result<Taken, AllocError>
-    requires { IsAllowed (Back unnamed stanza now) }
+/// The server gives a stanza on this stream.
+pub fn back(
+    session: &mut Journalled,
+    stream: StreamNo,
+    stanza: SharedText,
+    now: Moment,
+) -> Result<Taken, AllocError>
+    requires { IsAllowed (Back stream stanza now) }
     ensures reply { IfOk result (λ reply. (journal : Journal) → IsJournalOf session.old journal
-        → (reply ≡ (back (state_of journal) unnamed stanza now).1) × IsJournalOf session.new (after_call journal (Back unnamed stanza now))) }
+        → (reply ≡ (back (state_of journal) stream stanza now).1) × IsJournalOf session.new (after_call journal (Back stream stanza now))) }
     ensures err { OnErr result (session.new ≡ session.old) }
 {
-    let stream = StreamNo::unnamed();
     match session.step(
         CALLER,
         Call::Back {
@@ -54,18 +57,18 @@ pub fn back(session: &mut Journalled, stanza: SharedText, now: Moment) -> Result
     }
 }
 
-/// The server closes the unnamed stream.
+/// The server closes this stream.
 pub fn back_closed(
     session: &mut Journalled,
+    stream: StreamNo,
     closing: Closing,
     now: Moment,
 ) -> Result<Taken, AllocError>
     ensures reply { IfOk result (λ reply. (journal : Journal) → IsJournalOf session.old journal
-        → (reply ≡ (back_closed (state_of journal) unnamed closing now).1)
-        × IsJournalOf session.new (after_call journal (BackClosed unnamed closing now))) }
+        → (reply ≡ (back_closed (state_of journal) stream closing now).1)
+        × IsJournalOf session.new (after_call journal (BackClosed stream closing now))) }
     ensures err { OnErr result (session.new ≡ session.old) }
 {
-    let stream = StreamNo::unnamed();
     match session.step(
         CALLER,
         Call::BackClosed {

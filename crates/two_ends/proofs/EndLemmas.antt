@@ -2,7 +2,6 @@
 use Rattle.std.proofs.Common.{◌≡◌, ℕ, max, List, [], ◌∷◌, Option, Some, None, refl, sym, ◌∙◌, ap, subst}
 use Rattle.bosh_types.specs.declared.ending.Closing.{Closing}
 use Rattle.session_core.specs.declared.replies.Taken.{Taken}
-use Rattle.session_core.specs.Copy.{unnamed}
 use Rattle.session_core.specs.Machine.{back, back_closed}
 use Rattle.world_laws.specs.declared.seen.SeenItem.{SeenItem}
 use Rattle.world_laws.specs.declared.seen.SeenItem.TheVariants as seen
@@ -34,45 +33,45 @@ no_manager None None is end = refl
 no_manager None (Some m) is end = absurd end
 no_manager (Some other) o is end = absurd (cc)
 
-pub shut_step : (world : World) (w : PlainWorld) (manager : Manager) (closing : Closing) (taken : Taken) (told : List Told) (after : Manager) (refused : List SeenItem) (news : List SeenItem) (next : World) → IsPlain world w → world.manager ≡ Some manager
-    → ((m : PlainManager) → IsManager manager m → (taken ≡ (back_closed (session m) unnamed closing world.moment).1) × IsTurn told after (shuts m closing world.moment))
+pub shut_step : (world : World) (w : PlainWorld) (manager : Manager) (stream : ℕ) (closing : Closing) (taken : Taken) (told : List Told) (after : Manager) (refused : List SeenItem) (news : List SeenItem) (next : World) → IsPlain world w → world.manager ≡ Some manager
+    → ((m : PlainManager) → IsManager manager m → (taken ≡ (back_closed (session m) stream closing world.moment).1) × IsTurn told after (shuts m stream closing world.moment))
     → refused ≡ taken_refusals words.Shut taken
     → ((turn : Turn) → IsTurn told after turn → IsPlainStep news next (turns w refused turn))
-    → IsPlainStep news next (shuts_to w closing w.manager)
-shut_step world w manager closing taken told after refused news next is has call refusals step =
+    → IsPlainStep news next (shuts_to w stream closing w.manager)
+shut_step world w manager stream closing taken told after refused news next is has call refusals step =
     let there = has_manager world.manager manager w.manager has is.end in
     let came = call there.plain there.stands in
     let moment = is.rest.moment_is in
-    let first : refused ≡ taken_refusals words.Shut (back_closed (session there.plain) unnamed closing w.moment).1 =
-    refusals ∙ ap (taken_refusals words.Shut) (came.0 ∙ ap (λ (n : ℕ). (back_closed (session there.plain) unnamed closing n).1) moment) in
-    subst (λ o. IsPlainStep news next (shuts_to w closing o)) (sym there.is)
-    (subst (λ items. IsPlainStep news next (turns w items (shuts there.plain closing w.moment))) first
-    (step (shuts there.plain closing w.moment) (subst (λ (n : ℕ). IsTurn told after (shuts there.plain closing n)) moment came.1)))
+    let first : refused ≡ taken_refusals words.Shut (back_closed (session there.plain) stream closing w.moment).1 =
+    refusals ∙ ap (taken_refusals words.Shut) (came.0 ∙ ap (λ (n : ℕ). (back_closed (session there.plain) stream closing n).1) moment) in
+    subst (λ o. IsPlainStep news next (shuts_to w stream closing o)) (sym there.is)
+    (subst (λ items. IsPlainStep news next (turns w items (shuts there.plain stream closing w.moment))) first
+    (step (shuts there.plain stream closing w.moment) (subst (λ (n : ℕ). IsTurn told after (shuts there.plain stream closing n)) moment came.1)))
 
-pub give_step : (world : World) (w : PlainWorld) (manager : Manager) (stanza : List ℕ) (taken : Taken) (told : List Told) (after : Manager) (refused : List SeenItem) (news : List SeenItem) (next : World) → IsPlain world w → world.manager ≡ Some manager
-    → ((m : PlainManager) → IsManager manager m → (taken ≡ (back (session m) unnamed stanza world.moment).1) × IsTurn told after (gives m stanza world.moment))
+pub give_step : (world : World) (w : PlainWorld) (manager : Manager) (stream : ℕ) (stanza : List ℕ) (taken : Taken) (told : List Told) (after : Manager) (refused : List SeenItem) (news : List SeenItem) (next : World) → IsPlain world w → world.manager ≡ Some manager
+    → ((m : PlainManager) → IsManager manager m → (taken ≡ (back (session m) stream stanza world.moment).1) × IsTurn told after (gives m stream stanza world.moment))
     → refused ≡ taken_refusals words.Give taken
     → ((turn : Turn) → IsTurn told after turn → IsPlainStep news next (turns w refused turn))
-    → IsPlainStep news next (gives_to w stanza w.manager)
-give_step world w manager stanza taken told after refused news next is has call refusals step =
+    → IsPlainStep news next (gives_to w stream stanza w.manager)
+give_step world w manager stream stanza taken told after refused news next is has call refusals step =
     let there = has_manager world.manager manager w.manager has is.end in
     let came = call there.plain there.stands in
     let moment = is.rest.moment_is in
-    let first : refused ≡ taken_refusals words.Give (back (session there.plain) unnamed stanza w.moment).1 =
-    refusals ∙ ap (taken_refusals words.Give) (came.0 ∙ ap (λ (n : ℕ). (back (session there.plain) unnamed stanza n).1) moment) in
-    subst (λ o. IsPlainStep news next (gives_to w stanza o)) (sym there.is)
-    (subst (λ items. IsPlainStep news next (turns w items (gives there.plain stanza w.moment))) first
-    (step (gives there.plain stanza w.moment) (subst (λ (n : ℕ). IsTurn told after (gives there.plain stanza n)) moment came.1)))
+    let first : refused ≡ taken_refusals words.Give (back (session there.plain) stream stanza w.moment).1 =
+    refusals ∙ ap (taken_refusals words.Give) (came.0 ∙ ap (λ (n : ℕ). (back (session there.plain) stream stanza n).1) moment) in
+    subst (λ o. IsPlainStep news next (gives_to w stream stanza o)) (sym there.is)
+    (subst (λ items. IsPlainStep news next (turns w items (gives there.plain stream stanza w.moment))) first
+    (step (gives there.plain stream stanza w.moment) (subst (λ (n : ℕ). IsTurn told after (gives there.plain stream stanza n)) moment came.1)))
 
 -- where there is none this alone is seen
 pub only_step : (world : World) (w : PlainWorld) (item : SeenItem) (news : List SeenItem) → IsPlain world w → news ≡ item ∷ [] → IsPlainStep news world (only w item)
 only_step world w item news is it = record { seen_is = it; world_is = is }
 
-pub shut_none : (world : World) (w : PlainWorld) (closing : Closing) (news : List SeenItem) (next : World) → IsPlain world w → world.manager ≡ None → IsPlainStep news next (only w (seen.RefusedOver words.Shut)) → IsPlainStep news next (shuts_to w closing w.manager)
-shut_none world w closing news next is has step = subst (λ o. IsPlainStep news next (shuts_to w closing o)) (sym (no_manager world.manager w.manager has is.end)) step
+pub shut_none : (world : World) (w : PlainWorld) (stream : ℕ) (closing : Closing) (news : List SeenItem) (next : World) → IsPlain world w → world.manager ≡ None → IsPlainStep news next (only w (seen.RefusedOver words.Shut)) → IsPlainStep news next (shuts_to w stream closing w.manager)
+shut_none world w stream closing news next is has step = subst (λ o. IsPlainStep news next (shuts_to w stream closing o)) (sym (no_manager world.manager w.manager has is.end)) step
 
-pub give_none : (world : World) (w : PlainWorld) (stanza : List ℕ) (news : List SeenItem) (next : World) → IsPlain world w → world.manager ≡ None → IsPlainStep news next (only w (seen.RefusedOver words.Give)) → IsPlainStep news next (gives_to w stanza w.manager)
-give_none world w stanza news next is has step = subst (λ o. IsPlainStep news next (gives_to w stanza o)) (sym (no_manager world.manager w.manager has is.end)) step
+pub give_none : (world : World) (w : PlainWorld) (stream : ℕ) (stanza : List ℕ) (news : List SeenItem) (next : World) → IsPlain world w → world.manager ≡ None → IsPlainStep news next (only w (seen.RefusedOver words.Give)) → IsPlainStep news next (gives_to w stream stanza w.manager)
+give_none world w stream stanza news next is has step = subst (λ o. IsPlainStep news next (gives_to w stream stanza o)) (sym (no_manager world.manager w.manager has is.end)) step
 
 -- Time passes.
 

@@ -81,10 +81,10 @@ given_same j call allowed none = by (entered_by (state_of j) call) refl
         let nothing : stanzas (one (given_by s entered)) ≡ 0 = entered_is s (λ e. stanzas (one (given_by s e)) ≡ 0) (λ kind cost now. refl) call none entered is in
         omega (arith, state, given, stanzas-append s.given (one (given_by s entered)), nothing)
 
-pub closing_gives_none : (s : PlainSession) (closing : _) (now : ℕ) → stanzas (one (given_by s (Made (BackClosed unnamed closing now)))) ≡ 0
-closing_gives_none s closing now = by (back_closed s unnamed closing now).1
+pub closing_gives_none : (s : PlainSession) (stream : ℕ) (closing : _) (now : ℕ) → stanzas (one (given_by s (Made (BackClosed stream closing now)))) ≡ 0
+closing_gives_none s stream closing now = by (back_closed s stream closing now).1
   where
-    by : (r : Taken) → stanzas (one (if_done (Close unnamed closing) r)) ≡ 0
+    by : (r : Taken) → stanzas (one (if_done (Close stream closing) r)) ≡ 0
     by takings.Done = refl
     by takings.Full = refl
     by takings.Over = refl

@@ -12,7 +12,7 @@ use Rattle.bosh_client.specs.PlainClient.{PlainClient, end_of}
 use Rattle.bosh_client.specs.StandsFor.{Does, StandsFor}
 use Rattle.world_laws.specs.declared.seen.SeenItem.{SeenItem}
 use Rattle.world_laws.specs.declared.seen.SeenItem.TheVariants as seen
-use Rattle.world_laws.specs.Steps.{all_handed, ended_seen, left_of, returned, returns, returns_to}
+use Rattle.world_laws.specs.Steps.{all_handed, ended_seen, got, left_of, returned, returns, returns_to}
 use Rattle.world_laws.specs.World.{PlainWorld}
 use Rattle.world_laws.proofs.ClientLemmas.{answer_by}
 use Rattle.two_ends.specs.declared.world.World.{World}
@@ -98,20 +98,20 @@ module _ (world : World) (w : PlainWorld) (is : IsPlain world w) (rid : ℕ) (bo
 
     pub done_step : (next : World) → answered ≡ answerings.Done → (before : Option ClientEnd) → before ≡ end_of w.client
         → ((v : PlainWorld) → IsPlain later v
-        → IsPlainStep news next (record { seen = map seen.Got (left_of v.client) ++ ended_seen before (end_of v.client); after = record v { client = all_handed v.client } }))
+        → IsPlainStep news next (record { seen = map got (left_of v.client) ++ ended_seen before (end_of v.client); after = record v { client = all_handed v.client } }))
         → IsPlainStep news next (returned w rid (answer w.client rid body w.moment))
     done_step next same before before_is step =
         returned_as next answerings.Done same
-        (subst (λ b. IsPlainStep news next (record { seen = map seen.Got (left_of after) ++ ended_seen b (end_of after); after = record w { client = all_handed after } })) before_is
+        (subst (λ b. IsPlainStep news next (record { seen = map got (left_of after) ++ ended_seen b (end_of after); after = record w { client = all_handed after } })) before_is
         (step (record w { client = after }) taken_world))
 
 -- all that is left is handed out
 pub took_step : (world : World) (w : PlainWorld) → IsPlain world w → (client : Client) → StandsFor client (all_handed w.client) → (before end : Option ClientEnd) → end ≡ end_of (all_handed w.client)
-    → (none items all : List SeenItem) → none ≡ [] → items ≡ none ++ map seen.Got (left_of w.client) → all ≡ items ++ ended_seen before end
+    → (none items all : List SeenItem) → none ≡ [] → items ≡ none ++ map got (left_of w.client) → all ≡ items ++ ended_seen before end
     → (news : List SeenItem) → news ≡ all
-    → IsPlainStep news (record world { client = client }) (record { seen = map seen.Got (left_of w.client) ++ ended_seen before (end_of w.client); after = record w { client = all_handed w.client } })
-took_step world w is client stands before end end_is none items all nothing got more news it = record {
-  seen_is = it ∙ more ∙ ap (λ (l : List SeenItem). l ++ ended_seen before end) (got ∙ ap (λ (l : List SeenItem). l ++ map seen.Got (left_of w.client)) nothing)
-      ∙ ap (λ (e : Option ClientEnd). map seen.Got (left_of w.client) ++ ended_seen before e) end_is;
+    → IsPlainStep news (record world { client = client }) (record { seen = map got (left_of w.client) ++ ended_seen before (end_of w.client); after = record w { client = all_handed w.client } })
+took_step world w is client stands before end end_is none items all nothing left more news it = record {
+  seen_is = it ∙ more ∙ ap (λ (l : List SeenItem). l ++ ended_seen before end) (left ∙ ap (λ (l : List SeenItem). l ++ map got (left_of w.client)) nothing)
+      ∙ ap (λ (e : Option ClientEnd). map got (left_of w.client) ++ ended_seen before e) end_is;
   world_is = record { rest = rest_client world w is.rest client (all_handed w.client) stands refl refl; end = is.end };
 }

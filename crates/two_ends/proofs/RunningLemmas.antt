@@ -3,7 +3,7 @@ use Rattle.std.proofs.Common.{◌≡◌, List, [], ◌∷◌, ◌++◌, length, 
 use Rattle.world_laws.specs.declared.event.WorldEvent.{WorldEvent}
 use Rattle.world_laws.specs.declared.seen.SeenItem.{SeenItem}
 use Rattle.bosh_client.specs.Promises.{Begins}
-use Rattle.world_laws.specs.Promises.{KeepsBothPrefixes, ShowsAll, all_seen, was_given, was_made}
+use Rattle.world_laws.specs.Promises.{KeepsBothPrefixes, ShowsAll, all_seen, content_on, lying_on, was_given, was_made}
 use Rattle.world_laws.specs.Steps.{after, report, step}
 use Rattle.world_laws.specs.World.{PlainWorld}
 use Rattle.two_ends.specs.declared.world.World.{World}
@@ -44,6 +44,6 @@ pub run_shows : (w : PlainWorld) (events : List WorldEvent) (told : List (List S
 run_shows w events told is shows keeps =
     let all : ShowsAll (after w events) (all_seen told) = subst (λ (r : List (List SeenItem)). ShowsAll (after w events) (all_seen r)) (sym is) shows in
     record {
-      inward_is = subst (λ items. Begins items (was_made (after w events))) (sym all.inward_is) keeps.inward_is;
-      handed_is = subst (λ items. Begins items (was_given (after w events))) (sym all.handed_is) keeps.handed_is;
+      inward_is = λ stream. subst (λ items. Begins (content_on stream items) (was_made (after w events) stream)) (sym all.inward_is) (keeps.inward_is stream);
+      handed_is = λ stream. subst (λ items. Begins (lying_on stream items) (was_given (after w events) stream)) (sym all.handed_is) (keeps.handed_is stream);
     }

@@ -1,6 +1,6 @@
 -- What is seen of an event counts what it did.
 use Rattle.std.proofs.Common.{◌≡◌, ℕ, zero, suc, ◌+◌, ◌≤◌, Bool, true, false, List, [], ◌∷◌, ◌++◌, Option, Some, None, length, map, slice_get, cond, refl, sym, ◌∙◌, ap, subst, arith, length-append, if◌then◌else◌}
-use Rattle.std.specs.Prelude.{IsTrue}
+use Rattle.std.specs.Prelude.{IsTrue, nat_lt}
 use Rattle.std.specs.List.{count_by}
 use Rattle.std.proofs.lemmas.List.{length-drop}
 use Rattle.std.proofs.lemmas.List.Sums.{sum_by-append, sum_by-cons}
@@ -8,6 +8,7 @@ use Rattle.bosh_types.specs.ById.{at_id}
 use Rattle.bosh_types.specs.declared.condition.Condition.{Condition}
 use Rattle.bosh_types.specs.declared.condition.Condition.TheVariants.{BadRequest, HostUnknown, ImproperAddressing}
 use Rattle.bosh_types.specs.declared.ending.Closing.{Closing}
+use Rattle.bosh_types.specs.Limits.{most_streams}
 use Rattle.session_attrs.specs.declared.admission.Admitted.{Admitted}
 use Rattle.session_attrs.specs.declared.admission.Admitted.TheVariants as admitted
 use Rattle.session_attrs.specs.declared.request.Creation.{Creation}
@@ -26,9 +27,9 @@ use Rattle.bosh_client.specs.declared.outgoing.Outgoing.TheVariants as outgoing
 use Rattle.bosh_client.specs.declared.replies.ClientEnd.{ClientEnd}
 use Rattle.bosh_client.specs.declared.replies.Queued.{Queued}
 use Rattle.bosh_client.specs.declared.replies.Queued.TheVariants as queueings
-use Rattle.bosh_client.specs.Machine.{accept, allows_pause, answer, is_full, is_over, next_made, next_request, pause, put, restart, terminate, with_answer, with_request}
+use Rattle.bosh_client.specs.Machine.{accept, add, allows_pause, answer, close_stream, has_stream, is_full, is_over, next_made, next_request, pause, put, put_for, put_on, restart, terminate, with_answer, with_request}
 use Rattle.bosh_client.specs.Outgoing.{is_stanza}
-use Rattle.bosh_client.specs.PlainClient.{PlainClient, deliverable, end_of, lowest}
+use Rattle.bosh_client.specs.PlainClient.{PlainClient, deliverable, end_of, lowest, streams}
 use Rattle.bosh_client.specs.Promises.{Begins}
 use Rattle.bosh_client.specs.Requests.{agreed}
 use Rattle.bosh_client.specs.Runs as calls
@@ -42,7 +43,7 @@ use Rattle.world_laws.specs.declared.told.Told.{Told}
 use Rattle.world_laws.specs.declared.told.Told.TheVariants as tells
 use Rattle.world_laws.specs.Manager.{PlainManager, Turn, arrives, gives, opens, passes, refusal_to, session, shuts}
 use Rattle.world_laws.specs.Setup.{IsAllowed}
-use Rattle.world_laws.specs.Steps.{Step, admits, all_handed, at, carried, carries_to, comes, ended_seen, gives_to, host_of, left_of, numbered, opening, passes_to, queues, refusals, refuses, returned, returns, returns_to, sends, shuts_to, step, taken_refusals, turns}
+use Rattle.world_laws.specs.Steps.{Step, admits, all_handed, at, carried, carries_to, comes, ended_seen, gives_to, got, host_of, left_of, numbered, opening, passes_to, queues, refusals, refuses, returned, returns, returns_to, sends, shuts_to, step, taken_refusals, turns}
 use Rattle.world_laws.specs.Sums.{given_sum, is_inward_stanza}
 use Rattle.world_laws.specs.World.{PlainWorld}
 use Rattle.world_laws.proofs.Below.{Below}
@@ -105,13 +106,18 @@ not_refused count (tells.Gone rid ∷ told) given = refl
 not_refused count (tells.Over ending ∷ told) given = refl
 
 -- what the client hands out
-all_got : (items : List (List ℕ)) → count_by is_got (map seen.Got items) ≡ length items
+all_got : (payloads : List (ℕ × List ℕ)) → count_by is_got (map got payloads) ≡ length payloads
 all_got [] = refl
-all_got (item ∷ items) = omega (arith, sum_by-cons (λ x. cond (is_got x) 1 0) (seen.Got item) (map seen.Got items), all_got items)
+all_got ((zero, stanza) ∷ payloads) = omega (arith, sum_by-cons (λ x. cond (is_got x) 1 0) (seen.Got stanza) (map got payloads), all_got payloads)
+all_got ((suc stream, stanza) ∷ payloads) =
+    omega (arith, sum_by-cons (λ x. cond (is_got x) 1 0) (seen.GotOn (suc stream) stanza) (map got payloads), all_got payloads)
 
-none_passed : (items : List (List ℕ)) → count_by is_passed_stanza (map seen.Got items) ≡ 0
+none_passed : (payloads : List (ℕ × List ℕ)) → count_by is_passed_stanza (map got payloads) ≡ 0
 none_passed [] = refl
-none_passed (item ∷ items) = omega (arith, sum_by-cons (λ x. cond (is_passed_stanza x) 1 0) (seen.Got item) (map seen.Got items), none_passed items)
+none_passed ((zero, stanza) ∷ payloads) =
+    omega (arith, sum_by-cons (λ x. cond (is_passed_stanza x) 1 0) (seen.Got stanza) (map got payloads), none_passed payloads)
+none_passed ((suc stream, stanza) ∷ payloads) =
+    omega (arith, sum_by-cons (λ x. cond (is_passed_stanza x) 1 0) (seen.GotOn (suc stream) stanza) (map got payloads), none_passed payloads)
 
 -- nothing is passed on or handed out
 record Quiet (items : List SeenItem) : Type 0 where
@@ -127,6 +133,7 @@ queue_quiet : (word : Word) (queued : Queued) → Quiet (refusals word queued)
 queue_quiet word queueings.Done = record { passed = refl; got = refl }
 queue_quiet word queueings.Over = record { passed = refl; got = refl }
 queue_quiet word queueings.Full = record { passed = refl; got = refl }
+queue_quiet word queueings.NoStream = record { passed = refl; got = refl }
 queue_quiet word queueings.TooLong = record { passed = refl; got = refl }
 
 taken_quiet : (word : Word) (taken : Taken) → Quiet (taken_refusals word taken)
@@ -179,10 +186,30 @@ module _ (w : PlainWorld) (passed : IsPassedOn w.manager) where
       by_client (accept w.client item).0 [] put
       (omega (arith, sum_by-append (λ x. cond (is_stanza x) 1 0) w.client.accepted (item ∷ []), one)) refl (omega arith)
 
+  put_for_grows : (word : Word) (on : Option ℕ) (stanza : List ℕ) → Queues word 1 (put_for w.client on stanza)
+  put_for_grows word on stanza =
+      split (Queues word 1) (is_full w.client) _ _ (λ _. refused word queueings.Full 1 refl) (λ _. accepted word (outgoing.Stanza on stanza) 1 refl)
+
   put_grows : (stanza : List ℕ) → Queues words.Put 1 (put w.client stanza)
-  put_grows stanza =
-      split (Queues words.Put 1) (is_over w.client) _ _ (λ _. refused words.Put queueings.Over 1 refl)
-      (λ _. split (Queues words.Put 1) (is_full w.client) _ _ (λ _. refused words.Put queueings.Full 1 refl) (λ _. accepted words.Put (outgoing.Stanza stanza) 1 refl))
+  put_grows stanza = split (Queues words.Put 1) (is_over w.client) _ _ (λ _. refused words.Put queueings.Over 1 refl) (λ _. put_for_grows words.Put None stanza)
+
+  put_on_grows : (stream : ℕ) (stanza : List ℕ) → Queues words.PutOn 1 (put_on w.client stream stanza)
+  put_on_grows stream stanza =
+      split (Queues words.PutOn 1) (is_over w.client) _ _ (λ _. refused words.PutOn queueings.Over 1 refl)
+      (λ _. split (Queues words.PutOn 1) (has_stream w.client stream) _ _ (λ _. put_for_grows words.PutOn (Some stream) stanza)
+      (λ _. refused words.PutOn queueings.NoStream 1 refl))
+
+  add_grows : (to : List ℕ) → Queues words.Add 0 (add w.client to)
+  add_grows to =
+      split (Queues words.Add 0) (is_over w.client) _ _ (λ _. refused words.Add queueings.Over 0 refl)
+      (λ _. split (Queues words.Add 0) (nat_lt (streams w.client).opened most_streams) _ _ (λ _. accepted words.Add (outgoing.Add to) 0 refl)
+      (λ _. refused words.Add queueings.Full 0 refl))
+
+  stop_on_grows : (stream : ℕ) → Queues words.StopOn 0 (close_stream w.client stream)
+  stop_on_grows stream =
+      split (Queues words.StopOn 0) (is_over w.client) _ _ (λ _. refused words.StopOn queueings.Over 0 refl)
+      (λ _. split (Queues words.StopOn 0) (has_stream w.client stream) _ _ (λ _. accepted words.StopOn (outgoing.Close stream) 0 refl)
+      (λ _. refused words.StopOn queueings.NoStream 0 refl))
 
   restart_grows : Queues words.Restart 0 (restart w.client)
   restart_grows = split (Queues words.Restart 0) (is_over w.client) _ _ (λ _. refused words.Restart queueings.Over 0 refl) (λ _. accepted words.Restart outgoing.Restart 0 refl)
@@ -213,11 +240,11 @@ module _ (w : PlainWorld) (passed : IsPassedOn w.manager) where
       let c : PlainClient = with_answer w.client rid t in
       let end = ended_seen (end_of w.client) (end_of c) in
       let q = end_quiet (end_of w.client) (end_of c) in
-      let items = map seen.Got (left_of c) ++ end in
+      let items = map got (left_of c) ++ end in
       let longer = begins_long (deliverable w.client) (deliverable c) begins in
       by_client (all_handed c) items 0 (omega (arith, unless_none items))
-      (omega (arith, passed-append (map seen.Got (left_of c)) end, none_passed (left_of c), q.passed))
-      (omega (arith, got-append (map seen.Got (left_of c)) end, all_got (left_of c), q.got, length-drop c.handed_out (deliverable c), within, longer)))
+      (omega (arith, passed-append (map got (left_of c)) end, none_passed (left_of c), q.passed))
+      (omega (arith, got-append (map got (left_of c)) end, all_got (left_of c), q.got, length-drop c.handed_out (deliverable c), within, longer)))
       (below.grows w.client (calls.Answer rid body w.moment ∷ []))
 
   returns_grow : (below : Below) → w.client.handed_out ≤ length (deliverable w.client) → (number : ℕ) → GrowsHere 0 0 (returns w number)
@@ -265,22 +292,22 @@ module _ (below : Below) (w : PlainWorld) where
   passes_to_grow None is made passed = subst (λ (m : Option PlainManager). Grows w.client None w.greeting 0 0 (record { seen = []; after = record w { manager = m } })) (sym is) (none_done [] 0 quiet_none refl)
   passes_to_grow (Some m) is made passed = by_turn w (Some m) [] (passes m w.moment) 0 _ quiet_none (passes_grows below m made passed w.moment) (same_sum m _)
 
-  gives_to_grow : (stanza : List ℕ) → IsAllowed (events.Give stanza) → (o : Option PlainManager) → w.manager ≡ o → IsMadeEnd o → IsPassedOn o → Grows w.client o w.greeting 0 1 (gives_to w stanza o)
-  gives_to_grow stanza allowed None is made passed =
+  gives_to_grow : (stream : ℕ) (stanza : List ℕ) → IsAllowed (events.GiveOn stream stanza) → (o : Option PlainManager) → w.manager ≡ o → IsMadeEnd o → IsPassedOn o → Grows w.client o w.greeting 0 1 (gives_to w stream stanza o)
+  gives_to_grow stream stanza allowed None is made passed =
       subst (λ (m : Option PlainManager). Grows w.client None w.greeting 0 1 (record { seen = seen.RefusedOver words.Give ∷ []; after = record w { manager = m } })) (sym is)
       (none_done (seen.RefusedOver words.Give ∷ []) 1 (record { passed = refl; got = refl }) refl)
-  gives_to_grow stanza allowed (Some m) is made passed =
-      let taken = (back (session m) unnamed stanza w.moment).1 in
-      by_turn w (Some m) (taken_refusals words.Give taken) (gives m stanza w.moment) 1 _ (taken_quiet words.Give taken) (gives_grows below m made passed stanza w.moment allowed)
-      (ap (λ (n : ℕ). given_sum (Some m) + n) (sym (given_unless words.Give taken (length w.written) (gives m stanza w.moment).told)))
+  gives_to_grow stream stanza allowed (Some m) is made passed =
+      let taken = (back (session m) stream stanza w.moment).1 in
+      by_turn w (Some m) (taken_refusals words.Give taken) (gives m stream stanza w.moment) 1 _ (taken_quiet words.Give taken) (gives_grows below m made passed stream stanza w.moment allowed)
+      (ap (λ (n : ℕ). given_sum (Some m) + n) (sym (given_unless words.Give taken (length w.written) (gives m stream stanza w.moment).told)))
 
-  shuts_to_grow : (closing : Closing) (o : Option PlainManager) → w.manager ≡ o → IsMadeEnd o → IsPassedOn o → Grows w.client o w.greeting 0 0 (shuts_to w closing o)
-  shuts_to_grow closing None is made passed =
+  shuts_to_grow : (stream : ℕ) (closing : Closing) (o : Option PlainManager) → w.manager ≡ o → IsMadeEnd o → IsPassedOn o → Grows w.client o w.greeting 0 0 (shuts_to w stream closing o)
+  shuts_to_grow stream closing None is made passed =
       subst (λ (m : Option PlainManager). Grows w.client None w.greeting 0 0 (record { seen = seen.RefusedOver words.Shut ∷ []; after = record w { manager = m } })) (sym is)
       (none_done (seen.RefusedOver words.Shut ∷ []) 0 (record { passed = refl; got = refl }) refl)
-  shuts_to_grow closing (Some m) is made passed =
-      let taken = (back_closed (session m) unnamed closing w.moment).1 in
-      by_turn w (Some m) (taken_refusals words.Shut taken) (shuts m closing w.moment) 0 _ (taken_quiet words.Shut taken) (shuts_grows below m made passed closing w.moment) (same_sum m _)
+  shuts_to_grow stream closing (Some m) is made passed =
+      let taken = (back_closed (session m) stream closing w.moment).1 in
+      by_turn w (Some m) (taken_refusals words.Shut taken) (shuts m stream closing w.moment) 0 _ (taken_quiet words.Shut taken) (shuts_grows below m made passed stream closing w.moment) (same_sum m _)
 
   refuses_grow : (o : Option PlainManager) → w.manager ≡ o → IsPassedOn o → (rid : ℕ) (condition : Condition) → Grows w.client o w.greeting 0 0 (refuses w rid condition)
   refuses_grow o is passed rid condition =
@@ -325,11 +352,16 @@ pub step_grows : (below : Below) (w : PlainWorld) → IsTrue (serves w.host w.gr
     → (event : WorldEvent) → IsAllowed event → Grows w.client w.manager w.greeting (put_by event) (given_by event) (step w event)
 step_grows below w served made passed within (events.At moment) allowed = passes_to_grow below (at w moment) w.manager refl made passed
 step_grows below w served made passed within (events.Put stanza) allowed = put_grows w passed stanza
+step_grows below w served made passed within (events.PutOn stream stanza) allowed = put_on_grows w passed stream stanza
+step_grows below w served made passed within (events.Add to) allowed = add_grows w passed to
+step_grows below w served made passed within (events.StopOn stream) allowed = stop_on_grows w passed stream
 step_grows below w served made passed within events.Restart allowed = restart_grows w passed
 step_grows below w served made passed within (events.Pause seconds) allowed = pause_grows w passed seconds
 step_grows below w served made passed within events.Stop allowed = stop_grows w passed
 step_grows below w served made passed within events.Send allowed = send_grows w passed
 step_grows below w served made passed within (events.Carry rid) allowed = carries_to_grow below w served made passed within rid (at_id w.sent rid)
-step_grows below w served made passed within (events.Give stanza) allowed = gives_to_grow below w stanza allowed w.manager refl made passed
-step_grows below w served made passed within (events.Shut closing) allowed = shuts_to_grow below w closing w.manager refl made passed
+step_grows below w served made passed within (events.Give stanza) allowed = gives_to_grow below w unnamed stanza allowed w.manager refl made passed
+step_grows below w served made passed within (events.GiveOn stream stanza) allowed = gives_to_grow below w stream stanza allowed w.manager refl made passed
+step_grows below w served made passed within (events.Shut closing) allowed = shuts_to_grow below w unnamed closing w.manager refl made passed
+step_grows below w served made passed within (events.ShutOn stream closing) allowed = shuts_to_grow below w stream closing w.manager refl made passed
 step_grows below w served made passed within (events.Return number) allowed = returns_grow w passed below within number

@@ -10,7 +10,6 @@ use Rattle.session_core.specs.declared.replies.Arrived.{Arrived}
 use Rattle.session_core.specs.declared.replies.Arrived.TheVariants as arrivals
 use Rattle.session_core.specs.declared.replies.Ticked.{Ticked}
 use Rattle.session_core.specs.declared.replies.Ticked.TheVariants as ticks
-use Rattle.session_core.specs.Copy.{unnamed}
 use Rattle.session_core.specs.Journal.{Arrive, Back, BackClosed, Call, IsAllowed, IsJournal, IsOpening, Journal, Tick, ToBack, none as nothing_entered, state_of}
 use Rattle.session_core.specs.Machine.{arrive, back, created_parts, tick}
 use Rattle.session_core.specs.declared.opening.Opening.{Opening}
@@ -64,22 +63,22 @@ module _ (below : Below) where
         → given_sum (Some (settled (with_journal m (after_call m.journal call)))) ≡ given_sum (Some m)
     after_given call allowed same = settled_given (with_journal m (after_call m.journal call)) (call_is_made m.journal call allowed made) ∙ same
 
-    pub gives_grows : (stanza : List ℕ) (now : ℕ) → IsAllowed (Back unnamed stanza now) → TurnGrows (Some m) (given_sum (Some m) + taken_one (back (session m) unnamed stanza now).1) (gives m stanza now)
-    gives_grows stanza now allowed =
-        let call = Back unnamed stanza now in
+    pub gives_grows : (stream : ℕ) (stanza : List ℕ) (now : ℕ) → IsAllowed (Back stream stanza now) → TurnGrows (Some m) (given_sum (Some m) + taken_one (back (session m) stream stanza now).1) (gives m stream stanza now)
+    gives_grows stream stanza now allowed =
+        let call = Back stream stanza now in
         let later = with_journal m (after_call m.journal call) in
         let later_made = call_is_made m.journal call allowed made in
-        let given : stanzas (session later).given ≡ stanzas (session m).given + taken_one (back (session m) unnamed stanza now).1 =
-        ap (λ (s : PlainSession). stanzas s.given) (state_after below m.journal call made ∙ called_state ToBack (back (session m) unnamed stanza now)) ∙ back_gives (session m) unnamed stanza now allowed in
-        grows_from (Some m) (inward (session m)) _ (gives m stanza now) (passed_all m made all) (settled_made later later_made) (gives_passed below m (inward (session m)) made so_far stanza now allowed)
-        (settled_given later later_made ∙ given ∙ ap (λ (n : ℕ). n + taken_one (back (session m) unnamed stanza now).1) (sym (given_is m made)))
+        let given : stanzas (session later).given ≡ stanzas (session m).given + taken_one (back (session m) stream stanza now).1 =
+        ap (λ (s : PlainSession). stanzas s.given) (state_after below m.journal call made ∙ called_state ToBack (back (session m) stream stanza now)) ∙ back_gives (session m) stream stanza now allowed in
+        grows_from (Some m) (inward (session m)) _ (gives m stream stanza now) (passed_all m made all) (settled_made later later_made) (gives_passed below m (inward (session m)) made so_far stream stanza now allowed)
+        (settled_given later later_made ∙ given ∙ ap (λ (n : ℕ). n + taken_one (back (session m) stream stanza now).1) (sym (given_is m made)))
 
-    pub shuts_grows : (closing : Closing) (now : ℕ) → TurnGrows (Some m) (given_sum (Some m)) (shuts m closing now)
-    shuts_grows closing now =
-        let call = BackClosed unnamed closing now in
-        grows_from (Some m) (inward (session m)) _ (shuts m closing now) (passed_all m made all) (settled_made (with_journal m (after_call m.journal call)) (call_is_made m.journal call tt made))
-        (shuts_passed below m (inward (session m)) made so_far closing now)
-        (after_given call tt (given_same m.journal call tt (closing_gives_none (session m) closing now) ∙ sym (given_is m made)))
+    pub shuts_grows : (stream : ℕ) (closing : Closing) (now : ℕ) → TurnGrows (Some m) (given_sum (Some m)) (shuts m stream closing now)
+    shuts_grows stream closing now =
+        let call = BackClosed stream closing now in
+        grows_from (Some m) (inward (session m)) _ (shuts m stream closing now) (passed_all m made all) (settled_made (with_journal m (after_call m.journal call)) (call_is_made m.journal call tt made))
+        (shuts_passed below m (inward (session m)) made so_far stream closing now)
+        (after_given call tt (given_same m.journal call tt (closing_gives_none (session m) stream closing now) ∙ sym (given_is m made)))
 
     pub passes_grows : (now : ℕ) → TurnGrows (Some m) (given_sum (Some m)) (passes m now)
     passes_grows now = by (tick (session m) now).1 (time_passed below m (inward (session m)) made so_far now)

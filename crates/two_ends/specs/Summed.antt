@@ -28,10 +28,12 @@ pub record IsSums (sums : Sums) (plain : PlainSums) : Type 0 where
 -- the stanzas that an event brings to the client, and those that it brings to the manager from the server
 abbrev pub put_by : WorldEvent → ℕ
 put_by (events.Put stanza) = 1
+put_by (events.PutOn stream stanza) = 1
 put_by _ = 0
 
 abbrev pub given_by : WorldEvent → ℕ
 given_by (events.Give stanza) = 1
+given_by (events.GiveOn stream stanza) = 1
 given_by _ = 0
 
 -- the greeting is given where the session was created
@@ -47,6 +49,7 @@ given_now was_open is_open greeting given = if was_open then given else if is_op
 abbrev pub is_refusal : SeenItem → Bool
 is_refusal (seen.RefusedFull line) = true
 is_refusal (seen.RefusedOver line) = true
+is_refusal (seen.RefusedNone line) = true
 is_refusal seen.RefusedLong = true
 is_refusal _ = false
 
@@ -63,6 +66,7 @@ is_passed_stanza _ = false
 
 abbrev pub is_got : SeenItem → Bool
 is_got (seen.Got stanza) = true
+is_got (seen.GotOn stream stanza) = true
 is_got _ = false
 
 -- the sums after an event that brought so many, of which this was seen

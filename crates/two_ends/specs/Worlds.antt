@@ -11,7 +11,7 @@ use Rattle.two_ends.specs.Stands.{IsManager}
 use Rattle.two_ends.specs.Summed.{IsCounted}
 use Rattle.world_laws.specs.Manager.{PlainManager}
 use Rattle.world_laws.specs.declared.seen.SeenItem.{SeenItem}
-use Rattle.world_laws.specs.Promises.{seen_handed, seen_inward, was_given, was_made}
+use Rattle.world_laws.specs.Promises.{content_on, lying_on, seen_handed, seen_inward, was_given, was_made}
 use Rattle.world_laws.specs.Sound.{sent_of}
 use Rattle.world_laws.specs.declared.event.WorldEvent.{WorldEvent}
 use Rattle.world_laws.specs.Steps.{Step, after, report}
@@ -66,7 +66,8 @@ pub record IsRun (told : List (List SeenItem)) (world : World) (w : PlainWorld) 
   pub report_is : told ≡ report w events
   pub world_is : IsWorld world (after w events)
 
--- what was seen to be passed on is a beginning of what the client made, and what was seen to be handed out of what the server gave
+-- on each stream, what was seen to be passed on is a beginning of what the client made for it, and what was seen to be handed out of what
+-- the server gave
 pub record ShowsBothPrefixes (w : PlainWorld) (items : List SeenItem) : Type 0 where
-  pub inward_is : Begins (seen_inward items) (was_made w)
-  pub handed_is : Begins (seen_handed items) (was_given w)
+  pub inward_is : (stream : ℕ) → Begins (content_on stream (seen_inward items)) (was_made w stream)
+  pub handed_is : (stream : ℕ) → Begins (lying_on stream (seen_handed items)) (was_given w stream)

@@ -4,13 +4,12 @@ ghost use Rattle.bosh_client.specs.Machine.{answer};
 ghost use Rattle.bosh_client.specs.PlainClient.{PlainClient, end_of};
 ghost use Rattle.bosh_client.specs.StandsFor.{StandsFor};
 ghost use Rattle.two_ends.specs.Worlds.{IsPlain, IsPlainStep};
-ghost use Rattle.world_laws.specs.declared.seen.SeenItem.TheVariants.{Got};
-ghost use Rattle.world_laws.specs.Steps.{all_handed, ended_seen, left_of, returned, returns};
+ghost use Rattle.world_laws.specs.Steps.{all_handed, ended_seen, got, left_of, returned, returns};
 ghost use Rattle.world_laws.specs.World.{PlainWorld};
 
 use crate::world::{World, Written, nothing, only};
 use bosh_client::{Answered, Client, ClientEnd};
-use bosh_types::{Rid, Row, SharedText};
+use bosh_types::{Rid, Row, SharedText, StreamNo, Text};
 use std::alloc::{AllocError, Global};
 use world_laws::{Seen, SeenItem};
 
@@ -50,7 +49,7 @@ impl World {
     // All that can be handed out is handed out at once, and the first terminal answer is seen.
     fn took(&mut self, alloc: Global, before: Option<ClientEnd>) -> Result<Seen, AllocError>
         ensures { IfOk result (λ seen. (w : PlainWorld) → IsPlain self.old w
-            → IsPlainStep seen self.new (record { seen = map Got (left_of w.client) ++ ended_seen before (end_of w.client); after = record w { client = all_handed w.client } })) }
+            → IsPlainStep seen self.new (record { seen = map got (left_of w.client) ++ ended_seen before (end_of w.client); after = record w { client = all_handed w.client } })) }
     {
         let mut seen = Vec::new(alloc);
         hand_out_all(&mut self.client, &mut seen)?;
@@ -80,12 +79,23 @@ fn written_at(written: &[Written], place: usize) -> &Written
 // All payloads that are left are handed out and seen, in order.
 fn hand_out_all(client: &mut Client, seen: &mut Vec<SeenItem>) -> Result<(), AllocError>
     ensures { (c : PlainClient) → StandsFor client.old c
-        → OnOk result ((seen.new.items ≡ seen.old.items ++ map Got (left_of c)) × StandsFor client.new (all_handed c)) }
+        → OnOk result ((seen.new.items ≡ seen.old.items ++ map got (left_of c)) × StandsFor client.new (all_handed c)) }
 {
-    while let Some(stanza) = client.hand_out() {
-        seen.push(SeenItem::Got { stanza })?;
+    while let Some(payload) = client.hand_out_on() {
+        seen.push(got(payload))?;
     }
     Ok(())
+}
+
+// It is seen with its stream, but for the first one.
+fn got(payload: (StreamNo, Text)) -> SeenItem
+    ensures { result ≡ got payload }
+{
+    let (stream, stanza) = payload;
+    if stream.number() == 0 {
+        return SeenItem::Got { stanza };
+    }
+    SeenItem::GotOn { stream, stanza }
 }
 
 // The first terminal answer is seen once.

@@ -1,7 +1,8 @@
 // What happens at the client.
 ghost use Rattle.std.specs.Prelude.{◌≡◌, IfOk, IsTrue};
 ghost use Rattle.body_cutter.specs.Cutting.{is_stanza};
-ghost use Rattle.bosh_client.specs.Machine.{next_request, pause, put, restart, terminate};
+ghost use Rattle.bosh_client.specs.Machine.{add, close_stream, next_request, pause, put, put_on, restart, terminate};
+ghost use Rattle.bosh_client.specs.Runs.{IsHost};
 ghost use Rattle.two_ends.specs.Worlds.{IsPlainStep, IsPlain};
 ghost use Rattle.world_laws.specs.declared.seen.Word.TheVariants as words;
 ghost use Rattle.world_laws.specs.Steps.{queues, refusals, sends};
@@ -9,7 +10,7 @@ ghost use Rattle.world_laws.specs.World.{PlainWorld};
 
 use crate::world::{World, nothing, only};
 use bosh_client::{Next, Queued};
-use bosh_types::Text;
+use bosh_types::{StreamNo, Text};
 use std::alloc::{AllocError, Global};
 use world_laws::{Seen, SeenItem, Word};
 
@@ -21,6 +22,37 @@ impl World {
     {
         let queued = self.client.put(alloc, stanza.as_slice())?;
         refused(alloc, Word::Put, queued)
+    }
+
+    // A stanza is to be sent on this stream.
+    pub(crate) fn put_on(
+        &mut self,
+        alloc: Global,
+        stream: StreamNo,
+        stanza: Text,
+    ) -> Result<Seen, AllocError>
+        requires { IsTrue (is_stanza stanza) }
+        ensures { IfOk result (λ seen. (w : PlainWorld) → IsPlain self.old w → IsPlainStep seen self.new (queues w words.PutOn (put_on w.client stream stanza))) }
+    {
+        let queued = self.client.put_on(alloc, stream, stanza.as_slice())?;
+        refused(alloc, Word::PutOn, queued)
+    }
+
+    // A stream is to be opened to this host.
+    pub(crate) fn add(&mut self, alloc: Global, to: Text) -> Result<Seen, AllocError>
+        requires { IsHost to }
+        ensures { IfOk result (λ seen. (w : PlainWorld) → IsPlain self.old w → IsPlainStep seen self.new (queues w words.Add (add w.client to))) }
+    {
+        let queued = self.client.add(alloc, to.as_slice())?;
+        refused(alloc, Word::Add, queued)
+    }
+
+    // This stream is to be closed.
+    pub(crate) fn stop_on(&mut self, alloc: Global, stream: StreamNo) -> Result<Seen, AllocError>
+        ensures { IfOk result (λ seen. (w : PlainWorld) → IsPlain self.old w → IsPlainStep seen self.new (queues w words.StopOn (close_stream w.client stream))) }
+    {
+        let queued = self.client.close_stream(stream)?;
+        refused(alloc, Word::StopOn, queued)
     }
 
     pub(crate) fn restart(&mut self, alloc: Global) -> Result<Seen, AllocError>
@@ -68,6 +100,7 @@ fn refused(alloc: Global, line: Word, queued: Queued) -> Result<Seen, AllocError
         Queued::Done => Ok(nothing(alloc)),
         Queued::Over => only(alloc, SeenItem::RefusedOver { line }),
         Queued::Full => only(alloc, SeenItem::RefusedFull { line }),
+        Queued::NoStream => only(alloc, SeenItem::RefusedNone { line }),
         Queued::TooLong => only(alloc, SeenItem::RefusedLong),
     }
 }

@@ -2,7 +2,6 @@
 ghost use Rattle.std.specs.Prelude.{◌≡◌, ◌++◌, ◌∷◌, [], map, IfOk, OnOk, IsTrue, Some};
 ghost use Rattle.body_cutter.specs.Cutting.{is_stanza};
 ghost use Rattle.body_writer.specs.Answer.{answer_text};
-ghost use Rattle.session_core.specs.Copy.{unnamed};
 ghost use Rattle.session_core.specs.Journal.{Arrive, IsAllowed, Journal, state_of};
 ghost use Rattle.session_core.specs.Machine.{back, back_closed, created_parts};
 ghost use Rattle.session_core.specs.declared.opening.Opening.{Opening};
@@ -14,7 +13,7 @@ ghost use Rattle.world_laws.specs.Manager.{PlainManager, all_collected, arrived,
 ghost use Rattle.two_ends.specs.Stands.{IsManager, IsTurn};
 
 use crate::refusing::refusal;
-use bosh_types::{Closing, Condition, Ending, Moment, Rid, SharedText};
+use bosh_types::{Closing, Condition, Ending, Moment, Rid, SharedText, StreamNo};
 use session_attrs::Request;
 use session_calls::{arrive, back, back_closed, collect, take_inward, tick};
 use session_core::{Arrived, Collected, Taken, Ticked};
@@ -88,35 +87,37 @@ impl Manager {
         }
     }
 
-    // The server gives a stanza.
+    // The server gives a stanza on this stream.
     pub(crate) fn give(
         &mut self,
         alloc: Global,
+        stream: StreamNo,
         stanza: SharedText,
         now: Moment,
     ) -> Result<(Taken, Vec<Told>), AllocError>
         requires { IsTrue (is_stanza stanza) }
         ensures { IfOk result (λ given. (m : PlainManager) → IsManager self.old m
-            → (given.0 ≡ (back (session m) unnamed stanza now).1) × IsTurn given.1.items self.new (gives m stanza now)) }
+            → (given.0 ≡ (back (session m) stream stanza now).1) × IsTurn given.1.items self.new (gives m stream stanza now)) }
     {
         let was_over = self.is_over();
-        let taken = back(&mut self.session, stanza, now)?;
+        let taken = back(&mut self.session, stream, stanza, now)?;
         let told = self.turned(alloc, was_over, None)?;
         Ok((taken, told))
     }
 
-    // The server closes the stream.
+    // The server closes this stream.
     pub(crate) fn shut(
         &mut self,
         alloc: Global,
+        stream: StreamNo,
         closing: Closing,
         now: Moment,
     ) -> Result<(Taken, Vec<Told>), AllocError>
         ensures { IfOk result (λ given. (m : PlainManager) → IsManager self.old m
-            → (given.0 ≡ (back_closed (session m) unnamed closing now).1) × IsTurn given.1.items self.new (shuts m closing now)) }
+            → (given.0 ≡ (back_closed (session m) stream closing now).1) × IsTurn given.1.items self.new (shuts m stream closing now)) }
     {
         let was_over = self.is_over();
-        let taken = back_closed(&mut self.session, closing, now)?;
+        let taken = back_closed(&mut self.session, stream, closing, now)?;
         let told = self.turned(alloc, was_over, None)?;
         Ok((taken, told))
     }

@@ -7,7 +7,7 @@ ghost use Rattle.world_laws.specs.World.{PlainWorld};
 
 use crate::telling::see_all;
 use crate::world::{World, nothing, only};
-use bosh_types::{Closing, Moment, SharedText, Text};
+use bosh_types::{Closing, Moment, SharedText, StreamNo, Text};
 use session_core::Taken;
 use std::alloc::{AllocError, Global};
 use world_laws::{Seen, SeenItem, Word};
@@ -27,15 +27,20 @@ impl World {
         }
     }
 
-    // The server gives a stanza; before the creation came there is no session to give it to.
-    pub(crate) fn give(&mut self, alloc: Global, stanza: Text) -> Result<Seen, AllocError>
+    // The server gives a stanza on this stream; before the creation came there is no session to give it to.
+    pub(crate) fn give(
+        &mut self,
+        alloc: Global,
+        stream: StreamNo,
+        stanza: Text,
+    ) -> Result<Seen, AllocError>
         requires { IsTrue (is_stanza stanza) }
-        ensures { IfOk result (λ seen. (w : PlainWorld) → IsPlain self.old w → IsPlainStep seen self.new (gives_to w stanza w.manager)) }
+        ensures { IfOk result (λ seen. (w : PlainWorld) → IsPlain self.old w → IsPlainStep seen self.new (gives_to w stream stanza w.manager)) }
     {
         match &mut self.manager {
             Some(manager) => {
                 let stanza = SharedText::new(alloc, stanza)?;
-                let (taken, told) = manager.give(alloc, stanza, self.moment)?;
+                let (taken, told) = manager.give(alloc, stream, stanza, self.moment)?;
                 let refused = refusals(alloc, Word::Give, taken)?;
                 see_all(&mut self.written, refused, told)
             }
@@ -43,13 +48,18 @@ impl World {
         }
     }
 
-    // The server closes the stream.
-    pub(crate) fn shut(&mut self, alloc: Global, closing: Closing) -> Result<Seen, AllocError>
-        ensures { IfOk result (λ seen. (w : PlainWorld) → IsPlain self.old w → IsPlainStep seen self.new (shuts_to w closing w.manager)) }
+    // The server closes this stream.
+    pub(crate) fn shut(
+        &mut self,
+        alloc: Global,
+        stream: StreamNo,
+        closing: Closing,
+    ) -> Result<Seen, AllocError>
+        ensures { IfOk result (λ seen. (w : PlainWorld) → IsPlain self.old w → IsPlainStep seen self.new (shuts_to w stream closing w.manager)) }
     {
         match &mut self.manager {
             Some(manager) => {
-                let (taken, told) = manager.shut(alloc, closing, self.moment)?;
+                let (taken, told) = manager.shut(alloc, stream, closing, self.moment)?;
                 let refused = refusals(alloc, Word::Shut, taken)?;
                 see_all(&mut self.written, refused, told)
             }

@@ -13,7 +13,7 @@ ghost use Rattle.world_laws.specs.World.{PlainWorld, new_world};
 use crate::laws::events_are_counted;
 use crate::sums::{given_by, put_by};
 use crate::world::World;
-use bosh_types::Row;
+use bosh_types::{Row, StreamNo};
 use std::alloc::{AllocError, Global};
 use world_laws::{
     Report, Seen, WorldEvent, every_world_keeps_both_prefixes, timely_worlds_are_complete,
@@ -69,13 +69,18 @@ impl World {
         match event {
             WorldEvent::At(moment) => self.at(alloc, moment),
             WorldEvent::Put(stanza) => self.put(alloc, stanza),
+            WorldEvent::PutOn(stream, stanza) => self.put_on(alloc, stream, stanza),
+            WorldEvent::Add(to) => self.add(alloc, to),
+            WorldEvent::StopOn(stream) => self.stop_on(alloc, stream),
             WorldEvent::Restart => self.restart(alloc),
             WorldEvent::Pause(seconds) => self.pause(alloc, seconds),
             WorldEvent::Stop => self.stop(alloc),
             WorldEvent::Send => self.send(alloc),
             WorldEvent::Carry(rid) => self.carry(alloc, rid),
-            WorldEvent::Give(stanza) => self.give(alloc, stanza),
-            WorldEvent::Shut(closing) => self.shut(alloc, closing),
+            WorldEvent::Give(stanza) => self.give(alloc, StreamNo::unnamed(), stanza),
+            WorldEvent::GiveOn(stream, stanza) => self.give(alloc, stream, stanza),
+            WorldEvent::Shut(closing) => self.shut(alloc, StreamNo::unnamed(), closing),
+            WorldEvent::ShutOn(stream, closing) => self.shut(alloc, stream, closing),
             WorldEvent::Return(number) => self.answer(alloc, number),
         }
     }

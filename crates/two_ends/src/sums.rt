@@ -64,6 +64,7 @@ pub(crate) fn put_by(event: &WorldEvent) -> u64
 {
     match event {
         WorldEvent::Put(_) => 1,
+        WorldEvent::PutOn(_, _) => 1,
         _ => 0,
     }
 }
@@ -74,6 +75,7 @@ pub(crate) fn given_by(event: &WorldEvent) -> u64
 {
     match event {
         WorldEvent::Give(_) => 1,
+        WorldEvent::GiveOn(_, _) => 1,
         _ => 0,
     }
 }
@@ -102,6 +104,7 @@ fn is_refusal(item: &SeenItem) -> bool
     match item {
         SeenItem::RefusedFull { .. } => true,
         SeenItem::RefusedOver { .. } => true,
+        SeenItem::RefusedNone { .. } => true,
         SeenItem::RefusedLong => true,
         _ => false,
     }
@@ -111,7 +114,13 @@ fn is_refusal(item: &SeenItem) -> bool
 fn passed_in(seen: &[SeenItem]) -> usize
     ensures { result ≡ count_by is_passed_stanza seen.now }
 {
-    seen.iter().filter(|item| is_passed_stanza(item)).count()
+    seen.iter()
+        .filter(
+            |item|
+                ensures { result ≡ is_passed_stanza item.now.now }
+            { is_passed_stanza(item) },
+        )
+        .count()
 }
 
 fn is_passed_stanza(item: &SeenItem) -> bool
@@ -136,7 +145,13 @@ fn is_inward_stanza(item: &Inward) -> bool
 fn got_in(seen: &[SeenItem]) -> usize
     ensures { result ≡ count_by is_got seen.now }
 {
-    seen.iter().filter(|item| is_got(item)).count()
+    seen.iter()
+        .filter(
+            |item|
+                ensures { result ≡ is_got item.now.now }
+            { is_got(item) },
+        )
+        .count()
 }
 
 fn is_got(item: &SeenItem) -> bool
@@ -144,6 +159,7 @@ fn is_got(item: &SeenItem) -> bool
 {
     match item {
         SeenItem::Got { .. } => true,
+        SeenItem::GotOn { .. } => true,
         _ => false,
     }
 }

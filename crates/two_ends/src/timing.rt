@@ -81,13 +81,22 @@ fn copied(alloc: Global, event: &WorldEvent) -> Result<WorldEvent, AllocError>
     match event {
         WorldEvent::At(moment) => Ok(WorldEvent::At(*moment)),
         WorldEvent::Put(stanza) => Ok(WorldEvent::Put(stanza.copy_in(alloc)?)),
+        WorldEvent::PutOn(stream, stanza) => {
+            Ok(WorldEvent::PutOn(*stream, stanza.copy_in(alloc)?))
+        }
+        WorldEvent::Add(to) => Ok(WorldEvent::Add(to.copy_in(alloc)?)),
+        WorldEvent::StopOn(stream) => Ok(WorldEvent::StopOn(*stream)),
         WorldEvent::Restart => Ok(WorldEvent::Restart),
         WorldEvent::Pause(seconds) => Ok(WorldEvent::Pause(*seconds)),
         WorldEvent::Stop => Ok(WorldEvent::Stop),
         WorldEvent::Send => Ok(WorldEvent::Send),
         WorldEvent::Carry(rid) => Ok(WorldEvent::Carry(*rid)),
         WorldEvent::Give(stanza) => Ok(WorldEvent::Give(stanza.copy_in(alloc)?)),
+        WorldEvent::GiveOn(stream, stanza) => {
+            Ok(WorldEvent::GiveOn(*stream, stanza.copy_in(alloc)?))
+        }
         WorldEvent::Shut(closing) => Ok(WorldEvent::Shut(*closing)),
+        WorldEvent::ShutOn(stream, closing) => Ok(WorldEvent::ShutOn(*stream, *closing)),
         WorldEvent::Return(number) => Ok(WorldEvent::Return(*number)),
     }
 }

@@ -38,7 +38,7 @@ use Rattle.bosh_client.specs.declared.replies.Queued.{Queued as QueuedReply}
 use Rattle.bosh_client.specs.declared.setup.ClientSetup.{ClientSetup}
 use Rattle.bosh_client.specs.declared.told.Told.{Told}
 use Rattle.bosh_client.specs.AnswerReading.{answer_of}
-use Rattle.bosh_client.specs.Machine.{answer, next_request, pause, put, restart, terminate}
+use Rattle.bosh_client.specs.Machine.{add, answer, close_stream, next_request, pause, put, put_on, restart, terminate}
 use Rattle.bosh_client.specs.PlainClient.{Made, PlainClient, Taken, taken}
 use Rattle.bosh_client.specs.Promises.{HasForm}
 use Rattle.bosh_client.specs.Requests.{agreed, agreed_by, creation_parts}
@@ -58,7 +58,7 @@ use Rattle.world_laws.specs.World.{PlainWorld, new_world}
 use Rattle.world_laws.proofs.AckedLemmas.{all_of}
 use Rattle.world_laws.proofs.AdmittedLemmas.{admitted_here}
 use Rattle.world_laws.proofs.Below.{Below}
-use Rattle.world_laws.proofs.ClientLemmas.{Queues, pause_queues, put_queues, restart_queues, terminate_queues}
+use Rattle.world_laws.proofs.ClientLemmas.{Queues, add_queues, close_queues, pause_queues, put_on_queues, put_queues, restart_queues, terminate_queues}
 use Rattle.world_laws.proofs.CourseLemmas.{IsOnCourse, IsRested, answer_at, answered_course, later_course, made_course, next_due, same_course, settled_ending, turned_course}
 use Rattle.world_laws.proofs.EventLemmas.{at_sound, formed, gives_request, manager_of, opening_allowed, step_sound}
 use Rattle.world_laws.proofs.HandedLemmas.{answer_read}
@@ -114,15 +114,15 @@ module _ (below : Below) (setup : ClientSetup) where
     passes_to_course None is = course
     passes_to_course (Some m) is = ticked_course m is (tick (session m) w.moment).1
 
-    gives_to_course : (stanza : List ℕ) → IsAllowed (events.Give stanza) → (o : Option PlainManager) → w.manager ≡ o → IsCourse (gives_to w stanza o).after
-    gives_to_course stanza allowed None is = course
-    gives_to_course stanza allowed (Some m) is =
-        turned_course below setup w h m is (course_at (Some m) is) (Back unnamed stanza w.moment) allowed (omega arith) tt tt (is_over (session m)) (with_journal m (after_call m.journal (Back unnamed stanza w.moment))) [] refl
+    gives_to_course : (stream : ℕ) (stanza : List ℕ) → IsAllowed (events.GiveOn stream stanza) → (o : Option PlainManager) → w.manager ≡ o → IsCourse (gives_to w stream stanza o).after
+    gives_to_course stream stanza allowed None is = course
+    gives_to_course stream stanza allowed (Some m) is =
+        turned_course below setup w h m is (course_at (Some m) is) (Back stream stanza w.moment) allowed (omega arith) tt tt (is_over (session m)) (with_journal m (after_call m.journal (Back stream stanza w.moment))) [] refl
 
-    shuts_to_course : (closing : Closing) (o : Option PlainManager) → w.manager ≡ o → IsCourse (shuts_to w closing o).after
-    shuts_to_course closing None is = course
-    shuts_to_course closing (Some m) is =
-        turned_course below setup w h m is (course_at (Some m) is) (BackClosed unnamed closing w.moment) tt (omega arith) tt tt (is_over (session m)) (with_journal m (after_call m.journal (BackClosed unnamed closing w.moment))) [] refl
+    shuts_to_course : (stream : ℕ) (closing : Closing) (o : Option PlainManager) → w.manager ≡ o → IsCourse (shuts_to w stream closing o).after
+    shuts_to_course stream closing None is = course
+    shuts_to_course stream closing (Some m) is =
+        turned_course below setup w h m is (course_at (Some m) is) (BackClosed stream closing w.moment) tt (omega arith) tt tt (is_over (session m)) (with_journal m (after_call m.journal (BackClosed stream closing w.moment))) [] refl
 
     -- A copy comes.
 
@@ -155,8 +155,8 @@ module _ (below : Below) (setup : ClientSetup) where
               none_some (agreed w.client) kept.0 nothing kept.1);
         }
 
-        ends : EndsWell (Some (opens o).after)
-        ends = subst (λ (e : Option Ending). IfSome e IsLeft) (sym (settled_ending below w.sent w.moment (record { journal = record { opening = o; entries = [] }; parked = [] }) made)) tt
+        ends : EndsWell w.client (Some (opens o).after)
+        ends = subst (λ (e : Option Ending). IfSome e (IsLeft w.client (session (opens o).after))) (sym (settled_ending below w.sent w.moment (record { journal = record { opening = o; entries = [] }; parked = [] }) made)) tt
 
     comes_course : (body : List ℕ) (request : Request) → IsReadFrom body request → at_id w.sent request.rid ≡ Some body → taken w.client request.rid ≡ None
         → ((creation : Creation) → request.kind ≡ kinds.Creation creation → (children : List Span) × (request ≡ asked_by (creation_parts setup) children))
@@ -201,13 +201,18 @@ module _ (below : Below) (setup : ClientSetup) where
   step_course w h course (events.At moment) allowed timely =
       passes_to_course (at w moment) (at_sound below setup w moment allowed h) (later_course w.client w.moment (max w.moment moment) w.manager (omega arith) course) w.manager refl
   step_course w h course (events.Put stanza) allowed timely = queued_course w words.Put (put w.client stanza) (put_queues w.client stanza) course
+  step_course w h course (events.PutOn stream stanza) allowed timely = queued_course w words.PutOn (put_on w.client stream stanza) (put_on_queues w.client stream stanza) course
+  step_course w h course (events.Add to) allowed timely = queued_course w words.Add (add w.client to) (add_queues w.client to) course
+  step_course w h course (events.StopOn stream) allowed timely = queued_course w words.StopOn (close_stream w.client stream) (close_queues w.client stream) course
   step_course w h course events.Restart allowed timely = queued_course w words.Restart (restart w.client) (restart_queues w.client) course
   step_course w h course (events.Pause seconds) allowed timely = queued_course w words.Pause (pause w.client seconds) (pause_queues w.client seconds) course
   step_course w h course events.Stop allowed timely = queued_course w words.Stop (terminate w.client) (terminate_queues w.client) course
   step_course w h course events.Send allowed timely = sent_course w h course
   step_course w h course (events.Carry rid) allowed timely = carries_to_course w h course rid timely (at_id w.sent rid) refl
-  step_course w h course (events.Give stanza) allowed timely = gives_to_course w h course stanza allowed w.manager refl
-  step_course w h course (events.Shut closing) allowed timely = shuts_to_course w h course closing w.manager refl
+  step_course w h course (events.Give stanza) allowed timely = gives_to_course w h course unnamed stanza allowed w.manager refl
+  step_course w h course (events.GiveOn stream stanza) allowed timely = gives_to_course w h course stream stanza allowed w.manager refl
+  step_course w h course (events.Shut closing) allowed timely = shuts_to_course w h course unnamed closing w.manager refl
+  step_course w h course (events.ShutOn stream closing) allowed timely = shuts_to_course w h course stream closing w.manager refl
   step_course w h course (events.Return number) allowed timely = returns_course w h course number
 
   -- and many

@@ -1,12 +1,14 @@
 -- A world in which no copy came late is on its course, event by event: a session that has ended ended well, and an empty request of
 -- a client that polls was made the agreed seconds after the one before it had come.
-use Rattle.std.proofs.Common.{◌≡◌, ℕ, zero, suc, ◌+◌, ◌-◌, ◌*◌, ◌≤◌, ◌||◌, Bool, true, false, List, [], ◌∷◌, ◌++◌, length, slice_get, inl, inr, refl, sym, ◌∙◌, ap, ap₂, subst, arith}
+use Rattle.std.proofs.Common.{◌≡◌, ℕ, zero, suc, ◌+◌, ◌-◌, ◌*◌, ◌≤◌, ◌==◌, ◌||◌, Bool, true, false, cond, List, [], ◌∷◌, ◌++◌, length, slice_get, inl, inr, refl, sym, ◌∙◌, ap, ap₂, subst, arith}
 use Rattle.std.specs.Prelude.{Option, None, Some, Result, Ok, Err, All, IfSome, is_none, is_some, nat_le, nat_lt, not, ⊤}
 use Rattle.std.proofs.lemmas.Bool.{and_parts, leb-true}
+use Rattle.std.specs.List.{find}
 use Rattle.std.proofs.lemmas.List.Elements.{All-append, All-cons, All-nil}
 use Rattle.bosh_types.specs.ById.{at_id}
 use Rattle.bosh_types.specs.Rid.{greatest_rid}
 use Rattle.bosh_types.specs.declared.ending.Ending.{Ending}
+use Rattle.bosh_types.specs.declared.ending.Ending.TheVariants as endings
 use Rattle.bosh_types.specs.declared.terms.Terms.{Terms}
 use Rattle.session_core.specs.declared.opening.Opening.{Opening}
 use Rattle.session_core.specs.declared.copy.RequestCopy.{RequestCopy}
@@ -16,6 +18,8 @@ use Rattle.session_core.specs.Run.{arrival_in, arrivals_from, arrivals_of, momen
 use Rattle.session_core.specs.Processed.{copies_of}
 use Rattle.session_core.specs.State.{Issued, PlainSession, Replaced, Struck, TicketState, UsedUp, Waits, inward, is_over}
 use Rattle.session_laws.proofs.Arrivals.{moment_of}
+use Rattle.session_laws.specs.Growing.{Begins}
+use Rattle.session_laws.proofs.Grows.{begins_same}
 use Rattle.session_laws.proofs.Lists.{copies_length, get_push, get_some}
 use Rattle.session_laws.proofs.Tests.{is_or_not, neither, not_false, some_is, split, true_false}
 use Rattle.session_calls.specs.After.{after_call, all_taken, untaken, with_taken}
@@ -29,8 +33,8 @@ use Rattle.bosh_client.specs.declared.replies.Why.{Why}
 use Rattle.bosh_client.specs.declared.setup.ClientSetup.{ClientSetup}
 use Rattle.bosh_client.specs.declared.told.Told.{Told}
 use Rattle.bosh_client.specs.AnswerReading.{answer_of}
-use Rattle.bosh_client.specs.Machine.{answer, has_rested, is_due, is_due_by, is_due_of, lacks_sid, next_made, next_request, take_answer, with_answer, with_request}
-use Rattle.bosh_client.specs.PlainClient.{Made, PlainClient, Taken, has_ended, last_moment, last_taken, lowest, next_id, queued, request_at, taken}
+use Rattle.bosh_client.specs.Machine.{answer, has_rested, is_due, is_due_by, is_due_of, lacks_sid, misnames, next_made, next_request, take_answer, with_answer, with_request}
+use Rattle.bosh_client.specs.PlainClient.{Made, PlainClient, Taken, has_ended, id_of, last_moment, last_taken, lowest, next_id, queued, request_at, taken}
 use Rattle.bosh_client.specs.Requests.{agreed}
 use Rattle.bosh_client.specs.Setup.{polls}
 use Rattle.bosh_client.proofs.RequestLemmas.{none_left}
@@ -46,7 +50,7 @@ use Rattle.world_laws.proofs.EventLemmas.{manager_of}
 use Rattle.world_laws.proofs.FactLemmas.{ComesNow, HasRested, IsTimelyCall, begins_get, copies_begin, ends_well}
 use Rattle.world_laws.proofs.GrownLemmas.{Grown, all_passed_grows, call_grows, collected_grows, grown_then, state_after}
 use Rattle.world_laws.proofs.LowestLemmas.{below_lowest, lowest_next}
-use Rattle.world_laws.proofs.MadeLemmas.{IsQueued, all_queued, alone_of, empty_of, is_empty}
+use Rattle.world_laws.proofs.MadeLemmas.{IsQueued, all_queued, alone_of, empty_of, is_poll}
 use Rattle.world_laws.proofs.OnTimeLemmas.{agreed_is, every_terms, start, taken_answered}
 use Rattle.world_laws.proofs.PlaceLemmas.{all_at, id_at}
 use Rattle.world_laws.proofs.StateLemmas.{every_moment, every_sound}
@@ -65,7 +69,46 @@ RestedAt c moment (Some m) = is_over (session m) ≡ false → IsRested c moment
 pub record IsOnCourse (c : PlainClient) (moment : ℕ) (o : Option PlainManager) : Type 0 where
   pub past : last_taken c ≤ moment
   pub rested : RestedAt c moment o
-  pub ends : EndsWell o
+  pub ends : EndsWell c o
+
+-- An ending that is left goes on to be so.
+
+found_more : (p : Made → Bool) (xs ys : List Made) (x : Made) → find p xs ≡ Some x → find p (xs ++ ys) ≡ Some x
+found_more p [] ys x is = absurd (cc)
+found_more p (first ∷ xs) ys x is = by (p first) is (found_more p xs ys x)
+  where
+    by : (b : Bool) → cond b (Some first) (find p xs) ≡ Some x → (find p xs ≡ Some x → find p (xs ++ ys) ≡ Some x) → cond b (Some first) (find p (xs ++ ys)) ≡ Some x
+    by true is later = is
+    by false is later = later is
+
+abbrev Keeps : PlainClient → PlainClient → Type 0
+Keeps c d = (rid : ℕ) (request : Made) → request_at c rid ≡ Some request → request_at d rid ≡ Some request
+
+still_left : (c d : PlainClient) (s t : PlainSession) (e : Ending) → Keeps c d → Begins s.answered t.answered → IsLeft c s e → IsLeft d t e
+still_left c d s t (endings.Terminated rid) keeps begins is = tt
+still_left c d s t (endings.Stale rid lowest_kept) keeps begins is = is
+still_left c d s t (endings.Above rid last requests) keeps begins is = is
+still_left c d s t (endings.WrongKey rid) keeps begins is = is
+still_left c d s t (endings.UnknownStream rid) keeps begins is = record {
+  request = is.request;
+  stream = is.stream;
+  made = keeps rid is.request is.made;
+  names = is.names;
+  closed = ((is.closed).0, (is.closed).1, begins_get s.answered t.answered (is.closed).0 (is.closed).1 begins (is.closed).2, (is.closed).3);
+}
+still_left c d s t (endings.PauseTooLong rid pause maxpause) keeps begins is = is
+still_left c d s t (endings.Overactive rid distance) keeps begins is = is
+still_left c d s t (endings.Silent since now) keeps begins is = tt
+still_left c d s t (endings.Closed closing rid) keeps begins is = tt
+still_left c d s t (endings.JournalFull counted cost) keeps begins is = tt
+
+left_ending : (c d : PlainClient) (s t : PlainSession) (o : Option Ending) → Keeps c d → Begins s.answered t.answered → IfSome o (IsLeft c s) → IfSome o (IsLeft d t)
+left_ending c d s t None keeps begins is = tt
+left_ending c d s t (Some e) keeps begins is = still_left c d s t e keeps begins is
+
+ends_still : (c d : PlainClient) (o : Option PlainManager) → Keeps c d → EndsWell c o → EndsWell d o
+ends_still c d None keeps ends = tt
+ends_still c d (Some m) keeps ends = left_ending c d (session m) (session m) (session m).ending keeps (begins_same (session m).answered) ends
 
 -- The client.
 
@@ -76,7 +119,11 @@ pub record IsSame (c d : PlainClient) : Type 0 where
 
 -- what a course depends on
 pub same_course : (c d : PlainClient) (moment : ℕ) (o : Option PlainManager) → IsSame c d → IsOnCourse c moment o → IsOnCourse d moment o
-same_course c d moment o same course = record { past = past; rested = by o course.rested; ends = course.ends }
+same_course c d moment o same course = record {
+  past = past;
+  rested = by o course.rested;
+  ends = ends_still c d o (λ rid request is. ap (λ (l : List Made). find (λ (r : Made). id_of r == rid) l) same.requests_are ∙ is) course.ends;
+}
   where
     past : last_moment 0 d.answers ≤ moment
     past = subst (λ (l : List (ℕ × Taken)). last_moment 0 l ≤ moment) (sym same.answers_are) course.past
@@ -114,8 +161,9 @@ module _ (c : PlainClient) (rid : ℕ) (body : List ℕ) (now : ℕ) (P : PlainC
       → P (take_answer c rid body now told)
   taken_at again broken done (Err why) = broken why
   taken_at again broken done (Ok tells) =
-      split P tells.error (c, answerings.Again (lowest c) rid) _ (λ _. again)
-      (λ _. split P (lacks_sid c rid tells) (c, answerings.Broken _) _ (λ _. broken _) (λ _. done (record { body = body; tells = tells; moment = now }) refl))
+      split P (misnames c rid tells) (c, answerings.Broken _) _ (λ _. broken _)
+      (λ _. split P tells.error (c, answerings.Again (lowest c) rid) _ (λ _. again)
+      (λ _. split P (lacks_sid c rid tells) (c, answerings.Broken _) _ (λ _. broken _) (λ _. done (record { body = body; tells = tells; moment = now }) refl)))
 
   pub answer_at : P (c, answerings.Unmade) → P (c, answerings.Stale) → P (c, answerings.Again (lowest c) rid) → ((why : Why) → P (c, answerings.Broken why))
       → ((t : Taken) → t.moment ≡ now → P (with_answer c rid t, answerings.Done)) → P (answer c rid body now)
@@ -271,15 +319,18 @@ module _ (below : Below) (setup : ClientSetup) (w : PlainWorld) (h : IsSound set
       grown : Grown w.sent w.moment m.journal (after_call m.journal call)
       grown = call_grows below w.sent w.moment m.journal call allowed brings sound.made
 
-      called_ends : IfSome (state_of (after_call m.journal call)).ending IsLeft
+      abbrev v : PlainSession
+      v = state_of (after_call m.journal call)
+
+      called_ends : IfSome v.ending (IsLeft c v)
       called_ends = elim (is_or_not (is_over s)) [
         | inl over ↦ by s.ending refl over course.ends
         | inr on ↦ ends_well below setup w h m is on call allowed brings timely now_is (course.rested on).rested
       ]
         where
-          by : (o : Option Ending) → s.ending ≡ o → is_some o ≡ true → IfSome o IsLeft → IfSome (state_of (after_call m.journal call)).ending IsLeft
+          by : (o : Option Ending) → s.ending ≡ o → is_some o ≡ true → IfSome o (IsLeft c s) → IfSome v.ending (IsLeft c v)
           by None ends over left = absurd (cc)
-          by (Some e) ends over left = subst (λ (o : Option Ending). IfSome o IsLeft) (sym (grown.ending e ends)) left
+          by (Some e) ends over left = subst (λ (o : Option Ending). IfSome o (IsLeft c v)) (sym (grown.ending e ends)) (still_left c c s v e (λ rid request made. made) grown.answered left)
 
       pub turned_course : (was_over : Bool) (n : PlainManager) (answer : List ToldThing) → n.journal ≡ after_call m.journal call → IsOnCourse c w.moment (Some (turned was_over n answer).after)
       turned_course was_over n answer journal =
@@ -289,18 +340,24 @@ module _ (below : Below) (setup : ClientSetup) (w : PlainWorld) (h : IsSound set
           record {
             past = course.past;
             rested = grown_rested (settled n).journal all;
-            ends = subst (λ (o : Option Ending). IfSome o IsLeft) (sym (settled_ending below w.sent w.moment n made ∙ ap (λ (j : Journal). (state_of j).ending) journal)) called_ends;
+            ends = subst (λ (o : Option Ending). IfSome o (IsLeft c (session (settled n)))) (sym (settled_ending below w.sent w.moment n made ∙ ap (λ (j : Journal). (state_of j).ending) journal))
+                (left_ending c c v (session (settled n)) v.ending (λ rid request made. made)
+                (subst (λ (j : Journal). Begins (state_of j).answered (session (settled n)).answered) journal (settled_grown below w.sent w.moment n made).answered) called_ends);
           }
 
   -- A request is made.
 
   module _ (o : Option PlainManager) (is : w.manager ≡ o) (course : IsOnCourse c w.moment o) where
     pub made_course : is_due c w.moment ≡ true → IsOnCourse (with_request c (next_made c (agreed c))).0 w.moment o
-    made_course due = record { past = course.past; rested = by o is course.rested; ends = course.ends }
+    made_course due = record {
+      past = course.past;
+      rested = by o is course.rested;
+      ends = ends_still c (with_request c (next_made c (agreed c))).0 o (λ rid request made. found_more (λ (r : Made). id_of r == rid) c.requests (next_made c (agreed c) ∷ []) request made) course.ends;
+    }
       where
         -- the request that is made now is empty where nothing is queued
         now : (m : PlainManager) → w.manager ≡ Some m → (on : is_over (session m) ≡ false) → IsRested c w.moment (session m) → (p : Option Agreed) → agreed c ≡ p → is_due_by c p w.moment ≡ true
-            → (k : ℕ) (copy : RequestCopy) → slice_get (copies_of (session m).processed) k ≡ Some copy → suc (suc k) ≡ length c.requests → is_empty (next_made c p).parts ≡ true → polls c.setup ≡ true
+            → (k : ℕ) (copy : RequestCopy) → slice_get (copies_of (session m).processed) k ≡ Some copy → suc (suc k) ≡ length c.requests → is_poll (next_made c p).parts ≡ true → polls c.setup ≡ true
             → copy.arrived + (session m).terms.polling * 1000 ≤ w.moment
         now m there on old None agrees due k copy at place empty polling = absurd (omega (arith, ap length (none_left c.requests due), place))
         now m there on old (Some a) agrees due k copy at place empty polling =
@@ -325,14 +382,18 @@ module _ (below : Below) (setup : ClientSetup) (w : PlainWorld) (h : IsSound set
           came = (rested on).came;
           rested = λ k copy request at here empty polling. elim (get_push c.requests (next_made c (agreed c)) (suc (suc k)) request here) [
             | inl was ↦ (rested on).rested k copy request at was empty polling
-            | inr last ↦ now m there on (rested on) (agreed c) refl due k copy at last.0 (ap (λ (r : Made). is_empty r.parts) last.1 ∙ empty) polling
+            | inr last ↦ now m there on (rested on) (agreed c) refl due k copy at last.0 (ap (λ (r : Made). is_poll r.parts) last.1 ∙ empty) polling
           ];
         }
 
     -- An answer is taken.
 
     pub answered_course : (rid : ℕ) (t : Taken) → t.moment ≡ w.moment → IsOnCourse (with_answer c rid t) w.moment o
-    answered_course rid t moment = record { past = omega (arith, last); rested = by o is course.rested; ends = course.ends }
+    answered_course rid t moment = record {
+      past = omega (arith, last);
+      rested = by o is course.rested;
+      ends = ends_still c (with_answer c rid t) o (λ id request made. made) course.ends;
+    }
       where
         last : last_taken (with_answer c rid t) ≡ w.moment
         last = last_moment-push 0 c.answers (rid, t) ∙ moment

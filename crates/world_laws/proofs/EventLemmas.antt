@@ -35,7 +35,7 @@ use Rattle.bosh_client.specs.declared.replies.Queued.{Queued}
 use Rattle.bosh_client.specs.declared.setup.ClientSetup.{ClientSetup}
 use Rattle.bosh_client.specs.declared.told.Told.{Told}
 use Rattle.bosh_client.specs.AnswerReading.{answer_of}
-use Rattle.bosh_client.specs.Machine.{answer, next_made, next_request, pause, put, restart, terminate, with_answer}
+use Rattle.bosh_client.specs.Machine.{add, answer, close_stream, next_made, next_request, pause, put, put_on, restart, terminate, with_answer}
 use Rattle.bosh_client.specs.PlainClient.{Made, PlainClient, Taken, deliverable}
 use Rattle.bosh_client.specs.ReadBack.{told_of}
 use Rattle.bosh_client.specs.Promises.{HasForm, IsNamed}
@@ -55,7 +55,7 @@ use Rattle.world_laws.specs.Steps.{admits, after, at, carried, carries_to, comes
 use Rattle.world_laws.specs.World.{PlainWorld, new_world}
 use Rattle.world_laws.proofs.AdmittedLemmas.{admitted_here, read_given}
 use Rattle.world_laws.proofs.Below.{Below}
-use Rattle.world_laws.proofs.ClientLemmas.{Queues, answer_by, called_client, handed_client, next_by, pause_queues, put_queues, restart_queues, terminate_queues}
+use Rattle.world_laws.proofs.ClientLemmas.{Queues, add_queues, answer_by, called_client, close_queues, handed_client, next_by, pause_queues, put_on_queues, put_queues, restart_queues, terminate_queues}
 use Rattle.world_laws.proofs.NameLemmas.{created_bytes, error_form, error_is, is_named, tells_same, unnamed_yet}
 use Rattle.world_laws.proofs.PlaceLemmas.{all_at}
 use Rattle.world_laws.proofs.RequestLemmas.{IsOf, asked_rid, creation_is, given_read, reads_back, sent_is_of}
@@ -196,15 +196,15 @@ module _ (below : Below) (setup : ClientSetup) where
   passes_to_sound w h None is = h
   passes_to_sound w h (Some m) is = turns_sound w h [] (passes m w.moment) (passes_sound below setup w.sent w.written w.client.answers w.moment m w.moment (omega arith) (manager_of w h (Some m) is))
 
-  gives_to_sound : (w : PlainWorld) → IsSound setup w → (stanza : List ℕ) → IsAllowed (events.Give stanza) → (o : Option PlainManager) → w.manager ≡ o → IsSound setup (gives_to w stanza o).after
-  gives_to_sound w h stanza allowed None is = h
-  gives_to_sound w h stanza allowed (Some m) is =
-      turns_sound w h (taken_refusals words.Give (back (session m) unnamed stanza w.moment).1) (gives m stanza w.moment) (gives_sound below setup w.sent w.written w.client.answers w.moment m stanza w.moment (omega arith) allowed (manager_of w h (Some m) is))
+  gives_to_sound : (w : PlainWorld) → IsSound setup w → (stream : ℕ) (stanza : List ℕ) → IsAllowed (events.GiveOn stream stanza) → (o : Option PlainManager) → w.manager ≡ o → IsSound setup (gives_to w stream stanza o).after
+  gives_to_sound w h stream stanza allowed None is = h
+  gives_to_sound w h stream stanza allowed (Some m) is =
+      turns_sound w h (taken_refusals words.Give (back (session m) stream stanza w.moment).1) (gives m stream stanza w.moment) (gives_sound below setup w.sent w.written w.client.answers w.moment m stream stanza w.moment (omega arith) allowed (manager_of w h (Some m) is))
 
-  shuts_to_sound : (w : PlainWorld) → IsSound setup w → (closing : Closing) (o : Option PlainManager) → w.manager ≡ o → IsSound setup (shuts_to w closing o).after
-  shuts_to_sound w h closing None is = h
-  shuts_to_sound w h closing (Some m) is =
-      turns_sound w h (taken_refusals words.Shut (back_closed (session m) unnamed closing w.moment).1) (shuts m closing w.moment) (shuts_sound below setup w.sent w.written w.client.answers w.moment m closing w.moment (omega arith) (manager_of w h (Some m) is))
+  shuts_to_sound : (w : PlainWorld) → IsSound setup w → (stream : ℕ) (closing : Closing) (o : Option PlainManager) → w.manager ≡ o → IsSound setup (shuts_to w stream closing o).after
+  shuts_to_sound w h stream closing None is = h
+  shuts_to_sound w h stream closing (Some m) is =
+      turns_sound w h (taken_refusals words.Shut (back_closed (session m) stream closing w.moment).1) (shuts m stream closing w.moment) (shuts_sound below setup w.sent w.written w.client.answers w.moment m stream closing w.moment (omega arith) (manager_of w h (Some m) is))
 
   -- The creation opens the session.
 
@@ -306,14 +306,21 @@ module _ (below : Below) (setup : ClientSetup) where
     step_sound (events.At moment) allowed = passes_to_sound (at w moment) (at_sound w moment allowed h) w.manager refl
     step_sound (events.Put stanza) allowed =
         queue_sound w words.Put (put w.client stanza) h (called_client setup w.client (calls.Put stanza) allowed h.client) (put_queues w.client stanza)
+    step_sound (events.PutOn stream stanza) allowed =
+        queue_sound w words.PutOn (put_on w.client stream stanza) h (called_client setup w.client (calls.PutOn stream stanza) allowed h.client) (put_on_queues w.client stream stanza)
+    step_sound (events.Add to) allowed = queue_sound w words.Add (add w.client to) h (called_client setup w.client (calls.Add to) allowed h.client) (add_queues w.client to)
+    step_sound (events.StopOn stream) allowed =
+        queue_sound w words.StopOn (close_stream w.client stream) h (called_client setup w.client (calls.CloseStream stream) tt h.client) (close_queues w.client stream)
     step_sound events.Restart allowed = queue_sound w words.Restart (restart w.client) h (called_client setup w.client calls.Restart tt h.client) (restart_queues w.client)
     step_sound (events.Pause seconds) allowed =
         queue_sound w words.Pause (pause w.client seconds) h (called_client setup w.client (calls.Pause seconds) tt h.client) (pause_queues w.client seconds)
     step_sound events.Stop allowed = queue_sound w words.Stop (terminate w.client) h (called_client setup w.client calls.Terminate tt h.client) (terminate_queues w.client)
     step_sound events.Send allowed = send_sound w h
     step_sound (events.Carry rid) allowed = carries_to_sound rid (at_id w.sent rid) refl
-    step_sound (events.Give stanza) allowed = gives_to_sound w h stanza allowed w.manager refl
-    step_sound (events.Shut closing) allowed = shuts_to_sound w h closing w.manager refl
+    step_sound (events.Give stanza) allowed = gives_to_sound w h unnamed stanza allowed w.manager refl
+    step_sound (events.GiveOn stream stanza) allowed = gives_to_sound w h stream stanza allowed w.manager refl
+    step_sound (events.Shut closing) allowed = shuts_to_sound w h unnamed closing w.manager refl
+    step_sound (events.ShutOn stream closing) allowed = shuts_to_sound w h stream closing w.manager refl
     step_sound (events.Return number) allowed = returns_sound w h number
 
   -- and so do many

@@ -54,11 +54,12 @@ use Rattle.world_laws.proofs.CallLemmas.{Brings, entered_is, told_by}
 use Rattle.world_laws.proofs.GrownLemmas.{Grown, call_grows}
 use Rattle.world_laws.proofs.KeyTurns.{HaveKeys, key_fits}
 use Rattle.world_laws.proofs.LowestLemmas.{from_lowest}
-use Rattle.world_laws.proofs.MadeLemmas.{is_empty}
+use Rattle.world_laws.proofs.MadeLemmas.{is_poll}
 use Rattle.world_laws.proofs.OnTimeLemmas.{agreed_is, every_terms, journal_made, kept_in_time, lowest_near, opening_terms, sound_manager, start, taken_answered}
 use Rattle.world_laws.proofs.StateLemmas.{every_sound}
 use Rattle.world_laws.proofs.StoodLemmas.{IsLater, first_is, id_within, ids, later_arrives, later_processed, later_stands, setup_is}
 use Rattle.world_laws.proofs.TurnLemmas.{all_follow}
+use Rattle.world_laws.proofs.UnknownLemmas.{names_closed}
 
 -- the client took no answer of the copy that a call brings
 abbrev pub IsTimelyCall : PlainClient → Call → Type 0
@@ -82,7 +83,7 @@ ComesNow moment TakeInward = ⊤
 abbrev pub HasRested : PlainClient → ℕ → PlainSession → Type 0
 HasRested c moment s =
     (k : ℕ) (copy : RequestCopy) (request : Made) → slice_get (copies_of s.processed) k ≡ Some copy → slice_get c.requests (suc (suc k)) ≡ Some request
-    → is_empty request.parts ≡ true → polls c.setup ≡ true → copy.arrived + s.terms.polling * 1000 ≤ moment
+    → is_poll request.parts ≡ true → polls c.setup ≡ true → copy.arrived + s.terms.polling * 1000 ≤ moment
 
 -- What lies so far apart is not near.
 too_near : (one other far : ℕ) → abs_diff one other < far → other + far ≤ one → ⊥
@@ -211,12 +212,12 @@ module _ (below : Below) (setup : ClientSetup) (w : PlainWorld) (h : IsSound set
 
     -- An empty one.
 
-    module _ (rid : ℕ) (copy : RequestCopy) (next : rid ≡ last_of u + 1) (stands : standing_at u rid ≡ Some copy) (l : IsLater c c.setup.first k copy) (empty : copies.is_empty copy ≡ true) where
+    module _ (rid : ℕ) (copy : RequestCopy) (next : rid ≡ last_of u + 1) (stands : standing_at u rid ≡ Some copy) (l : IsLater c c.setup.first k copy) (polling_only : copies.is_poll copy ≡ true) where
       -- all before it were answered when it came
       caught : last_of u ≤ answered_of s
       caught =
           let id : ℕ = c.setup.first + k in
-          let has = (l.keeps).alone empty id (omega arith) (omega arith) in
+          let has = (l.keeps).alone polling_only id (omega arith) (omega arith) in
           omega (arith, taken_answered below setup w h m is on id has, start_too)
 
       few : length s.answered ≤ length s.processed
@@ -312,7 +313,7 @@ module _ (below : Below) (setup : ClientSetup) (w : PlainWorld) (h : IsSound set
               let polling : polls c.setup ≡ true = ap polls (setup_is below setup w h) ∙ sym (opening_terms below setup w h j grown.made opened_too).polled ∙ polled in
               let request = l.request in
               let here : slice_get c.requests (suc (suc n)) ≡ Some request = subst (λ (i : ℕ). slice_get c.requests (suc i) ≡ Some request) place l.here in
-              let rest : (y.0).arrived + s.terms.polling * 1000 ≤ w.moment = rested n y.0 request y.1 here (sym l.empty_is ∙ empty) polling in
+              let rest : (y.0).arrived + s.terms.polling * 1000 ≤ w.moment = rested n y.0 request y.1 here (sym l.poll_is ∙ polling_only) polling in
               let moment : w.moment ≤ copy.arrived = came_now entered at in
               let prior_is : ((asked_of u).prior).arrived ≡ (y.0).arrived = ap (λ (x : RequestCopy). x.arrived) last in
               let near : apart (mark_of copy) (asked_of u).prior < u.terms.polling * 1000 = ltb-true (apart (mark_of copy) (asked_of u).prior) (u.terms.polling * 1000) close in
@@ -340,13 +341,13 @@ module _ (below : Below) (setup : ClientSetup) (w : PlainWorld) (h : IsSound set
           subst (λ (v : PlainSession). Fact (tested_at s entered) entered v e) (sym u_is)
           (((below.journals m.journal (journal_made below setup w h m is on)).ends call entered e allowed at on).0 (ap (λ (v : PlainSession). v.ending) (sym u_is) ∙ ends))
 
-      active_only : (copy : RequestCopy) → IsTrue (is_overactive u.terms (asked_of u).held (mark_of copy) (asked_of u).prior) → copies.is_empty copy ≡ true
+      active_only : (copy : RequestCopy) → IsTrue (is_overactive u.terms (asked_of u).held (mark_of copy) (asked_of u).prior) → copies.is_poll copy ≡ true
       active_only copy active =
           let prior : Mark = (asked_of u).prior in
           let one = both_true (copies.is_poll copy && nat_lt (apart (mark_of copy) prior) (u.terms.polling * 1000)) (serves_nothing u.terms (asked_of u).held prior) active in
-          (both_true (copies.is_empty copy) (not (copies.names_host copy)) (both_true (copies.is_poll copy) (nat_lt (apart (mark_of copy) prior) (u.terms.polling * 1000)) one.0).0).0
+          (both_true (copies.is_poll copy) (nat_lt (apart (mark_of copy) prior) (u.terms.polling * 1000)) one.0).0
 
-      ends_by : (e : Ending) → Fact (tested_at s entered) entered u e → IsLeft e
+      ends_by : (e : Ending) → Fact (tested_at s entered) entered u e → IsLeft c u e
       ends_by (endings.Terminated rid) fact = tt
       ends_by (endings.Stale rid lowest_kept) fact =
           entered_is s (λ e. Arrives (tested_at s e) e rid (λ copy. (rid ≤ answered_of (tested_at s e)) × (kept_of (tested_at s e) rid ≡ None)) → ⊥) (λ kind cost now none. none) call
@@ -356,7 +357,8 @@ module _ (below : Below) (setup : ClientSetup) (w : PlainWorld) (h : IsSound set
           (not_above rid call allowed brings) entered at fact.0
       ends_by (endings.WrongKey rid) fact = fact.4 (has_key fact.2 (next_later rid fact.2 fact.1 fact.3))
       ends_by (endings.UnknownStream rid) fact =
-          (fact.4).1 (λ name named_so. absurd (none_some (fact.2).request.stream name ((next_later rid fact.2 fact.1 fact.3).keeps).unnamed named_so))
+          let l = next_later rid fact.2 fact.1 fact.3 in
+          names_closed below setup w h m is j grown.made opened_too arrived_too rid fact.2 (omega (arith, fact.1, start_too)) fact.0 l (fact.4).1
       ends_by (endings.PauseTooLong rid pause maxpause) fact =
           let f = fact.0 in
           not_long rid pause maxpause f.2 (next_later rid f.2 f.1 f.3) (f.4).2 (f.4).3 fact.1
@@ -368,15 +370,15 @@ module _ (below : Below) (setup : ClientSetup) (w : PlainWorld) (h : IsSound set
       ends_by (endings.JournalFull counted cost) fact = tt
 
     -- whatever the call enters
-    pub ends_well : IfSome u.ending IsLeft
+    pub ends_well : IfSome u.ending (IsLeft c u)
     ends_well = by (entered_by s call) refl
       where
-        by : (e : Option Entered) → entered_by s call ≡ e → IfSome u.ending IsLeft
+        by : (e : Option Entered) → entered_by s call ≡ e → IfSome u.ending (IsLeft c u)
         by None at =
             let same : u.ending ≡ None = ap (λ e. (state_of (with_entered m.journal e)).ending) at ∙ is_none s.ending on in
-            subst (λ (o : Option Ending). IfSome o IsLeft) (sym same) tt
+            subst (λ (o : Option Ending). IfSome o (IsLeft c u)) (sym same) tt
         by (Some entered) at = of u.ending refl
           where
-            of : (o : Option Ending) → u.ending ≡ o → IfSome o IsLeft
+            of : (o : Option Ending) → u.ending ≡ o → IfSome o (IsLeft c u)
             of None ends = tt
             of (Some e) ends = ends_by entered at e (fact_of entered at e ends)

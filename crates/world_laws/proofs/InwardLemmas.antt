@@ -1,57 +1,81 @@
--- What goes inward is a beginning of what the client made: of whatever came to the session the longest unbroken run is passed
--- on, and whatever came is a body of the client.
-use Rattle.std.proofs.Common.{◌≡◌, ℕ, zero, suc, ◌+◌, ◌<◌, ◌≤◌, ◌&&◌, ◌||◌, Bool, true, false, not, List, [], ◌∷◌, length, map, slice_get, refl, sym, ◌∙◌, ap, subst, arith}
-use Rattle.std.specs.Prelude.{None, Some, Option, All, is_some}
-use Rattle.std.specs.List.{list_any}
-use Rattle.std.specs.Option.{unwrap_or}
-use Rattle.bosh_types.specs.ById.{at_id}
+-- On each stream, what goes inward is a beginning of what the client made for it: the copies of the longest unbroken run are of its first
+-- requests.
+use Rattle.std.proofs.Common.{◌≡◌, ℕ, zero, suc, ◌+◌, ◌<◌, ◌≤◌, true, false, List, [], ◌∷◌, ◌++◌, length, slice_get, refl, sym, ◌∙◌, ap, subst, arith, append_assoc, inl, inr}
+use Rattle.std.specs.Prelude.{None, Some, Option, All}
+use Rattle.std.specs.List.{list_all, list_any}
 use Rattle.bosh_types.specs.declared.inward.Inward.{Inward}
+use Rattle.body_writer.specs.declared.request.RequestParts.{RequestParts}
+use Rattle.session_attrs.specs.declared.request.Request.{Request}
 use Rattle.session_core.specs.declared.copy.RequestCopy.{RequestCopy}
 use Rattle.session_core.specs.Copy as copies
-use Rattle.session_core.specs.Processed.{Processed, as_creation}
-use Rattle.session_core.specs.Run.{arrivals_of, run_of}
+use Rattle.session_core.specs.Processed.{as_creation, copies_of, items_of}
+use Rattle.session_core.specs.ReadBack.{asked_by}
+use Rattle.session_core.specs.Run.{run_of}
 use Rattle.session_core.specs.State.{PlainSession, inward}
-use Rattle.session_laws.specs.OneBody.{RunCarries, SendsOneBody, all_processed, carried}
-use Rattle.session_laws.specs.OneBody as bodies
-use Rattle.session_laws.specs.Streams.{AddNone}
-use Rattle.session_laws.proofs.Lists.{copies_length, get_copies, get_some, get_within}
-use Rattle.session_laws.proofs.Tests.{some_is}
+use Rattle.session_laws.proofs.Lists.{copies_length, get_some, get_within}
+use Rattle.session_laws.proofs.Tests.{some_is, true_false}
+use Rattle.stream_names.specs.PlainStreams.{begun}
+use Rattle.bosh_client.specs.declared.outgoing.Outgoing.{Outgoing}
+use Rattle.bosh_client.specs.declared.outgoing.Outgoing.TheVariants as outgoing
 use Rattle.bosh_client.specs.declared.setup.ClientSetup.{ClientSetup}
-use Rattle.bosh_client.specs.PlainClient.{Made, PlainClient, bytes_of, id_of}
+use Rattle.bosh_client.specs.Outgoing.{host_in, is_restart, is_stanza, pause_in, stanzas_in, terminates}
+use Rattle.bosh_client.specs.PlainClient.{Made, PlainClient, id_of}
 use Rattle.bosh_client.specs.Promises.{Begins, Carries, HasForm}
+use Rattle.bosh_client.specs.Requests.{creation_parts}
 use Rattle.bosh_client.specs.StandsFor.{AreFrom}
 use Rattle.world_laws.specs.Manager.{PlainManager, session}
-use Rattle.world_laws.specs.Promises.{inward_at, on_stream, was_made, went_inward}
-use Rattle.world_laws.specs.Sound.{IsSent, IsSound, IsSoundManager}
+use Rattle.world_laws.specs.Promises.{content_on, inward_at, sent_while, was_made, went_inward}
+use Rattle.world_laws.specs.Sound.{IsSound, IsSoundManager}
 use Rattle.world_laws.specs.World.{PlainWorld}
 use Rattle.world_laws.proofs.Below.{Below}
-use Rattle.world_laws.proofs.EventLemmas.{formed, manager_of}
+use Rattle.world_laws.proofs.EventLemmas.{manager_of}
 use Rattle.world_laws.proofs.NameLemmas.{opened_rid, setup_same}
-use Rattle.world_laws.proofs.PlaceLemmas.{all_at, at_place, id_at}
-use Rattle.world_laws.proofs.PrefixLemmas.{carried_begins}
-use Rattle.world_laws.proofs.RequestLemmas.{body_carries, sent_is_of}
-use Rattle.world_laws.proofs.StoodLemmas.{later_processed}
-use Rattle.world_laws.proofs.TurnLemmas.{all_follow}
+use Rattle.world_laws.proofs.PlaceLemmas.{all_at}
+use Rattle.world_laws.proofs.PrefixLemmas.{AreCopies, copies_begin_made, taken_by}
+use Rattle.world_laws.proofs.SentLemmas.{bare_creation, carried_while, sent_on}
+use Rattle.world_laws.proofs.StoodLemmas.{all_carry, copy_of, few_processed, keeping, later_processed}
 
--- of what none is, none of them is
-none_any : {X : Type 0} (p : X → Bool) (xs : List X) → ((k : ℕ) (x : X) → slice_get xs k ≡ Some x → p x ≡ false) → list_any p xs ≡ false
-none_any p [] none = refl
-none_any p (x ∷ xs) none =
-    let here : p x ≡ false = none 0 x refl in
-    let later : list_any p xs ≡ false = none_any p xs (λ k y at. none (suc k) y at) in
-    (λ i. here i || later i)
+-- A creation takes nothing of the queue.
 
--- a request that names no host adds nothing
-adds_nothing : (copy : RequestCopy) → copy.request.to ≡ None → copies.is_add copy ≡ false
-adds_nothing copy none = ap (λ (o : Option (List ℕ)). copies.is_empty copy && (is_some o && not (is_some copy.request.stream))) none ∙ and_false (copies.is_empty copy)
+none_of_stanzas : (items : List Outgoing) → list_all is_stanza items ≡ true → [] ≡ stanzas_in items → items ≡ []
+none_of_stanzas [] all none = refl
+none_of_stanzas (outgoing.Stanza on bytes ∷ items) all none = absurd (some none)
   where
-    and_false : (b : Bool) → (b && false) ≡ false
-    and_false true = refl
-    and_false false = refl
+    some : [] ≡ bytes ∷ stanzas_in items → ⊥
+    some is = cc
+none_of_stanzas (outgoing.Restart ∷ items) all none = absurd (true_false (sym all))
+none_of_stanzas (outgoing.Pause seconds ∷ items) all none = absurd (true_false (sym all))
+none_of_stanzas (outgoing.Add to ∷ items) all none = absurd (true_false (sym all))
+none_of_stanzas (outgoing.Close stream ∷ items) all none = absurd (true_false (sym all))
+none_of_stanzas (outgoing.Terminate ∷ items) all none = absurd (true_false (sym all))
 
--- each with what it carries
-abbrev carrying : Made → ℕ × List Inward
-carrying request = (id_of request, on_stream request.items)
+takes_none : (setup : ClientSetup) (request : Made) → request.parts ≡ creation_parts setup → Carries request → request.items ≡ []
+takes_none setup request parts carries = elim carries.alone [
+  | inl all ↦ none_of_stanzas request.items all.0 (sym (ap (λ (p : RequestParts). p.payloads) parts) ∙ carries.payloads)
+  | inr one ↦ absurd (by one.0
+      (sym (ap (λ (p : RequestParts). p.payloads) parts) ∙ carries.payloads ∙ ap stanzas_in one.1)
+      (sym (ap (λ (p : RequestParts). p.restart) parts) ∙ carries.restart ∙ ap (list_any is_restart) one.1)
+      (sym (ap (λ (p : RequestParts). p.pause) parts) ∙ carries.pause ∙ ap pause_in one.1)
+      (sym (ap (λ (p : RequestParts). p.to) parts) ∙ carries.to ∙ ap host_in one.1)
+      (sym (ap (λ (p : RequestParts). p.terminate) parts) ∙ carries.terminate ∙ ap (list_any terminates) one.1))
+]
+  where
+    some_payload : (bytes : List ℕ) → [] ≡ bytes ∷ [] → ⊥
+    some_payload bytes is = cc
+
+    some_pause : (seconds : ℕ) → None ≡ Some seconds → ⊥
+    some_pause seconds is = cc
+
+    some_host : (to : List ℕ) → None ≡ Some to → ⊥
+    some_host to is = cc
+
+    by : (item : Outgoing) → [] ≡ stanzas_in (item ∷ []) → false ≡ list_any is_restart (item ∷ []) → None ≡ pause_in (item ∷ []) → None ≡ host_in (item ∷ []) → false ≡ list_any terminates (item ∷ []) → ⊥
+    by (outgoing.Stanza on bytes) stanzas restart pause to ends = some_payload bytes stanzas
+    by outgoing.Restart stanzas restart pause to ends = true_false (sym restart)
+    by (outgoing.Pause seconds) stanzas restart pause to ends = some_pause seconds pause
+    by (outgoing.Add host) stanzas restart pause to ends = some_host host to
+    by (outgoing.Close stream) stanzas restart pause to ends = true_false (sym ends)
+    by outgoing.Terminate stanzas restart pause to ends = true_false (sym ends)
 
 module _ (below : Below) (setup : ClientSetup) (w : PlainWorld) (h : IsSound setup w) (m : PlainManager) (is : w.manager ≡ Some m) where
   abbrev requests : List Made
@@ -68,89 +92,77 @@ module _ (below : Below) (setup : ClientSetup) (w : PlainWorld) (h : IsSound set
       subst (λ (s : ClientSetup). AreFrom s.first requests) (setup_same below setup h.begins.client h.begins.first w.client h.client)
       (subst (λ (c : PlainClient). AreFrom c.setup.first c.requests) (sym h.client.is) (below.ids setup h.client.calls (h.begins.first).0))
 
-  -- the body of an id, and what it carries
-  pub body_of : ℕ → List ℕ
-  body_of rid = unwrap_or (at_id w.sent rid) []
-
-  items_at : ℕ → List Inward
-  items_at rid = unwrap_or (at_id (map carrying requests) rid) []
-
-  sends : SendsOneBody body_of m.journal
-  unfolding body_of
-  sends = all_follow (IsSent w.sent) (λ (copy : RequestCopy). copy.body ≡ body_of (copies.id_of copy)) (arrivals_of m.journal)
-      (λ copy sent. ap (λ (o : Option (List ℕ)). unwrap_or o []) (sym sent)) sound.arrived
-
   -- the request of each id of the run
   pub record Stands (k : ℕ) : Type 0 where
     pub request : Made
     pub here : slice_get requests k ≡ Some request
-    pub body_is : body_of (setup.first + k) ≡ bytes_of request
 
   pub stands : (k : ℕ) → k < length (run_of m.journal) → Stands k
-  unfolding body_of
   stands k within =
       let copy = get_some (run_of m.journal) k within in
-      let first = (below.journals m.journal sound.made).run_each k copy.0 copy.1 in
-      let came = (below.journals m.journal sound.made).arrived (m.journal.opening.request.rid + k) copy.0 first in
-      let sent : at_id w.sent (copies.id_of copy.0) ≡ Some (copy.0).body = all_at (IsSent w.sent) (arrivals_of m.journal) came.0 copy.0 sound.arrived came.1 in
-      let rid : copies.id_of copy.0 ≡ setup.first + k = first.0 ∙ ap (λ (n : ℕ). n + k) rid_is in
-      let there : at_id w.sent (setup.first + k) ≡ Some (copy.0).body = ap (at_id w.sent) (sym rid) ∙ sent in
-      let of = sent_is_of requests (setup.first + k) (copy.0).body (ap (λ (l : List (ℕ × List ℕ)). at_id l (setup.first + k)) (sym h.sent_is) ∙ there) in
-      let place : of.place ≡ k = omega (arith, id_at setup.first requests of.place of.request from of.here, of.id_is) in
-      record {
-        request = of.request;
-        here = subst (λ (n : ℕ). slice_get requests n ≡ Some of.request) place of.here;
-        body_is = ap (λ (o : Option (List ℕ)). unwrap_or o []) there ∙ sym of.body_is;
-      }
+      let run = (below.journals m.journal sound.made).run_each k copy.0 copy.1 in
+      let of = copy_of below setup w h m.journal sound.made sound.opened sound.arrived (m.journal.opening.request.rid + k) copy.0 run in
+      let place : of.place ≡ k = omega (arith, of.rid_is, rid_is, ap (λ (s : ClientSetup). s.first) (setup_same below setup h.begins.client h.begins.first w.client h.client)) in
+      record { request = of.request; here = subst (λ (n : ℕ). slice_get requests n ≡ Some of.request) place of.here }
 
-  carry_at : (k : ℕ) (request : Made) → slice_get requests k ≡ Some request → items_at (setup.first + k) ≡ on_stream request.items
-  unfolding items_at
-  carry_at k request at = ap (λ (o : Option (List Inward)). unwrap_or o []) (at_place carrying setup.first requests (λ n r is. id_at setup.first requests n r from is) k request at)
+  -- the client's creation and its later requests
+  pub record Requests : Type 0 where
+    pub first : Made
+    pub later : List Made
+    pub are : requests ≡ first ∷ later
 
-  carry : All Carries requests
-  carry = subst (λ (c : PlainClient). All Carries c.requests) (sym h.client.is) (below.carries setup h.client.calls)
+  pub parted : Requests
+  parted = by requests refl
+    where
+      some : 1 ≤ length requests
+      some =
+          let run = (below.journals m.journal sound.made).run_each 0 (session m).creation refl in
+          let of = copy_of below setup w h m.journal sound.made sound.opened sound.arrived (m.journal.opening.request.rid + 0) (session m).creation run in
+          omega (arith, get_within requests of.place of.request of.here)
 
-  -- no stream is added, so there is the first alone
-  adds_none : AddNone (session m).processed
-  adds_none = none_any (λ one. copies.is_add one.copy) (session m).processed (λ k one at.
-      let later = later_processed below setup w h m.journal sound.made sound.opened sound.arrived k one.copy (get_copies (session m).processed k one at) in
-      adds_nothing one.copy (later.keeps).unhosted)
+      by : (l : List Made) → requests ≡ l → Requests
+      by [] none = absurd (omega (arith, some, ap length none))
+      by (first ∷ later) is = record { first = first; later = later; are = is }
 
-  first_alone : (k : ℕ) (one : Processed) → slice_get (all_processed (session m)) k ≡ Some one → (one.running ≡ copies.unnamed ∷ []) × (one.opened ≡ None)
-  first_alone zero one at =
-      let same : as_creation (session m).creation ≡ one = some_is (as_creation (session m).creation) one at in
-      (sym (ap (λ (x : Processed). x.running) same), sym (ap (λ (x : Processed). x.opened) same))
-  first_alone (suc k) one at = (below.journals m.journal sound.made).alone adds_none k one at
+  pub first_takes : (parted.first).items ≡ []
+  first_takes =
+      let here : slice_get requests 0 ≡ Some parted.first = ap (λ (l : List Made). slice_get l 0) parted.are in
+      takes_none w.client.setup parted.first ((keeping below setup w h).first parted.first here) (all_at Carries requests 0 parted.first (all_carry below setup w.client h.client) here)
 
-  runs : RunCarries body_of items_at m.journal
-  runs k one at =
-      let alone = first_alone k one at in
-      let s = stands k (omega (arith, get_within (all_processed (session m)) k one at, copies_length (session m).processed)) in
-      let rid : setup.first + k ≡ m.journal.opening.request.rid + k = ap (λ (n : ℕ). n + k) (sym rid_is) in
-      let form = all_at (λ (request : Made). HasForm setup request.parts) requests k s.request (formed below setup w h) s.here in
-      let carries = all_at Carries requests k s.request carry s.here in
-      subst (λ (n : ℕ). bodies.Carries (body_of n) one.running one.opened (items_at n)) rid
-      (subst (λ (running : List ℕ). bodies.Carries (body_of (setup.first + k)) running one.opened (items_at (setup.first + k))) (sym alone.0)
-      (subst (λ (opened : Option ℕ). bodies.Carries (body_of (setup.first + k)) (copies.unnamed ∷ []) opened (items_at (setup.first + k))) (sym alone.1)
-      (subst (λ (items : List Inward). bodies.Carries (body_of (setup.first + k)) (copies.unnamed ∷ []) None items) (sym (carry_at k s.request s.here))
-      (subst (λ (body : List ℕ). bodies.Carries body (copies.unnamed ∷ []) None (on_stream s.request.items)) (sym s.body_is) (body_carries below setup s.request h.begins.client form carries)))))
+  -- each copy that was processed is of the request with its place
+  pub are_copies : AreCopies (copies_of (session m).processed) parted.later
+  are_copies k copy at =
+      let l = later_processed below setup w h m.journal sound.made sound.opened sound.arrived k copy at in
+      (l.request, sym (ap (λ (r : List Made). slice_get r (suc k)) parted.are) ∙ l.here, l.fits)
 
-  few : length (run_of m.journal) ≤ length requests
-  few =
-      let last = stands (length (session m).processed) (omega (arith, copies_length (session m).processed)) in
-      omega (arith, get_within requests (length (session m).processed) last.request last.here, copies_length (session m).processed)
+  -- the creation carries nothing
+  creation_bare : (stream : ℕ) → content_on stream (items_of (as_creation (session m).creation)) ≡ []
+  creation_bare stream =
+      let run = (below.journals m.journal sound.made).run_each 0 (session m).creation refl in
+      let of = copy_of below setup w h m.journal sound.made sound.opened sound.arrived (m.journal.opening.request.rid + 0) (session m).creation run in
+      let place : of.place ≡ 0 = omega (arith, of.rid_is, rid_is, ap (λ (s : ClientSetup). s.first) (setup_same below setup h.begins.client h.begins.first w.client h.client)) in
+      let first : slice_get requests 0 ≡ Some of.request = subst (λ (n : ℕ). slice_get requests n ≡ Some of.request) place of.here in
+      let parts : (of.request).parts ≡ creation_parts w.client.setup = (keeping below setup w h).first of.request first in
+      bare_creation (session m).creation stream (of.are ∙ ap (λ (p : RequestParts). p.payloads) parts)
+      (ap (λ (r : Request). r.restart) of.asked ∙ ap (λ (p : RequestParts). (asked_by p of.children).restart) parts)
 
-  pub run_begins : Begins (inward (session m)) (was_made w)
-  run_begins =
-      let run = length (run_of m.journal) in
-      let goes : inward (session m) ≡ carried items_at setup.first run =
-      (below.journals m.journal sound.made).one_body body_of items_at sends runs ∙ ap (λ (n : ℕ). carried items_at n run) rid_is in
-      let begins : Begins (carried items_at setup.first run) (was_made w) = carried_begins items_at setup.first run requests few carry_at in
-      subst (λ (l : List Inward). Begins l (was_made w)) (sym goes) begins
+  made_is : (stream : ℕ) → was_made w stream ≡ sent_while begun stream (taken_by parted.later)
+  made_is stream =
+      ap (λ (l : List Made). sent_while begun stream (taken_by l)) parted.are ∙ ap (λ (l : List Outgoing). sent_while begun stream (l ++ taken_by parted.later)) first_takes
 
-pub inward_begins : Below → (setup : ClientSetup) (w : PlainWorld) → IsSound setup w → Begins (went_inward w) (was_made w)
-inward_begins below setup w h = by w.manager refl
+  pub run_begins : (stream : ℕ) → Begins (content_on stream (inward (session m))) (was_made w stream)
+  run_begins stream =
+      let sent = sent_on m.journal sound.made stream in
+      let carried : List Inward = carried_while begun stream (copies_of (session m).processed) in
+      let xs : List Inward = content_on stream (inward (session m)) in
+      let made = copies_begin_made (copies_of (session m).processed) parted.later begun stream are_copies in (
+        sent.0 ++ made.0,
+        made_is stream ∙ made.1 ∙ ap (λ (l : List Inward). (l ++ carried) ++ made.0) (sym (creation_bare stream)) ∙ ap (λ (l : List Inward). l ++ made.0) sent.1 ∙ append_assoc xs sent.0 made.0,
+      )
+
+pub inward_begins : Below → (setup : ClientSetup) (w : PlainWorld) → IsSound setup w → (stream : ℕ) → Begins (content_on stream (went_inward w)) (was_made w stream)
+inward_begins below setup w h stream = by w.manager refl
   where
-    by : (o : Option PlainManager) → w.manager ≡ o → Begins (inward_at o) (was_made w)
-    by None is = (was_made w, refl)
-    by (Some m) is = run_begins below setup w h m is
+    by : (o : Option PlainManager) → w.manager ≡ o → Begins (content_on stream (inward_at o)) (was_made w stream)
+    by None is = (was_made w stream, refl)
+    by (Some m) is = run_begins below setup w h m is stream

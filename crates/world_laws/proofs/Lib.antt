@@ -17,6 +17,7 @@ pub mod MadeLemmas
 pub mod MomentLemmas
 pub mod NameLemmas
 pub mod OnTimeLemmas
+pub mod OpenForLemmas
 pub mod PlaceLemmas
 pub mod PrefixLemmas
 pub mod ProperLemmas
@@ -24,6 +25,7 @@ pub mod ReadingLemmas
 pub mod RequestLemmas
 pub mod Rows
 pub mod SeenLemmas
+pub mod SentLemmas
 pub mod ShapeLemmas
 pub mod ShownLemmas
 pub mod StateLemmas
@@ -32,3 +34,5 @@ pub mod TicketLemmas
 pub mod TimelyLemmas
 pub mod TurnLemmas
 pub mod UnbrokenLemmas
+pub mod UnknownLemmas
+pub mod UnnamedLemmas

@@ -1,9 +1,9 @@
 -- The definitions of a world compute: events with what is seen of them.
 use Rattle.std.proofs.Common.{◌≡◌, ℕ, ◌∷◌, [], ◌++◌, List, refl, take, true, false}
-use Rattle.std.specs.Prelude.{Some, codes, ⊤}
+use Rattle.std.specs.Prelude.{None, Some, codes, ⊤}
 use Rattle.bosh_types.specs.declared.condition.Condition.TheVariants.{HostUnknown, ImproperAddressing, ItemNotFound}
-use Rattle.bosh_types.specs.declared.ending.Closing.TheVariants.{Plain}
-use Rattle.bosh_types.specs.declared.ending.Ending.TheVariants.{Stale}
+use Rattle.bosh_types.specs.declared.ending.Closing.TheVariants.{Plain, RemoteConnectionFailed}
+use Rattle.bosh_types.specs.declared.ending.Ending.TheVariants.{Stale, Terminated}
 use Rattle.bosh_types.specs.declared.inward.Inward.TheVariants as inwards
 use Rattle.body_cutter.proofs.Rows.{cuts_compute}
 use Rattle.session_attrs.specs.Attributes.{is_named, value_of}
@@ -16,6 +16,8 @@ use Rattle.world_laws.specs.declared.event.WorldEvent.TheVariants as events
 use Rattle.world_laws.specs.declared.seen.SeenItem.{SeenItem}
 use Rattle.world_laws.specs.declared.seen.SeenItem.TheVariants as seen
 use Rattle.world_laws.specs.declared.seen.Word.TheVariants as words
+use Rattle.world_laws.specs.Promises.{content_on, lying_on, was_given, was_made, went_inward}
+use Rattle.bosh_client.specs.PlainClient.{was_handed}
 use Rattle.world_laws.specs.Steps.{after, report}
 use Rattle.world_laws.specs.Sums.{sums_of}
 use Rattle.world_laws.specs.Timely.{is_timely}
@@ -169,3 +171,46 @@ copies_in_time = refl
 creation_late : is_timely (world_of 5) (events.Send ∷ events.Carry 5 ∷ events.Return 1 ∷ events.Carry 5 ∷ []) ≡ false
 unfolding worlds_compute
 creation_late = refl
+
+-- two streams: what is put for all goes inward on each, what is put on one on that one, and what the server gives on one comes back on it;
+-- one is closed by the server, and the other by the client, which ends the session
+abbrev two : List WorldEvent
+two =
+    events.Send ∷ events.Carry 1000 ∷ events.Return 1 ∷ events.Add (codes "other.org") ∷ events.Send ∷ events.Carry 1001 ∷ events.Return 2
+    ∷ events.Put (codes "<a/>") ∷ events.PutOn 1 (codes "<b/>") ∷ events.PutOn 2 (codes "<c/>") ∷ events.Send ∷ events.Carry 1002 ∷ events.GiveOn 1 (codes "<x/>") ∷ events.Return 3
+    ∷ events.Send ∷ events.Carry 1003 ∷ events.ShutOn 1 RemoteConnectionFailed ∷ events.Return 4 ∷ events.GiveOn 1 (codes "<y/>") ∷ events.Give (codes "<z/>")
+    ∷ events.StopOn 0 ∷ events.StopOn 0 ∷ events.Send ∷ events.Carry 1004 ∷ events.Return 5 ∷ events.StopOn 1 ∷ events.Put (codes "<d/>") ∷ []
+
+two_seen :
+    report (world_of 1000) two
+    ≡ (seen.Req 1000 (body (codes " xmlns:xmpp='urn:xmpp:xbosh' rid='1000' to='example.org' xml:lang='en' wait='60' hold='1' ver='1.11' content='text/xml; charset=utf-8' ack='1' xmpp:version='1.0'/>")) ∷ [])
+    ∷ (seen.Ans 1 1000 (body (codes " xmlns:xmpp='urn:xmpp:xbosh' xmlns:stream='http://etherx.jabber.org/streams' sid='s1' wait='60' requests='2' inactivity='30' polling='5' maxpause='120' hold='1' ver='1.11' from='example.org' stream='t0' ack='1000' xmpp:version='1.0' xmpp:restartlogic='true'><stream:features/></body>")) ∷ [])
+    ∷ (seen.Got (codes "<stream:features/>") ∷ []) ∷ []
+    ∷ (seen.Req 1001 (body (codes " rid='1001' sid='s1' to='other.org'/>")) ∷ [])
+    ∷ (seen.In (inwards.Open 1 (codes "other.org")) ∷ seen.Ans 2 1001 (body (codes " stream='t1'/>")) ∷ []) ∷ []
+    ∷ [] ∷ [] ∷ (seen.RefusedNone words.PutOn ∷ [])
+    ∷ (seen.Req 1002 (body (codes " rid='1002' sid='s1'><a/></body>")) ∷ [])
+    ∷ (seen.In (inwards.Item 0 (codes "<a/>")) ∷ seen.In (inwards.Item 1 (codes "<a/>")) ∷ [])
+    ∷ (seen.Ans 3 1002 (body (codes " xmlns:stream='http://etherx.jabber.org/streams' stream='t1'><x/></body>")) ∷ [])
+    ∷ (seen.GotOn 1 (codes "<x/>") ∷ [])
+    ∷ (seen.Req 1003 (body (codes " rid='1003' sid='s1' stream='t1'><b/></body>")) ∷ [])
+    ∷ (seen.In (inwards.Item 1 (codes "<b/>")) ∷ [])
+    ∷ (seen.Ans 4 1003 (body (codes " type='terminate' condition='remote-connection-failed' stream='t1'/>")) ∷ []) ∷ []
+    ∷ (seen.RefusedOver words.Give ∷ []) ∷ []
+    ∷ [] ∷ (seen.RefusedNone words.StopOn ∷ [])
+    ∷ (seen.Req 1004 (body (codes " rid='1004' sid='s1' stream='t0' type='terminate'/>")) ∷ [])
+    ∷ (seen.In (inwards.Close 0) ∷ seen.Ans 5 1004 (body (codes " type='terminate'/>")) ∷ seen.Over (Terminated 1004) ∷ [])
+    ∷ (seen.Ended None ∷ []) ∷ (seen.RefusedOver words.StopOn ∷ []) ∷ (seen.RefusedOver words.Put ∷ []) ∷ []
+unfolding worlds_compute
+two_seen = refl
+
+-- by stream: what the client made, what went inward of that, what the server gave, and what was handed out of that
+two_streams :
+    (was_made (after (world_of 1000) two) 1 ≡ inwards.Item 1 (codes "<a/>") ∷ inwards.Item 1 (codes "<b/>") ∷ [])
+    × (content_on 1 (went_inward (after (world_of 1000) two)) ≡ inwards.Item 1 (codes "<a/>") ∷ inwards.Item 1 (codes "<b/>") ∷ [])
+    × (was_made (after (world_of 1000) two) 0 ≡ inwards.Item 0 (codes "<a/>") ∷ [])
+    × (was_given (after (world_of 1000) two) 1 ≡ codes "<x/>" ∷ [])
+    × (lying_on 1 (was_handed (after (world_of 1000) two).client) ≡ codes "<x/>" ∷ [])
+    × (lying_on 0 (was_handed (after (world_of 1000) two).client) ≡ codes "<stream:features/>" ∷ [])
+unfolding worlds_compute
+two_streams = (refl, refl, refl, refl, refl, refl)

@@ -13,7 +13,6 @@ use Rattle.session_core.specs.declared.replies.Collected.{Collected}
 use Rattle.session_core.specs.declared.replies.Collected.TheVariants as collections
 use Rattle.session_core.specs.declared.replies.Ticked.{Ticked}
 use Rattle.session_core.specs.declared.replies.Ticked.TheVariants as ticks
-use Rattle.session_core.specs.Copy.{unnamed}
 use Rattle.session_core.specs.Journal.{Arrive, Back, BackClosed, Call, Collect, Entered, Entry, IsAllowed, IsJournal, Journal, Made, TakeInward, Tick, entered_by, state_of}
 use Rattle.session_core.specs.Machine.{arrive, collect, collected_by, collected_bytes, collected_from, passed_on, bytes_for, tick}
 use Rattle.session_core.specs.Passed.{passes}
@@ -234,14 +233,14 @@ module _ (below : Below) (m : PlainManager) (items : List Inward) (made : IsJour
   made_one : (call : Call) → IsAllowed call → IsJournal (after_call m.journal call)
   made_one call allowed = call_made below [] 0 m.journal call allowed made
 
-  pub gives_passed : (stanza : List ℕ) (now : ℕ) → IsAllowed (Back unnamed stanza now) → IsPassedTurn items (gives m stanza now)
-  gives_passed stanza now allowed =
-      let call = Back unnamed stanza now in
+  pub gives_passed : (stream : ℕ) (stanza : List ℕ) (now : ℕ) → IsAllowed (Back stream stanza now) → IsPassedTurn items (gives m stream stanza now)
+  gives_passed stream stanza now allowed =
+      let call = Back stream stanza now in
       turned_passed below (is_over (session m)) (with_journal m (after_call m.journal call)) [] items refl (made_one call allowed) (after_one call allowed refl)
 
-  pub shuts_passed : (closing : Closing) (now : ℕ) → IsPassedTurn items (shuts m closing now)
-  shuts_passed closing now =
-      let call = BackClosed unnamed closing now in
+  pub shuts_passed : (stream : ℕ) (closing : Closing) (now : ℕ) → IsPassedTurn items (shuts m stream closing now)
+  shuts_passed stream closing now =
+      let call = BackClosed stream closing now in
       turned_passed below (is_over (session m)) (with_journal m (after_call m.journal call)) [] items refl (made_one call tt) (after_one call tt refl)
 
   ticked_passed : (now : ℕ) (reply : Ticked) → IsPassedTurn items (ticked m (with_journal m (after_call m.journal (Tick now))) reply)

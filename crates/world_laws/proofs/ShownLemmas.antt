@@ -28,7 +28,7 @@ use Rattle.bosh_client.specs.declared.replies.ClientEnd.{ClientEnd}
 use Rattle.bosh_client.specs.declared.replies.Queued.{Queued}
 use Rattle.bosh_client.specs.declared.replies.Queued.TheVariants as queueings
 use Rattle.bosh_client.specs.declared.setup.ClientSetup.{ClientSetup}
-use Rattle.bosh_client.specs.Machine.{answer, next_made, next_request, pause, put, restart, terminate, with_answer, with_request}
+use Rattle.bosh_client.specs.Machine.{add, answer, close_stream, next_made, next_request, pause, put, put_on, restart, terminate, with_answer, with_request}
 use Rattle.bosh_client.specs.PlainClient.{PlainClient, bytes_of, deliverable, end_of, id_of, lowest, was_handed}
 use Rattle.bosh_client.specs.Promises.{Begins}
 use Rattle.bosh_client.specs.Requests.{agreed}
@@ -44,10 +44,10 @@ use Rattle.world_laws.specs.Manager.{PlainManager, Turn, arrives, gives, opens, 
 use Rattle.world_laws.specs.Promises.{ShowsAll, handed_in, inward_at, passed_in, seen_handed, seen_inward}
 use Rattle.world_laws.specs.Setup.{IsAllowed}
 use Rattle.world_laws.specs.Sound.{IsSound, IsSoundManager}
-use Rattle.world_laws.specs.Steps.{Step, admits, after, all_handed, at, carried, carries_to, comes, ended_seen, gives_to, host_of, left_of, numbered, opening, passes_to, queues, refusals, refuses, report, returned, returns, returns_to, sends, shuts_to, step, taken_refusals}
+use Rattle.world_laws.specs.Steps.{Step, admits, after, all_handed, at, carried, carries_to, comes, ended_seen, gives_to, got, host_of, left_of, numbered, opening, passes_to, queues, refusals, refuses, report, returned, returns, returns_to, sends, shuts_to, step, taken_refusals}
 use Rattle.world_laws.specs.World.{PlainWorld}
 use Rattle.world_laws.proofs.Below.{Below}
-use Rattle.world_laws.proofs.ClientLemmas.{Queues, answer_by, next_by, pause_queues, put_queues, restart_queues, terminate_queues}
+use Rattle.world_laws.proofs.ClientLemmas.{Queues, add_queues, answer_by, close_queues, next_by, pause_queues, put_on_queues, put_queues, restart_queues, terminate_queues}
 use Rattle.world_laws.proofs.EventLemmas.{at_sound, handed_within, manager_of, opening_allowed, step_sound}
 use Rattle.world_laws.proofs.RequestLemmas.{given_read}
 use Rattle.world_laws.proofs.SeenLemmas.{AllPassed, IsPassedTurn, arrives_passed, gives_passed, numbered_handed, numbered_inward, passed_told, picked-append, shuts_passed, time_passed, turned_passed}
@@ -71,7 +71,7 @@ record Quiet (items : List SeenItem) : Type 0 where
   inward : seen_inward items ≡ []
 
 more_handed : (items more : List SeenItem) → Quiet more → seen_handed (items ++ more) ≡ seen_handed items
-more_handed items more q = picked-append handed_in items more ∙ ap (λ (l : List (List ℕ)). seen_handed items ++ l) q.handed ∙ append-nil (seen_handed items)
+more_handed items more q = picked-append handed_in items more ∙ ap (λ (l : List (ℕ × List ℕ)). seen_handed items ++ l) q.handed ∙ append-nil (seen_handed items)
 
 more_inward : (items more : List SeenItem) → Quiet more → seen_inward (items ++ more) ≡ seen_inward items
 more_inward items more q = picked-append passed_in items more ∙ ap (λ (l : List Inward). seen_inward items ++ l) q.inward ∙ append-nil (seen_inward items)
@@ -90,6 +90,7 @@ refused : (word : Word) (queued : Queued) → Quiet (refusals word queued)
 refused word queueings.Done = record { handed = refl; inward = refl }
 refused word queueings.Over = record { handed = refl; inward = refl }
 refused word queueings.Full = record { handed = refl; inward = refl }
+refused word queueings.NoStream = record { handed = refl; inward = refl }
 refused word queueings.TooLong = record { handed = refl; inward = refl }
 
 not_taken : (word : Word) (taken : Taken) → Quiet (taken_refusals word taken)
@@ -102,13 +103,15 @@ end_quiet (Some b) end = record { handed = refl; inward = refl }
 end_quiet None None = record { handed = refl; inward = refl }
 end_quiet None (Some e) = record { handed = refl; inward = refl }
 
-all_got : (items : List (List ℕ)) → seen_handed (map seen.Got items) ≡ items
+all_got : (items : List (ℕ × List ℕ)) → seen_handed (map got items) ≡ items
 all_got [] = refl
-all_got (item ∷ items) = ap (λ (l : List (List ℕ)). item ∷ l) (all_got items)
+all_got ((zero, stanza) ∷ items) = ap (λ (l : List (ℕ × List ℕ)). (0, stanza) ∷ l) (all_got items)
+all_got ((suc stream, stanza) ∷ items) = ap (λ (l : List (ℕ × List ℕ)). (suc stream, stanza) ∷ l) (all_got items)
 
-none_in : (items : List (List ℕ)) → seen_inward (map seen.Got items) ≡ []
+none_in : (items : List (ℕ × List ℕ)) → seen_inward (map got items) ≡ []
 none_in [] = refl
-none_in (item ∷ items) = none_in items
+none_in ((zero, stanza) ∷ items) = none_in items
+none_in ((suc stream, stanza) ∷ items) = none_in items
 
 -- what a manager tells is seen
 turn_shown : (c : PlainClient) (o : Option PlainManager) (items first : List SeenItem) (count : ℕ) (turn : Turn) → Quiet first → Shown c o items → IsPassedTurn (seen_inward items) turn
@@ -116,7 +119,7 @@ turn_shown : (c : PlainClient) (o : Option PlainManager) (items first : List See
 turn_shown c o items first count turn q h passed = record {
   handed =
       picked-append handed_in items (first ++ numbered count turn.told)
-      ∙ ap (λ (l : List (List ℕ)). seen_handed items ++ l) (picked-append handed_in first (numbered count turn.told) ∙ ap₂ (λ (x y : List (List ℕ)). x ++ y) q.handed (numbered_handed count turn.told))
+      ∙ ap (λ (l : List (ℕ × List ℕ)). seen_handed items ++ l) (picked-append handed_in first (numbered count turn.told) ∙ ap₂ (λ (x y : List (ℕ × List ℕ)). x ++ y) q.handed (numbered_handed count turn.told))
       ∙ append-nil (seen_handed items) ∙ h.handed;
   inward = subst (AllPassed (session turn.after)) (sym all) passed;
 }
@@ -132,7 +135,7 @@ module _ (below : Below) (setup : ClientSetup) where
   -- what was handed out stays the same
   handed_same : (c d : PlainClient) → c.handed_out ≤ length (deliverable c) → d.handed_out ≡ c.handed_out → Begins (deliverable c) (deliverable d) → was_handed d ≡ was_handed c
   handed_same c d within count begins =
-      ap₂ (λ (n : ℕ) (l : List (List ℕ)). take n l) count begins.1 ∙ take-append-le c.handed_out (deliverable c) begins.0 within
+      ap₂ (λ (n : ℕ) (l : List (ℕ × List ℕ)). take n l) count begins.1 ∙ take-append-le c.handed_out (deliverable c) begins.0 within
 
   module _ (w : PlainWorld) (h : IsSound setup w) (items : List SeenItem) (shown : Shown w.client w.manager items) where
     within : w.client.handed_out ≤ length (deliverable w.client)
@@ -161,24 +164,24 @@ module _ (below : Below) (setup : ClientSetup) where
     all_out : (c : PlainClient) → was_handed c ++ left_of c ≡ was_handed (all_handed c)
     all_out c = take-append-drop c.handed_out (deliverable c) ∙ sym (take_all (deliverable c))
       where
-        take_all : (xs : List (List ℕ)) → take (length xs) xs ≡ xs
+        take_all : (xs : List (ℕ × List ℕ)) → take (length xs) xs ≡ xs
         take_all [] = refl
-        take_all (x ∷ xs) = ap (λ (l : List (List ℕ)). x ∷ l) (take_all xs)
+        take_all (x ∷ xs) = ap (λ (l : List (ℕ × List ℕ)). x ∷ l) (take_all xs)
 
-    got_shown : (c : PlainClient) (end : List SeenItem) → Quiet end → was_handed c ≡ was_handed w.client → Shown (all_handed c) w.manager (items ++ (map seen.Got (left_of c) ++ end))
+    got_shown : (c : PlainClient) (end : List SeenItem) → Quiet end → was_handed c ≡ was_handed w.client → Shown (all_handed c) w.manager (items ++ (map got (left_of c) ++ end))
     got_shown c end q same = record {
       handed =
-          picked-append handed_in items (map seen.Got (left_of c) ++ end)
-          ∙ ap₂ (λ (x y : List (List ℕ)). x ++ y) (shown.handed ∙ sym same)
-          (picked-append handed_in (map seen.Got (left_of c)) end ∙ ap₂ (λ (x y : List (List ℕ)). x ++ y) (all_got (left_of c)) q.handed ∙ append-nil (left_of c))
+          picked-append handed_in items (map got (left_of c) ++ end)
+          ∙ ap₂ (λ (x y : List (ℕ × List ℕ)). x ++ y) (shown.handed ∙ sym same)
+          (picked-append handed_in (map got (left_of c)) end ∙ ap₂ (λ (x y : List (ℕ × List ℕ)). x ++ y) (all_got (left_of c)) q.handed ∙ append-nil (left_of c))
           ∙ all_out c;
       inward = subst (ShownAt w.manager) (sym inward) shown.inward;
     }
       where
-        inward : seen_inward (items ++ (map seen.Got (left_of c) ++ end)) ≡ seen_inward items
-        inward = picked-append passed_in items (map seen.Got (left_of c) ++ end)
+        inward : seen_inward (items ++ (map got (left_of c) ++ end)) ≡ seen_inward items
+        inward = picked-append passed_in items (map got (left_of c) ++ end)
             ∙ ap (λ (l : List Inward). seen_inward items ++ l)
-            (picked-append passed_in (map seen.Got (left_of c)) end ∙ ap₂ (λ (x y : List Inward). x ++ y) (none_in (left_of c)) q.inward)
+            (picked-append passed_in (map got (left_of c)) end ∙ ap₂ (λ (x y : List Inward). x ++ y) (none_in (left_of c)) q.inward)
             ∙ append-nil (seen_inward items)
 
     return_shown : (rid : ℕ) (body : List ℕ) → ShowsStep items (returned w rid (answer w.client rid body w.moment))
@@ -219,19 +222,19 @@ module _ (below : Below) (setup : ClientSetup) where
         turn_shown w.client (Some m) items [] (length w.written) (passes m w.moment) nothing_first (shown_at (Some m) is)
         (time_passed below m (seen_inward items) (journal_made m is).made (shown_at (Some m) is).inward w.moment)
 
-    gives_to_shown : (stanza : List ℕ) → IsAllowed (events.Give stanza) → (o : Option PlainManager) → w.manager ≡ o → ShowsStep items (gives_to w stanza o)
-    gives_to_shown stanza allowed None is = quietly w.client w.client w.manager items _ (record { handed = refl; inward = refl }) refl shown
-    gives_to_shown stanza allowed (Some m) is =
-        let taken = (back (session m) unnamed stanza w.moment).1 in
-        turn_shown w.client (Some m) items (taken_refusals words.Give taken) (length w.written) (gives m stanza w.moment) (not_taken words.Give taken) (shown_at (Some m) is)
-        (gives_passed below m (seen_inward items) (journal_made m is).made (shown_at (Some m) is).inward stanza w.moment allowed)
+    gives_to_shown : (stream : ℕ) (stanza : List ℕ) → IsAllowed (events.GiveOn stream stanza) → (o : Option PlainManager) → w.manager ≡ o → ShowsStep items (gives_to w stream stanza o)
+    gives_to_shown stream stanza allowed None is = quietly w.client w.client w.manager items _ (record { handed = refl; inward = refl }) refl shown
+    gives_to_shown stream stanza allowed (Some m) is =
+        let taken = (back (session m) stream stanza w.moment).1 in
+        turn_shown w.client (Some m) items (taken_refusals words.Give taken) (length w.written) (gives m stream stanza w.moment) (not_taken words.Give taken) (shown_at (Some m) is)
+        (gives_passed below m (seen_inward items) (journal_made m is).made (shown_at (Some m) is).inward stream stanza w.moment allowed)
 
-    shuts_to_shown : (closing : Closing) (o : Option PlainManager) → w.manager ≡ o → ShowsStep items (shuts_to w closing o)
-    shuts_to_shown closing None is = quietly w.client w.client w.manager items _ (record { handed = refl; inward = refl }) refl shown
-    shuts_to_shown closing (Some m) is =
-        let taken = (back_closed (session m) unnamed closing w.moment).1 in
-        turn_shown w.client (Some m) items (taken_refusals words.Shut taken) (length w.written) (shuts m closing w.moment) (not_taken words.Shut taken) (shown_at (Some m) is)
-        (shuts_passed below m (seen_inward items) (journal_made m is).made (shown_at (Some m) is).inward closing w.moment)
+    shuts_to_shown : (stream : ℕ) (closing : Closing) (o : Option PlainManager) → w.manager ≡ o → ShowsStep items (shuts_to w stream closing o)
+    shuts_to_shown stream closing None is = quietly w.client w.client w.manager items _ (record { handed = refl; inward = refl }) refl shown
+    shuts_to_shown stream closing (Some m) is =
+        let taken = (back_closed (session m) stream closing w.moment).1 in
+        turn_shown w.client (Some m) items (taken_refusals words.Shut taken) (length w.written) (shuts m stream closing w.moment) (not_taken words.Shut taken) (shown_at (Some m) is)
+        (shuts_passed below m (seen_inward items) (journal_made m is).made (shown_at (Some m) is).inward stream closing w.moment)
 
     opens_passed : (o : Opening) → IsOpening o → seen_inward items ≡ [] → IsPassedTurn (seen_inward items) (opens o)
     opens_passed o is none =
@@ -273,13 +276,20 @@ module _ (below : Below) (setup : ClientSetup) where
   step_shown : (w : PlainWorld) (h : IsSound setup w) (items : List SeenItem) → Shown w.client w.manager items → (event : WorldEvent) → IsAllowed event → ShowsStep items (step w event)
   step_shown w h items shown (events.At moment) allowed = passes_to_shown (at w moment) (at_sound below setup w moment allowed h) items shown w.manager refl
   step_shown w h items shown (events.Put stanza) allowed = queue_shown w h items shown words.Put (calls.Put stanza) (put w.client stanza) refl (put_queues w.client stanza)
+  step_shown w h items shown (events.PutOn stream stanza) allowed =
+      queue_shown w h items shown words.PutOn (calls.PutOn stream stanza) (put_on w.client stream stanza) refl (put_on_queues w.client stream stanza)
+  step_shown w h items shown (events.Add to) allowed = queue_shown w h items shown words.Add (calls.Add to) (add w.client to) refl (add_queues w.client to)
+  step_shown w h items shown (events.StopOn stream) allowed =
+      queue_shown w h items shown words.StopOn (calls.CloseStream stream) (close_stream w.client stream) refl (close_queues w.client stream)
   step_shown w h items shown events.Restart allowed = queue_shown w h items shown words.Restart calls.Restart (restart w.client) refl (restart_queues w.client)
   step_shown w h items shown (events.Pause seconds) allowed = queue_shown w h items shown words.Pause (calls.Pause seconds) (pause w.client seconds) refl (pause_queues w.client seconds)
   step_shown w h items shown events.Stop allowed = queue_shown w h items shown words.Stop calls.Terminate (terminate w.client) refl (terminate_queues w.client)
   step_shown w h items shown events.Send allowed = send_shown w h items shown
   step_shown w h items shown (events.Carry rid) allowed = carries_to_shown w h items shown rid (at_id w.sent rid)
-  step_shown w h items shown (events.Give stanza) allowed = gives_to_shown w h items shown stanza allowed w.manager refl
-  step_shown w h items shown (events.Shut closing) allowed = shuts_to_shown w h items shown closing w.manager refl
+  step_shown w h items shown (events.Give stanza) allowed = gives_to_shown w h items shown unnamed stanza allowed w.manager refl
+  step_shown w h items shown (events.GiveOn stream stanza) allowed = gives_to_shown w h items shown stream stanza allowed w.manager refl
+  step_shown w h items shown (events.Shut closing) allowed = shuts_to_shown w h items shown unnamed closing w.manager refl
+  step_shown w h items shown (events.ShutOn stream closing) allowed = shuts_to_shown w h items shown stream closing w.manager refl
   step_shown w h items shown (events.Return number) allowed = returns_shown w h items shown number
 
   -- and many

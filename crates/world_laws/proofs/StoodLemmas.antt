@@ -1,11 +1,12 @@
 -- Each copy that came to a session of a client after its creation is a request that the client made.
-use Rattle.std.proofs.Common.{◌≡◌, ℕ, zero, suc, ◌+◌, ◌<◌, ◌≤◌, ◌==◌, ◌&&◌, ◌||◌, true, false, List, [], ◌∷◌, ◌++◌, length, slice_get, inl, inr, refl, sym, ◌∙◌, ap, subst, arith}
+use Rattle.std.proofs.Common.{◌≡◌, ℕ, zero, suc, ◌+◌, ◌<◌, ◌≤◌, ◌==◌, ◌&&◌, ◌||◌, Bool, true, false, List, [], ◌∷◌, ◌++◌, length, map, slice_get, inl, inr, refl, sym, ◌∙◌, ap, subst, arith}
 use Rattle.std.specs.Prelude.{Option, None, Some, All, IfSome, is_some, not, ⊤}
 use Rattle.std.specs.Option.{option_map}
 use Rattle.std.proofs.lemmas.Bool.{cases_lt}
 use Rattle.std.proofs.lemmas.List.{length-map}
 use Rattle.std.proofs.lemmas.List.Elements.{All-append, All-cons, All-nil}
 use Rattle.bosh_types.specs.ById.{at_id}
+use Rattle.bosh_types.specs.Limits.{most_streams}
 use Rattle.body_cutter.specs.declared.parts.Span.{Span}
 use Rattle.body_cutter.specs.Pieces.{bytes_at}
 use Rattle.body_writer.specs.declared.request.RequestParts.{RequestParts}
@@ -31,7 +32,7 @@ use Rattle.bosh_client.specs.declared.agreed.Agreed.{Agreed}
 use Rattle.bosh_client.specs.declared.setup.ClientSetup.{ClientSetup}
 use Rattle.bosh_client.specs.Keys.{key_at, newkey_at}
 use Rattle.bosh_client.specs.PlainClient.{Made, PlainClient, Taken, id_of, lowest, next_id, request_at, taken}
-use Rattle.bosh_client.specs.Promises.{Acknowledges, AllTaken, HasForm, IsKnown, IsOfSession}
+use Rattle.bosh_client.specs.Promises.{Acknowledges, AllTaken, Carries, HasForm, IsKnown, IsOfSession}
 use Rattle.bosh_client.specs.Requests.{agreed, with_keys}
 use Rattle.bosh_client.specs.Runs as calls
 use Rattle.bosh_client.specs.Machine.{new_client}
@@ -44,10 +45,11 @@ use Rattle.world_laws.specs.World.{PlainWorld}
 use Rattle.world_laws.proofs.Below.{Below}
 use Rattle.world_laws.proofs.EventLemmas.{formed}
 use Rattle.world_laws.proofs.LowestLemmas.{lowest_first, lowest_open}
-use Rattle.world_laws.proofs.MadeLemmas.{AllBelow, AllKeep, IsShortCall, is_empty, is_extra, keep_after, new_keeps}
+use Rattle.world_laws.proofs.MadeLemmas.{AllBelow, AllKeep, IsShortCall, is_extra, is_poll, keep_after, new_keeps}
 use Rattle.world_laws.proofs.NameLemmas.{opened_rid, setup_same}
 use Rattle.world_laws.proofs.PlaceLemmas.{all_at, id_at}
-use Rattle.world_laws.proofs.RequestLemmas.{reads_back, sent_is_of}
+use Rattle.world_laws.proofs.PrefixLemmas.{Copies, Fits}
+use Rattle.world_laws.proofs.RequestLemmas.{asked_stanzas, reads_back, sent_is_of}
 use Rattle.world_laws.proofs.StateLemmas.{every_sound}
 use Rattle.world_laws.proofs.TurnLemmas.{all_follow}
 
@@ -55,6 +57,9 @@ use Rattle.world_laws.proofs.TurnLemmas.{all_follow}
 
 short_call : Below → (call : Call) → calls.IsAllowed call → IsShortCall call
 short_call below (calls.Put stanza) allowed = ((below.stanzas stanza).0 allowed).0
+short_call below (calls.PutOn stream stanza) allowed = ((below.stanzas stanza).0 allowed).0
+short_call below (calls.Add to) allowed = tt
+short_call below (calls.CloseStream stream) allowed = tt
 short_call below calls.Restart allowed = tt
 short_call below (calls.Pause seconds) allowed = tt
 short_call below calls.Terminate allowed = tt
@@ -73,6 +78,9 @@ all_from below setup some c run = subst (λ (d : PlainClient). AreFrom d.setup.f
 pub all_acknowledge : (setup : ClientSetup) → 1 ≤ setup.first → (c : PlainClient) → IsRunClient setup c → All (Acknowledges c) c.requests
 all_acknowledge setup some c run = subst (λ (d : PlainClient). All (Acknowledges d) d.requests) (sym run.is) (client_is setup run.calls some).acks
 
+pub all_carry : Below → (setup : ClientSetup) (c : PlainClient) → IsRunClient setup c → All Carries c.requests
+all_carry below setup c run = subst (λ (d : PlainClient). All Carries d.requests) (sym run.is) (below.carries setup run.calls)
+
 -- A copy that came is the request of its id.
 
 pub record IsCopyOf (c : PlainClient) (first rid : ℕ) (copy : RequestCopy) : Type 0 where
@@ -81,16 +89,14 @@ pub record IsCopyOf (c : PlainClient) (first rid : ℕ) (copy : RequestCopy) : T
   pub here : slice_get c.requests place ≡ Some request
   pub rid_is : first + place ≡ rid
   pub children : List Span
-  pub count : length children ≡ length request.parts.payloads
+  pub are : copies.stanzas_of copy ≡ request.parts.payloads
   pub asked : copy.request ≡ asked_by request.parts children
 
 -- a later copy, by what the client keeps to
 pub record IsLaterCopy (c : PlainClient) (a : Agreed) (first k : ℕ) (copy : RequestCopy) : Type 0 where
   pub near : copies.id_of copy < lowest c + reach a.requests (copies.is_extra copy)
   pub short : (seconds : ℕ) → copy.request.pause ≡ Some seconds → seconds ≤ a.maxpause
-  pub alone : copies.is_empty copy ≡ true → AllBelow c (first + suc k)
-  pub unnamed : copy.request.stream ≡ None
-  pub unhosted : copy.request.to ≡ None
+  pub alone : copies.is_poll copy ≡ true → AllBelow c (first + suc k)
   pub key : copy.request.key ≡ with_keys c.setup (Some (key_at c.setup.seed c.setup.keys k))
   pub newkey : copy.request.newkey ≡ with_keys c.setup (newkey_at c.setup.seed c.setup.keys k)
   pub ack : IfSome copy.request.ack (λ ack. ack < lowest c)
@@ -100,7 +106,9 @@ pub record IsLater (c : PlainClient) (first k : ℕ) (copy : RequestCopy) : Type
   pub agrees : agreed c ≡ Some terms
   pub request : Made
   pub here : slice_get c.requests (suc k) ≡ Some request
-  pub empty_is : copies.is_empty copy ≡ is_empty request.parts
+  pub poll_is : copies.is_poll copy ≡ is_poll request.parts
+  pub fits : Fits request.items copy
+  pub stream_is : copy.request.stream ≡ option_map name_of request.parts.stream
   pub keeps : IsLaterCopy c terms first k copy
 
 module _ (below : Below) (setup : ClientSetup) (w : PlainWorld) (h : IsSound setup w) where
@@ -137,15 +145,18 @@ module _ (below : Below) (setup : ClientSetup) (w : PlainWorld) (h : IsSound set
       let of = sent_is_of c.requests rid copy.body (ap (λ (l : List (ℕ × List ℕ)). at_id l rid) (sym h.sent_is) ∙ sent) in
       let form = all_at (λ (request : Made). HasForm setup request.parts) c.requests of.place of.request (formed below setup w h) of.here in
       let back = reads_back below setup of.request.parts h.begins.client form in
+      let asked_so : copy.request ≡ asked_by of.request.parts back.children =
+      one_reading copy.body copy.request (asked_by of.request.parts back.children) read
+      (subst (λ (b : List ℕ). IsReadFrom b (asked_by of.request.parts back.children)) of.body_is back.read) in
       record {
         place = of.place;
         request = of.request;
         here = of.here;
         rid_is = sym (id_at c.setup.first c.requests of.place of.request ids of.here) ∙ of.id_is;
         children = back.children;
-        count = sym (length-map back.children (bytes_at (request_text of.request.parts))) ∙ ap length back.are;
-        asked = one_reading copy.body copy.request (asked_by of.request.parts back.children) read
-            (subst (λ (b : List ℕ). IsReadFrom b (asked_by of.request.parts back.children)) of.body_is back.read);
+        are = ap (λ (b : List ℕ). map (bytes_at b) copy.request.stanzas) (sym of.body_is)
+            ∙ ap (map (bytes_at (request_text of.request.parts))) (ap (λ (r : Request). r.stanzas) asked_so ∙ asked_stanzas of.request.parts back.children) ∙ back.are;
+        asked = asked_so;
       }
 
   -- one after the creation
@@ -162,27 +173,47 @@ module _ (below : Below) (setup : ClientSetup) (w : PlainWorld) (h : IsSound set
       let known : IsOfSession parts = subst (IsKnown setup parts) keeps.later form.known in
       let pause : copy.request.pause ≡ parts.pause = ap (λ (r : Request). r.pause) asked in
       let extra : copies.is_extra copy ≡ is_extra parts = ap (λ (r : Request). is_some r.pause || r.terminate) asked in
-      let empty : copies.is_empty copy ≡ is_empty parts =
-      ap (λ (r : Request). ((length r.stanzas == 0) && not (is_some r.pause && not r.terminate)) && not (r.terminate || r.restart)) asked
-      ∙ ap (λ (n : ℕ). ((n == 0) && not (is_some parts.pause && not parts.terminate)) && not (parts.terminate || parts.restart)) of.count in
+      let count : length copy.request.stanzas ≡ length parts.payloads = sym (length-map copy.request.stanzas (bytes_at copy.body)) ∙ ap length of.are in
+      let stream : copy.request.stream ≡ option_map name_of parts.stream = ap (λ (r : Request). r.stream) asked in
+      let names : is_some copy.request.stream ≡ is_some parts.stream = ap is_some stream ∙ some_mapped parts.stream in
+      let polls : copies.is_poll copy ≡ is_poll parts =
+      ap (λ (n : ℕ). (((n == 0) && not (is_some copy.request.pause && not copy.request.terminate)) && not (copy.request.terminate || copy.request.restart)) && not (is_some copy.request.to && not (is_some copy.request.stream))) count
+      ∙ ap (λ (b : Bool). (((length parts.payloads == 0) && not (is_some copy.request.pause && not copy.request.terminate)) && not (copy.request.terminate || copy.request.restart)) && not (is_some copy.request.to && not b)) names
+      ∙ ap (λ (r : Request). (((length parts.payloads == 0) && not (is_some r.pause && not r.terminate)) && not (r.terminate || r.restart)) && not (is_some r.to && not (is_some parts.stream))) asked in
+      let carries = all_at Carries c.requests of.place of.request (all_carry below setup c h.client) of.here in
       record {
         terms = kept.0;
         agrees = kept.1;
         request = of.request;
         here = here;
-        empty_is = empty;
+        poll_is = polls;
+        stream_is = stream;
+        fits = record {
+          copies = record {
+            stanzas_are = of.are ∙ carries.payloads;
+            restart_is = ap (λ (r : Request). r.restart) asked ∙ carries.restart;
+            stream_is = stream ∙ ap (option_map name_of) carries.stream;
+            to_is = ap (λ (r : Request). r.to) asked ∙ carries.to;
+            terminate_is = ap (λ (r : Request). r.terminate) asked ∙ carries.terminate;
+            pause_is = pause ∙ carries.pause;
+          };
+          alone = carries.alone;
+          small = subst (λ (o : Option ℕ). IfSome o (λ n. n < most_streams)) carries.stream known.stream;
+        };
         keeps = record {
           near = omega (arith, keeps.near, ap (λ (r : Request). r.rid) asked, ap (reach (kept.0).requests) extra);
           short = λ seconds is. keeps.short seconds (sym pause ∙ is);
-          alone = λ is. subst (AllBelow c) id (keeps.alone (sym empty ∙ is));
-          unnamed = ap (λ (r : Request). r.stream) asked ∙ ap (option_map name_of) known.stream;
-          unhosted = ap (λ (r : Request). r.to) asked ∙ known.to;
+          alone = λ is. subst (AllBelow c) id (keeps.alone (sym polls ∙ is));
           key = ap (λ (r : Request). r.key) asked ∙ keeps.key;
           newkey = ap (λ (r : Request). r.newkey) asked ∙ keeps.newkey;
           ack = subst (λ (o : Option ℕ). IfSome o (λ ack. ack < lowest c)) (sym (ap (λ (r : Request). r.ack) asked)) (acked of.request (suc k) here keeps.later);
         };
       }
     where
+      some_mapped : (o : Option ℕ) → is_some (option_map name_of o) ≡ is_some o
+      some_mapped None = refl
+      some_mapped (Some n) = refl
+
       acked : (request : Made) (place : ℕ) → slice_get c.requests place ≡ Some request → request.parts.creation ≡ None → IfSome request.parts.ack (λ ack. ack < lowest c)
       acked request place here later = by request.parts.creation later request.parts.ack (all_at (Acknowledges c) c.requests place request acknowledging here)
         where

@@ -19,13 +19,18 @@ both a b is also = cc
 one_test : (w : PlainWorld) (event : WorldEvent) → (is_in_time w event ≡ true) ↔ IsInTime w event
 one_test w (events.At moment) = (λ is. tt, λ is. refl)
 one_test w (events.Put stanza) = (λ is. tt, λ is. refl)
+one_test w (events.PutOn stream stanza) = (λ is. tt, λ is. refl)
+one_test w (events.Add to) = (λ is. tt, λ is. refl)
+one_test w (events.StopOn stream) = (λ is. tt, λ is. refl)
 one_test w events.Restart = (λ is. tt, λ is. refl)
 one_test w (events.Pause seconds) = (λ is. tt, λ is. refl)
 one_test w events.Stop = (λ is. tt, λ is. refl)
 one_test w events.Send = (λ is. tt, λ is. refl)
 one_test w (events.Carry rid) = (λ is. none_is (taken w.client rid) is, λ is. ap is_none is)
 one_test w (events.Give stanza) = (λ is. tt, λ is. refl)
+one_test w (events.GiveOn stream stanza) = (λ is. tt, λ is. refl)
 one_test w (events.Shut closing) = (λ is. tt, λ is. refl)
+one_test w (events.ShutOn stream closing) = (λ is. tt, λ is. refl)
 one_test w (events.Return number) = (λ is. tt, λ is. refl)
 
 pub timely_test : (w : PlainWorld) (list : List WorldEvent) → (is_timely w list ≡ true) ↔ IsTimely w list

@@ -13,7 +13,6 @@ use Rattle.session_core.specs.declared.replies.Collected.{Collected}
 use Rattle.session_core.specs.declared.replies.Collected.TheVariants as collections
 use Rattle.session_core.specs.declared.replies.Ticked.{Ticked}
 use Rattle.session_core.specs.declared.replies.Ticked.TheVariants as ticks
-use Rattle.session_core.specs.Copy.{unnamed}
 use Rattle.session_core.specs.Journal.{Call, Arrive, Back, BackClosed, Collect, Tick, IsAllowed, IsJournal, Journal, ToArrive, ToCollect, state_of, step}
 use Rattle.session_core.specs.Machine.{arrive, bytes_for, collect, tick}
 use Rattle.session_core.specs.Placed.{struck_tickets}
@@ -191,17 +190,17 @@ module _ (below : Below) (setup : ClientSetup) (sent written : List (ℕ × List
 
   -- The server gives, the stream is closed, time passes.
 
-  pub gives_sound : (m : PlainManager) (stanza : List ℕ) (now : ℕ) → now ≤ moment → IsAllowed (Back unnamed stanza now) → IsSoundManager setup sent written answers moment m
-      → IsSoundTurn setup sent written answers moment (gives m stanza now)
-  gives_sound m stanza now by allowed h =
-      let call = Back unnamed stanza now in
+  pub gives_sound : (m : PlainManager) (stream : ℕ) (stanza : List ℕ) (now : ℕ) → now ≤ moment → IsAllowed (Back stream stanza now) → IsSoundManager setup sent written answers moment m
+      → IsSoundTurn setup sent written answers moment (gives m stream stanza now)
+  gives_sound m stream stanza now by allowed h =
+      let call = Back stream stanza now in
       let after = with_journal m (after_call m.journal call) in
       turned_sound (is_over (session m)) after [] (All-nil (IsWrittenTo (session after))) (called_sound m call allowed by h)
 
-  pub shuts_sound : (m : PlainManager) (closing : Closing) (now : ℕ) → now ≤ moment → IsSoundManager setup sent written answers moment m
-      → IsSoundTurn setup sent written answers moment (shuts m closing now)
-  shuts_sound m closing now by h =
-      let call = BackClosed unnamed closing now in
+  pub shuts_sound : (m : PlainManager) (stream : ℕ) (closing : Closing) (now : ℕ) → now ≤ moment → IsSoundManager setup sent written answers moment m
+      → IsSoundTurn setup sent written answers moment (shuts m stream closing now)
+  shuts_sound m stream closing now by h =
+      let call = BackClosed stream closing now in
       let after = with_journal m (after_call m.journal call) in
       turned_sound (is_over (session m)) after [] (All-nil (IsWrittenTo (session after))) (called_sound m call tt by h)
 

@@ -12,7 +12,6 @@ use Rattle.session_core.specs.declared.replies.Collected.{Collected}
 use Rattle.session_core.specs.declared.replies.Collected.TheVariants as collections
 use Rattle.session_core.specs.declared.replies.Ticked.{Ticked}
 use Rattle.session_core.specs.declared.replies.Ticked.TheVariants as ticks
-use Rattle.session_core.specs.Copy.{unnamed}
 use Rattle.session_core.specs.Endings.{terminal}
 use Rattle.session_core.specs.Journal.{Arrive, Collect, Back, BackClosed, Tick, Journal, state_of}
 use Rattle.session_core.specs.Machine.{arrive, collect, created_parts, tick}
@@ -117,12 +116,12 @@ abbrev pub arrives : PlainManager → Request → List ℕ → ℕ → Turn
 arrives m request body now =
     arrived (is_over (session m)) (with_journal m (after_call m.journal (Arrive request body now))) request.rid (arrive (session m) request body now).1
 
--- the server gives a stanza, or closes the stream
-abbrev pub gives : PlainManager → List ℕ → ℕ → Turn
-gives m stanza now = turned (is_over (session m)) (with_journal m (after_call m.journal (Back unnamed stanza now))) []
+-- the server gives a stanza on a stream, or closes it
+abbrev pub gives : PlainManager → ℕ → List ℕ → ℕ → Turn
+gives m stream stanza now = turned (is_over (session m)) (with_journal m (after_call m.journal (Back stream stanza now))) []
 
-abbrev pub shuts : PlainManager → Closing → ℕ → Turn
-shuts m closing now = turned (is_over (session m)) (with_journal m (after_call m.journal (BackClosed unnamed closing now))) []
+abbrev pub shuts : PlainManager → ℕ → Closing → ℕ → Turn
+shuts m stream closing now = turned (is_over (session m)) (with_journal m (after_call m.journal (BackClosed stream closing now))) []
 
 -- where nothing is due by time, nothing is told
 abbrev pub ticked : PlainManager → PlainManager → Ticked → Turn

@@ -9,6 +9,7 @@ use Rattle.session_core.specs.declared.outward.Outward.TheVariants.{Stanza}
 use Rattle.session_core.specs.Copy.{unnamed}
 use Rattle.session_core.specs.Outward.{size_of_all}
 use Rattle.bosh_client.specs.declared.setup.ClientSetup.{ClientSetup}
+use Rattle.bosh_client.specs.Runs.{IsHost}
 use Rattle.bosh_client.specs.Setup.{is_setup}
 use Rattle.world_laws.specs.declared.event.WorldEvent.{WorldEvent}
 use Rattle.world_laws.specs.declared.event.WorldEvent.TheVariants as events
@@ -23,15 +24,21 @@ pub record IsWorldSetup (host : List ℕ) (greeting : List (List ℕ)) (setup : 
   pub first : IsRid setup.first
   pub to : setup.to ≡ host
 
--- what is put and given is a stanza by itself; a moment is a number of 64 bits, and the seconds of a pause are one of 32
+-- what is put and given is a stanza by itself, and a host a text that may stand in a body; a moment is a number of 64 bits, and the
+-- seconds of a pause are one of 32
 abbrev pub IsAllowed : WorldEvent → Type 0
 IsAllowed (events.At moment) = moment < 2 ^ 64
 IsAllowed (events.Put stanza) = IsTrue (is_stanza stanza)
+IsAllowed (events.PutOn stream stanza) = IsTrue (is_stanza stanza)
+IsAllowed (events.Add to) = IsHost to
+IsAllowed (events.StopOn stream) = ⊤
 IsAllowed events.Restart = ⊤
 IsAllowed (events.Pause seconds) = seconds < 2 ^ 32
 IsAllowed events.Stop = ⊤
 IsAllowed events.Send = ⊤
 IsAllowed (events.Carry rid) = ⊤
 IsAllowed (events.Give stanza) = IsTrue (is_stanza stanza)
+IsAllowed (events.GiveOn stream stanza) = IsTrue (is_stanza stanza)
 IsAllowed (events.Shut closing) = ⊤
+IsAllowed (events.ShutOn stream closing) = ⊤
 IsAllowed (events.Return number) = ⊤

@@ -27,7 +27,7 @@ use Rattle.bosh_client.specs.declared.replies.Next.{Next}
 use Rattle.bosh_client.specs.declared.replies.Next.TheVariants as nexts
 use Rattle.bosh_client.specs.declared.replies.Queued.{Queued}
 use Rattle.bosh_client.specs.declared.replies.Queued.TheVariants as queueings
-use Rattle.bosh_client.specs.Machine.{answer, next_request, pause, put, restart, terminate}
+use Rattle.bosh_client.specs.Machine.{add, answer, close_stream, next_request, pause, put, put_on, restart, terminate}
 use Rattle.bosh_client.specs.PlainClient.{PlainClient, deliverable, end_of}
 use Rattle.world_laws.specs.declared.event.WorldEvent.{WorldEvent}
 use Rattle.world_laws.specs.declared.event.WorldEvent.TheVariants as events
@@ -57,6 +57,7 @@ abbrev pub refusals : Word → Queued → List SeenItem
 refusals word queueings.Done = []
 refusals word queueings.Over = seen.RefusedOver word ∷ []
 refusals word queueings.Full = seen.RefusedFull word ∷ []
+refusals word queueings.NoStream = seen.RefusedNone word ∷ []
 refusals word queueings.TooLong = seen.RefusedLong ∷ []
 
 -- something is to be sent
@@ -71,11 +72,16 @@ sends w (c, nexts.Request rid body) =
     only (record w { client = c; sent = w.sent ++ (rid, body) ∷ [] }) (seen.Req rid body)
 
 -- all that can be handed out is handed out at once
-abbrev pub left_of : PlainClient → List (List ℕ)
+abbrev pub left_of : PlainClient → List (ℕ × List ℕ)
 left_of c = drop c.handed_out (deliverable c)
 
 abbrev pub all_handed : PlainClient → PlainClient
 all_handed c = record c { handed_out = length (deliverable c) }
+
+-- what is handed out is seen with its stream, but for the first one
+abbrev pub got : ℕ × List ℕ → SeenItem
+got (zero, stanza) = seen.Got stanza
+got (suc stream, stanza) = seen.GotOn (suc stream) stanza
 
 -- the first terminal answer is seen once
 abbrev pub ended_seen : Option ClientEnd → Option ClientEnd → List SeenItem
@@ -86,7 +92,7 @@ ended_seen None (Some end) = seen.Ended end.condition ∷ []
 -- an answer to a request with this id comes to the client
 abbrev pub returned : PlainWorld → ℕ → PlainClient × Answered → Step
 returned w rid (c, answerings.Done) =
-    record { seen = map seen.Got (left_of c) ++ ended_seen (end_of w.client) (end_of c); after = record w { client = all_handed c } }
+    record { seen = map got (left_of c) ++ ended_seen (end_of w.client) (end_of c); after = record w { client = all_handed c } }
 returned w rid (c, answerings.Unmade) = unseen w
 returned w rid (c, answerings.Stale) = only w (seen.Stale rid)
 returned w rid (c, answerings.Broken why) = only w (seen.Broken rid)
@@ -174,13 +180,14 @@ taken_refusals word takings.Full = seen.RefusedFull word ∷ []
 taken_refusals word takings.Over = seen.RefusedOver word ∷ []
 
 -- before the creation came there is no session to give to
-abbrev pub gives_to : PlainWorld → List ℕ → Option PlainManager → Step
-gives_to w stanza None = only w (seen.RefusedOver words.Give)
-gives_to w stanza (Some m) = turns w (taken_refusals words.Give (back (session m) unnamed stanza w.moment).1) (gives m stanza w.moment)
+abbrev pub gives_to : PlainWorld → ℕ → List ℕ → Option PlainManager → Step
+gives_to w stream stanza None = only w (seen.RefusedOver words.Give)
+gives_to w stream stanza (Some m) = turns w (taken_refusals words.Give (back (session m) stream stanza w.moment).1) (gives m stream stanza w.moment)
 
-abbrev pub shuts_to : PlainWorld → Closing → Option PlainManager → Step
-shuts_to w closing None = only w (seen.RefusedOver words.Shut)
-shuts_to w closing (Some m) = turns w (taken_refusals words.Shut (back_closed (session m) unnamed closing w.moment).1) (shuts m closing w.moment)
+abbrev pub shuts_to : PlainWorld → ℕ → Closing → Option PlainManager → Step
+shuts_to w stream closing None = only w (seen.RefusedOver words.Shut)
+shuts_to w stream closing (Some m) =
+    turns w (taken_refusals words.Shut (back_closed (session m) stream closing w.moment).1) (shuts m stream closing w.moment)
 
 -- time passes at the manager
 abbrev pub passes_to : PlainWorld → Option PlainManager → Step
@@ -196,13 +203,18 @@ at w moment = record w { moment = max w.moment moment }
 abbrev pub step : PlainWorld → WorldEvent → Step
 step w (events.At moment) = passes_to (at w moment) w.manager
 step w (events.Put stanza) = queues w words.Put (put w.client stanza)
+step w (events.PutOn stream stanza) = queues w words.PutOn (put_on w.client stream stanza)
+step w (events.Add to) = queues w words.Add (add w.client to)
+step w (events.StopOn stream) = queues w words.StopOn (close_stream w.client stream)
 step w events.Restart = queues w words.Restart (restart w.client)
 step w (events.Pause seconds) = queues w words.Pause (pause w.client seconds)
 step w events.Stop = queues w words.Stop (terminate w.client)
 step w events.Send = sends w (next_request w.client w.moment)
 step w (events.Carry rid) = carries w rid
-step w (events.Give stanza) = gives_to w stanza w.manager
-step w (events.Shut closing) = shuts_to w closing w.manager
+step w (events.Give stanza) = gives_to w unnamed stanza w.manager
+step w (events.GiveOn stream stanza) = gives_to w stream stanza w.manager
+step w (events.Shut closing) = shuts_to w unnamed closing w.manager
+step w (events.ShutOn stream closing) = shuts_to w stream closing w.manager
 step w (events.Return number) = returns w number
 
 -- the world after events, and what is seen of them, event by event

@@ -1,7 +1,7 @@
 ghost use Rattle.std.specs.Prelude.{◌≡◌, ◌↔◌, All, ℕ, List, true};
 ghost use Rattle.bosh_client.specs.declared.setup.ClientSetup.{ClientSetup};
 ghost use Rattle.world_laws.specs.declared.event.WorldEvent.{WorldEvent};
-ghost use Rattle.world_laws.specs.Complete.{IsComplete};
+ghost use Rattle.world_laws.specs.Complete.{EndsFaultless, IsComplete, NamesNone};
 ghost use Rattle.world_laws.specs.Promises.{IsUnbroken, KeepsBothPrefixes, ShowsAll, all_seen};
 ghost use Rattle.world_laws.specs.Setup.{IsAllowed, IsWorldSetup};
 ghost use Rattle.world_laws.specs.Sound.{IsSound};
@@ -17,11 +17,11 @@ use bosh_client::{
 use session_core::written_requests_read_back;
 use session_laws::{calls_make_longer_journals, every_journal_keeps_the_laws};
 
-/// After any events, in whatever order the network brings what was ever sent, and however often or never: what went inward
-/// at the manager is a beginning of what the client made, and what the client handed out is a beginning of what the server
-/// gave. For the world is sound then: whatever arrived is the body of its id, and whatever may come back is an answer to its.
-/// All of it was seen: what is seen to be passed on is what went inward, and what is seen to be handed out was handed out.
-/// And no answer that may come back is broken: the client takes each for an answer, whether or not it had one before.
+/// After any events, in whatever order the network brings what was ever sent, and however often or never: on each stream of the
+/// session, what went inward at the manager is a beginning of what the client made for it, and what the client handed out is a
+/// beginning of what the server gave on it. For the world is sound then: whatever arrived is the body of its id, and whatever may come
+/// back is an answer to its. All of it was seen: what is seen to be passed on is what went inward, and what is seen to be handed out
+/// was handed out. And no answer that may come back is broken: the client takes each for an answer, whether or not it had one before.
 pub fn every_world_keeps_both_prefixes()
     ensures sound { (host : List ℕ) (greeting : List (List ℕ)) (setup : ClientSetup) (events : List WorldEvent)
         → IsWorldSetup host greeting setup → All IsAllowed events → IsSound setup (after (new_world host greeting setup) events) }
@@ -47,14 +47,18 @@ pub fn every_world_keeps_both_prefixes()
 }
 
 /// Where no copy of a request comes after the client took its answer, nothing goes wrong by itself between the two ends,
-/// whatever else the network loses, repeats and reorders: no request is stale, beyond the window, of a wrong key, for an
-/// unknown stream, a pause too long or sent too soon, and none is refused; and the client takes each answer for one. So the
-/// session goes on until the client ends it or is silent for too long, the server closes the stream, or the journal is full.
-/// Whether events are timely is a test.
+/// whatever else the network loses, repeats and reorders: no request is stale, beyond the window, of a wrong key, a pause too long or
+/// sent too soon, and none is refused; one is for an unknown stream only where an answer had taken the server's closing of that stream;
+/// and the client takes each answer for one. So the session goes on until the client ends it, goes on to name a stream that the server
+/// closed, or is silent for too long, the server closes the last stream, or the journal is full. A client that names no stream comes to
+/// no ending by a request of its own but a terminate. Whether events are timely is a test.
 pub fn timely_worlds_are_complete()
     ensures complete { (host : List ℕ) (greeting : List (List ℕ)) (setup : ClientSetup) (events : List WorldEvent)
         → IsWorldSetup host greeting setup → All IsAllowed events → IsTimely (new_world host greeting setup) events
         → IsComplete (after (new_world host greeting setup) events) }
+    ensures unnamed { (host : List ℕ) (greeting : List (List ℕ)) (setup : ClientSetup) (events : List WorldEvent)
+        → IsWorldSetup host greeting setup → All IsAllowed events → IsTimely (new_world host greeting setup) events → All NamesNone events
+        → EndsFaultless (after (new_world host greeting setup) events).manager }
     ensures test { (w : PlainWorld) (events : List WorldEvent) → (is_timely w events ≡ true) ↔ IsTimely w events }
 {
     every_journal_keeps_the_laws();

@@ -1,9 +1,12 @@
-use bosh_types::{Condition, Ending, Inward, Rid, Row, SharedText, Text};
+use bosh_types::{Condition, Ending, Inward, Rid, Row, SharedText, StreamNo, Text};
 
 /// What was asked for and refused.
 #[derive(Clone, Copy, Debug, PartialEq, Eq)]
 pub enum Word {
     Put,
+    PutOn,
+    Add,
+    StopOn,
     Restart,
     Pause,
     Stop,
@@ -20,6 +23,10 @@ pub enum SeenItem {
     },
     /// The client or the session has ended, or is to end; or no session was created yet.
     RefusedOver {
+        line: Word,
+    },
+    /// The client has no such stream.
+    RefusedNone {
         line: Word,
     },
     /// The pause is of no seconds or of too many.
@@ -55,8 +62,13 @@ pub enum SeenItem {
     Over {
         ending: Ending,
     },
-    /// The client handed this out.
+    /// The client handed this out, which lies on the first stream.
     Got {
+        stanza: Text,
+    },
+    /// The client handed this out, which lies on this other stream.
+    GotOn {
+        stream: StreamNo,
         stanza: Text,
     },
     /// The client had taken an answer of this id.

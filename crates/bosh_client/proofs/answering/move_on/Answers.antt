@@ -11,6 +11,6 @@ loop-exchanges-preserved c =
     let left : left_of c.loop-exchanges.exchanges.slots ≡ length c.in-Some.payloads + left_of c.take_front.new.self.slots = ap (λ (p : Places). left_of p.slots) c.in-Some.ensures.some in (
       λ plain holds.
           moved c.loop-exchanges.exchanges c.take_front.new.self c.in-Some.payloads plain c.in-Some.ensures.some c.in-Some.ensures.moved
-          (subst (λ (inbox : List (List ℕ)). HoldsRequests c.loop-exchanges.exchanges inbox plain) none (c.loop-exchanges.invariant.0 plain holds)),
+          (subst (λ (inbox : List (ℕ × List ℕ)). HoldsRequests c.loop-exchanges.exchanges inbox plain) none (c.loop-exchanges.invariant.0 plain holds)),
       omega (arith, left, ap length none, c.loop-exchanges.invariant.1),
     )

@@ -3,7 +3,7 @@ use Rattle.std.specs.Io.KnownBytes.{Appends}
 use Rattle.bosh_ports.specs.Sink.{AppendsFront}
 use Rattle.script_text.proofs.GivenLemmas.{AppendsFront-none, OnErr-any}
 use Rattle.pair_text.specs.Load.{line_of, load_of, load_text}
-use Rattle.pair_text.proofs.LoadLemmas.{ends_well, load_completes, load_keeps}
+use Rattle.pair_text.proofs.LoadLemmas.{ends_well, load_completes, load_ends, load_keeps}
 use Rattle.pair_text.proofs.load.run_load.Goals as goal
 
 pub returns-clause-given : goal.returns-clause-given
@@ -13,7 +13,7 @@ returns-clause-given g c = record {
   prefixes = load_keeps c.texts_are_cut_by_the_grammar.ensures.stanza
       (record { prefixes = c.every_world_keeps_both_prefixes.ensures.prefixes; shown = c.every_world_keeps_both_prefixes.ensures.shown }) c.args.number;
   complete = load_completes c.texts_are_cut_by_the_grammar.ensures.stanza c.timely_worlds_are_complete.ensures.complete c.args.number;
-  over = ends_well (load_of c.args.number).world.manager (load_completes c.texts_are_cut_by_the_grammar.ensures.stanza c.timely_worlds_are_complete.ensures.complete c.args.number).ending;
+  over = ends_well (load_of c.args.number).world.manager (load_ends c.texts_are_cut_by_the_grammar.ensures.stanza c.timely_worlds_are_complete.ensures.unnamed c.args.number);
 }
 
 pub returns-in_err-line-clause-part : goal.returns-in_err-line-clause-part

@@ -3,6 +3,7 @@ use Rattle.world_laws.proofs.Below.{Below}
 use Rattle.world_laws.proofs.CompleteLemmas.{after_course, complete, new_course}
 use Rattle.world_laws.proofs.EventLemmas.{after_sound, new_sound}
 use Rattle.world_laws.proofs.TimelyLemmas.{timely_test}
+use Rattle.world_laws.proofs.UnnamedLemmas.{after_unnamed, ends_faultless, new_unnamed}
 use Rattle.world_laws.proofs.laws.timely_worlds_are_complete.Goals as goal
 
 pub returns : goal.returns
@@ -29,5 +30,9 @@ returns c =
           let new = new_sound host greeting setup begins in
           let course = after_course below setup (new_world host greeting setup) new (new_course host greeting setup) events allowed timely in
           complete below setup _ (after_sound below setup (new_world host greeting setup) new events allowed) course;
+      unnamed = λ host greeting setup events begins allowed timely none.
+          let new = new_sound host greeting setup begins in
+          let course = after_course below setup (new_world host greeting setup) new (new_course host greeting setup) events allowed timely in
+          ends_faultless below setup _ (after_sound below setup (new_world host greeting setup) new events allowed) (after_unnamed (new_world host greeting setup) events none (new_unnamed setup)) course.ends;
       test = timely_test;
     }

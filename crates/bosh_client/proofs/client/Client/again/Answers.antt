@@ -1,4 +1,4 @@
-use Rattle.std.proofs.Common.{◌≡◌, ◌∙◌, ℕ, ◌≤◌, None, Some, sym, ap, arith}
+use Rattle.std.proofs.Common.{◌≡◌, ◌∙◌, ℕ, ◌≤◌, None, Some, ap, arith}
 use Rattle.std.specs.Prelude.{Option}
 use Rattle.std.specs.Option.{SomeIff, unwrap_or}
 use Rattle.bosh_types.specs.Rid.{IsRid}

@@ -9,6 +9,16 @@ use Rattle.bosh_client.proofs.SetupLemmas.{hold_few, none_is, not_some}
 use Rattle.bosh_client.proofs.StepLemmas.{choose_no, choose_yes, does_same}
 use Rattle.bosh_client.proofs.client.Client.answer.Goals as goal
 
+pub returns-then-misnames-clause-step : goal.returns-then-misnames-clause-step
+unfolding StandsFor
+returns-then-misnames-clause-step c = λ plain stands.
+    let made = sym (c.is_made.ensures plain stands) ∙ c.if-not-is_made.false in
+    let open_ = not_some (taken plain c.args.rid) (sym (c.is_open.ensures plain stands made) ∙ c.if-not-is_open.false) in
+    does_same
+    (choose_no _ _ _ (ap not made) ∙ choose_no _ _ _ open_ ∙ ap (take_answer plain c.args.rid c.args.body.now c.args.now) c.in-Ok.ensures
+    ∙ choose_yes _ _ _ (sym (c.misnames.ensures plain (sym stands.setup_is)) ∙ c.if-misnames.true))
+    (record { replies = refl; after = stands })
+
 pub returns-then-told-clause-step : goal.returns-then-told-clause-step
 unfolding StandsFor
 returns-then-told-clause-step c = λ plain stands.
@@ -16,7 +26,7 @@ returns-then-told-clause-step c = λ plain stands.
     let open_ = sym (c.is_open.ensures plain stands made) ∙ c.if-not-is_open.false in
     does_same
     (choose_no _ _ _ (ap not made) ∙ choose_no _ _ _ (not_some (taken plain c.args.rid) open_) ∙ ap (take_answer plain c.args.rid c.args.body.now c.args.now) c.in-Ok.ensures
-    ∙ choose_yes _ _ _ c.if-told.true)
+    ∙ choose_no _ _ _ (sym (c.misnames.ensures plain (sym stands.setup_is)) ∙ c.if-misnames.false) ∙ choose_yes _ _ _ c.if-told.true)
     (record { replies = c.again.ensures plain stands made open_; after = stands })
 
 pub returns-then-lacks_sid-clause-step : goal.returns-then-lacks_sid-clause-step
@@ -26,7 +36,7 @@ returns-then-lacks_sid-clause-step c = λ plain stands.
     let open_ = not_some (taken plain c.args.rid) (sym (c.is_open.ensures plain stands made) ∙ c.if-not-is_open.false) in
     does_same
     (choose_no _ _ _ (ap not made) ∙ choose_no _ _ _ open_ ∙ ap (take_answer plain c.args.rid c.args.body.now c.args.now) c.in-Ok.ensures
-    ∙ choose_no _ _ _ c.if-told.false
+    ∙ choose_no _ _ _ (sym (c.misnames.ensures plain (sym stands.setup_is)) ∙ c.if-misnames.false) ∙ choose_no _ _ _ c.if-told.false
     ∙ choose_yes _ _ _ (sym (c.lacks_sid.ensures plain (sym stands.setup_is)) ∙ c.if-lacks_sid.true))
     (record { replies = refl; after = stands })
 
@@ -39,6 +49,6 @@ returns-clause-step c = λ plain stands.
     let agrees = c.in_ok-made.ensures few ∙ ap (λ s. agreement s c.args.rid c.in-Ok.told) stands.setup_is in
     does_same
     (choose_no _ _ _ (ap not made) ∙ choose_no _ _ _ open_ ∙ ap (take_answer plain c.args.rid c.args.body.now c.args.now) c.in-Ok.ensures
-    ∙ choose_no _ _ _ c.if-told.false
+    ∙ choose_no _ _ _ (sym (c.misnames.ensures plain (sym stands.setup_is)) ∙ c.if-misnames.false) ∙ choose_no _ _ _ c.if-told.false
     ∙ choose_no _ _ _ (sym (c.lacks_sid.ensures plain (sym stands.setup_is)) ∙ c.if-lacks_sid.false))
     (record { replies = refl; after = c.take.ensures plain c.args.body.now stands made (none_is (taken plain c.args.rid) open_) agrees })

@@ -1,21 +1,13 @@
-use Rattle.std.proofs.Common.{◌≡◌, ◌∙◌, ◌++◌, ◌∷◌, [], false, sym, ap, refl, arith}
-use Rattle.std.specs.List.{count_by}
-use Rattle.std.proofs.lemmas.Bool.Decides.{nat_tests}
-use Rattle.bosh_client.specs.declared.outgoing.Outgoing.TheVariants.{Stanza}
-use Rattle.bosh_client.specs.Machine.{is_full}
-use Rattle.bosh_client.specs.Outgoing.{is_stanza}
-use Rattle.bosh_client.specs.StandsFor.{StandsFor}
-use Rattle.bosh_client.proofs.StepLemmas.{accepted_holds, choose_no, does_same, or_false}
+use Rattle.std.proofs.Common.{◌∙◌, sym, subst}
+use Rattle.std.specs.Prelude.{IfOk}
+use Rattle.bosh_client.specs.declared.replies.Queued.{Queued}
+use Rattle.bosh_client.specs.PlainClient.{PlainClient}
+use Rattle.bosh_client.specs.StandsFor.{Does, StandsFor}
+use Rattle.bosh_client.proofs.StepLemmas.{choose_no}
 use Rattle.bosh_client.proofs.client.Client.put.Goals as goal
 
 pub returns-clause-step : goal.returns-clause-step
 unfolding StandsFor
 returns-clause-step c = λ plain stands.
-    let stanza = Stanza c.args.stanza.now in
-    let bytes = c.from_vec-bytes.ensures ∙ c.in_ok-from_slice.ensures.items in
-    let queue = c.in_ok-push_stanza.ensures.after ∙ ap (λ b. c.args.self.now.queue ++ Stanza b ∷ []) bytes in
-    let few = ap (λ items. count_by is_stanza items) stands.queue_is in
-    let full : is_full plain ≡ false = grind (arith, nat_tests, few) in
-    does_same
-    (choose_no _ _ _ (sym (c.is_over.ensures plain stands) ∙ c.if-is_over.false) ∙ choose_no _ _ _ full)
-    (record { replies = refl; after = accepted_holds c.args.self.now plain stanza _ _ stands queue (sym (or_false c.args.self.now.closing)) })
+    let way = choose_no _ _ _ (sym (c.is_over.ensures plain stands) ∙ c.if-is_over.false) in
+    subst (λ (done : PlainClient × Queued). IfOk c.put_for.result (λ reply. Does c.put_for.new.self reply done)) (sym way) (c.put_for.ensures.step plain stands)

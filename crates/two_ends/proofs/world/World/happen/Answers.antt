@@ -8,14 +8,32 @@ use Rattle.two_ends.proofs.world.World.happen.Goals as goal
 pub put-requires : goal.put-requires
 put-requires c = subst IsAllowed c.in-Put.is c.requires
 
+pub put_on-requires : goal.put_on-requires
+put_on-requires c = subst IsAllowed c.in-PutOn.is c.requires
+
+pub add-requires : goal.add-requires
+add-requires c = subst IsAllowed c.in-Add.is c.requires
+
 pub give-requires : goal.give-requires
 give-requires c = subst IsAllowed c.in-Give.is c.requires
+
+pub give-requires-in-GiveOn : goal.give-requires-in-GiveOn
+give-requires-in-GiveOn c = subst IsAllowed c.in-GiveOn.is c.requires
 
 pub returns-in-At : goal.returns-in-At
 returns-in-At c = IfOk-from c.at.result _ _ (λ news it w is. subst (λ e. IsPlainStep news c.at.new.self (step w e)) (sym c.in-At.is) (it w is)) c.at.ensures
 
 pub returns-in-Put : goal.returns-in-Put
 returns-in-Put c = IfOk-from c.put.result _ _ (λ news it w is. subst (λ e. IsPlainStep news c.put.new.self (step w e)) (sym c.in-Put.is) (it w is)) c.put.ensures
+
+pub returns-in-PutOn : goal.returns-in-PutOn
+returns-in-PutOn c = IfOk-from c.put_on.result _ _ (λ news it w is. subst (λ e. IsPlainStep news c.put_on.new.self (step w e)) (sym c.in-PutOn.is) (it w is)) c.put_on.ensures
+
+pub returns-in-Add : goal.returns-in-Add
+returns-in-Add c = IfOk-from c.add.result _ _ (λ news it w is. subst (λ e. IsPlainStep news c.add.new.self (step w e)) (sym c.in-Add.is) (it w is)) c.add.ensures
+
+pub returns-in-StopOn : goal.returns-in-StopOn
+returns-in-StopOn c = IfOk-from c.stop_on.result _ _ (λ news it w is. subst (λ e. IsPlainStep news c.stop_on.new.self (step w e)) (sym c.in-StopOn.is) (it w is)) c.stop_on.ensures
 
 pub returns-in-Restart : goal.returns-in-Restart
 returns-in-Restart c = IfOk-from c.restart.result _ _ (λ news it w is. subst (λ e. IsPlainStep news c.restart.new.self (step w e)) (sym c.in-Restart.is) (it w is)) c.restart.ensures
@@ -37,6 +55,12 @@ returns-in-Give c = IfOk-from c.give.result _ _ (λ news it w is. subst (λ e. I
 
 pub returns-in-Shut : goal.returns-in-Shut
 returns-in-Shut c = IfOk-from c.shut.result _ _ (λ news it w is. subst (λ e. IsPlainStep news c.shut.new.self (step w e)) (sym c.in-Shut.is) (it w is)) c.shut.ensures
+
+pub returns-in-GiveOn : goal.returns-in-GiveOn
+returns-in-GiveOn c = IfOk-from c.give-in-GiveOn.result _ _ (λ news it w is. subst (λ e. IsPlainStep news c.give-in-GiveOn.new.self (step w e)) (sym c.in-GiveOn.is) (it w is)) c.give-in-GiveOn.ensures
+
+pub returns-in-ShutOn : goal.returns-in-ShutOn
+returns-in-ShutOn c = IfOk-from c.shut-in-ShutOn.result _ _ (λ news it w is. subst (λ e. IsPlainStep news c.shut-in-ShutOn.new.self (step w e)) (sym c.in-ShutOn.is) (it w is)) c.shut-in-ShutOn.ensures
 
 pub returns-in-Return : goal.returns-in-Return
 returns-in-Return c = IfOk-from c.answer.result _ _ (λ news it w is. subst (λ e. IsPlainStep news c.answer.new.self (step w e)) (sym c.in-Return.is) (it w is)) c.answer.ensures

@@ -1,6 +1,6 @@
 use Rattle.bosh_client.specs.StandsFor.{StandsFor}
 use Rattle.bosh_client.proofs.StepLemmas.{fewer_left, hands_out}
-use Rattle.bosh_client.proofs.client.Client.hand_out.Goals as goal
+use Rattle.bosh_client.proofs.client.Client.hand_out_on.Goals as goal
 
 pub returns-clause-step : goal.returns-clause-step
 unfolding StandsFor
