@@ -304,8 +304,8 @@ module _ (stages : List Stage) (read : LineRead) (before : PlainRun) (posted_so 
       (λ waits. moves_keeps posted_so (closed (begun m) conn)
       (closed_accounts stages (stage_with posted_so before read (change_step (closed (begun m) conn))) report over (begun m) (begun_holds report over m holds) (begins (closed (begun m) conn)) conn))
       (λ free. bad_keeps posted_so n _)
-  body_keeps n (Back sid stanza) says well = server_keeps n (Gives stanza) well (λ stage s. tt) BackOver (given_within m.opened (number_of sid))
-  body_keeps n (Shut sid closing) says well = server_keeps n (Shuts closing) tt (λ stage s. tt) ShutOver (given_within m.opened (number_of sid))
+  body_keeps n (Back sid stream stanza) says well = server_keeps n (Gives stream stanza) well (λ stage s. tt) BackOver (given_within m.opened (number_of sid))
+  body_keeps n (Shut sid stream closing) says well = server_keeps n (Shuts stream closing) tt (λ stage s. tt) ShutOver (given_within m.opened (number_of sid))
   body_keeps n LastLine says well = last_keeps stages over m (stage_with posted_so before read (done_step n)) (no_answer (SaysDone n) tt) accounts.earlier
 
 module _ (stages : List Stage) (read : LineRead) (before : PlainRun) (posted_so : List Posting) (over : List PlainLive) (silent : All IsSilent stages) where
@@ -327,8 +327,8 @@ module _ (stages : List Stage) (read : LineRead) (before : PlainRun) (posted_so 
   arrival_keeps m n (At moment) = silent_bad m n _
   arrival_keeps m n (Post conn body) = silent_bad m n _
   arrival_keeps m n (Close conn) = silent_bad m n _
-  arrival_keeps m n (Back sid stanza) = silent_bad m n _
-  arrival_keeps m n (Shut sid closing) = silent_bad m n _
+  arrival_keeps m n (Back sid stream stanza) = silent_bad m n _
+  arrival_keeps m n (Shut sid stream closing) = silent_bad m n _
   arrival_keeps m n LastLine = silent_done m n
 
 module _ (stages : List Stage) (read : LineRead) (posted_so : List Posting) (report : List ReportLine) (over : List PlainLive) where
@@ -347,8 +347,8 @@ module _ (stages : List Stage) (read : LineRead) (posted_so : List Posting) (rep
   first_keeps holds silent n (At moment) says well = body_keeps stages read Beginning posted_so report over new_manager refl holds (new_accounts silent) n (At moment) says well
   first_keeps holds silent n (Post conn body) says well = body_keeps stages read Beginning posted_so report over new_manager refl holds (new_accounts silent) n (Post conn body) says well
   first_keeps holds silent n (Close conn) says well = body_keeps stages read Beginning posted_so report over new_manager refl holds (new_accounts silent) n (Close conn) says well
-  first_keeps holds silent n (Back sid stanza) says well = body_keeps stages read Beginning posted_so report over new_manager refl holds (new_accounts silent) n (Back sid stanza) says well
-  first_keeps holds silent n (Shut sid closing) says well = body_keeps stages read Beginning posted_so report over new_manager refl holds (new_accounts silent) n (Shut sid closing) says well
+  first_keeps holds silent n (Back sid stream stanza) says well = body_keeps stages read Beginning posted_so report over new_manager refl holds (new_accounts silent) n (Back sid stream stanza) says well
+  first_keeps holds silent n (Shut sid stream closing) says well = body_keeps stages read Beginning posted_so report over new_manager refl holds (new_accounts silent) n (Shut sid stream closing) says well
   first_keeps holds silent n LastLine says well = silent_done stages read Beginning posted_so over silent new_manager n
 
   said_keeps : (run : PlainRun) → Holds report over (manager_of run) → Keeps stages posted_so over run → (n : ℕ) (line : ScriptLine) → read ≡ Line line → IsSaid line

@@ -393,20 +393,20 @@ module _ (stage : Stage) where
   abbrev pub AsksHere : PlainLive → ℕ → Event → Type 0
   AsksHere s now (Arrives conn request body) =
       Asks stage.posted conn request × IsFor request s.number s.journal × Refuses s.number conn request (turn_at now (Arrives conn request body) s).lines
-  AsksHere s now (Gives stanza) = ⊤
-  AsksHere s now (Shuts closing) = ⊤
+  AsksHere s now (Gives stream stanza) = ⊤
+  AsksHere s now (Shuts stream closing) = ⊤
   AsksHere s now Passes = ⊤
 
   -- whatever comes to a session
   pub turn_answers : (s : PlainLive) (now : ℕ) (event : Event) → IsUp s → IsEvent event → Waiting stage.posted s → AsksHere s now event → Answers stage s (turn_at now event s)
   turn_answers s now (Arrives conn request body) up allowed waiting asks =
       arrived_answers s up request body now allowed waiting conn asks.0 asks.1 asks.2 (arrive (state s) request body now).1 refl
-  turn_answers s now (Gives stanza) up allowed waiting asks = refused_answers s _ _ (back_of s.number (back (state s) unnamed stanza now).1)
-      (called_answers s up (Back unnamed stanza now) allowed s.parked [] (same_waiting s up (Back unnamed stanza now) allowed waiting)
-      (none_of stage s.number (after_call s.journal (Back unnamed stanza now))))
-  turn_answers s now (Shuts closing) up allowed waiting asks = refused_answers s _ _ (shut_of s.number (back_closed (state s) unnamed closing now).1)
-      (called_answers s up (BackClosed unnamed closing now) tt s.parked [] (same_waiting s up (BackClosed unnamed closing now) tt waiting)
-      (none_of stage s.number (after_call s.journal (BackClosed unnamed closing now))))
+  turn_answers s now (Gives stream stanza) up allowed waiting asks = refused_answers s _ _ (back_of s.number (back (state s) stream stanza now).1)
+      (called_answers s up (Back stream stanza now) allowed s.parked [] (same_waiting s up (Back stream stanza now) allowed waiting)
+      (none_of stage s.number (after_call s.journal (Back stream stanza now))))
+  turn_answers s now (Shuts stream closing) up allowed waiting asks = refused_answers s _ _ (shut_of s.number (back_closed (state s) stream closing now).1)
+      (called_answers s up (BackClosed stream closing now) tt s.parked [] (same_waiting s up (BackClosed stream closing now) tt waiting)
+      (none_of stage s.number (after_call s.journal (BackClosed stream closing now))))
   turn_answers s now Passes up allowed waiting asks = ticked_answers s up now waiting (tick (state s) now).1
 
 -- the answer to a creation

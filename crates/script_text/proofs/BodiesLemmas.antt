@@ -172,8 +172,8 @@ module _ (s : PlainLive) (journal : Journal) (parked : List Parked) (more : List
 -- what comes with an event
 abbrev pub brought : Event → List (List ℕ)
 brought (Arrives conn request body) = body ∷ []
-brought (Gives stanza) = []
-brought (Shuts closing) = []
+brought (Gives stream stanza) = []
+brought (Shuts stream closing) = []
 brought Passes = []
 
 module _ (s : PlainLive) (up : IsUp s) (call : Call) (allowed : IsAllowed call) (comes : Comes call) where
@@ -242,8 +242,8 @@ ticked_brings s up now Changed = same_brings s up (Tick now) tt tt (due_bodies (
 -- whatever comes to a session brings its body
 pub turn_brings : (s : PlainLive) (now : ℕ) (event : Event) → IsUp s → IsEvent event → Brings s (brought event) (turn_at now event s)
 turn_brings s now (Arrives conn request body) up allowed = arrived_brings s up request body now allowed conn (arrive (state s) request body now).1
-turn_brings s now (Gives stanza) up allowed = refused_brings s [] _ _
-    (same_brings s up (Back unnamed stanza now) allowed tt (limited_bodies (is_over (state s)) (is_full (state s) (stanza_cost stanza)) _ _ refl refl) s.parked [])
-turn_brings s now (Shuts closing) up allowed = refused_brings s [] _ _
-    (same_brings s up (BackClosed unnamed closing now) tt tt (limited_bodies (is_over (state s)) (is_full (state s) plain_cost) _ _ refl refl) s.parked [])
+turn_brings s now (Gives stream stanza) up allowed = refused_brings s [] _ _
+    (same_brings s up (Back stream stanza now) allowed tt (limited_bodies (is_over (state s)) (is_full (state s) (stanza_cost stanza)) _ _ refl refl) s.parked [])
+turn_brings s now (Shuts stream closing) up allowed = refused_brings s [] _ _
+    (same_brings s up (BackClosed stream closing now) tt tt (limited_bodies (is_over (state s)) (is_full (state s) plain_cost) _ _ refl refl) s.parked [])
 turn_brings s now Passes up allowed = ticked_brings s up now (tick (state s) now).1

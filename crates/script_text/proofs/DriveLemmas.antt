@@ -138,8 +138,8 @@ module _ (posts : List (List ℕ)) (report : List ReportLine) (over : List Plain
       (λ free. posted_came posts report over (begun m) (begun_holds report over m holds) begun_came conn body)
   body_came n (Close conn) well = split (StepCame posts [] over m) (is_waiting m conn) _ _
       (λ waits. no_more posts _ _ (closed_came posts over (begun m) conn begun_came)) (λ free. ends_came)
-  body_came n (Back sid stanza) well = server_came n (Gives stanza) well refl BackOver (given_within m.opened (number_of sid))
-  body_came n (Shut sid closing) well = server_came n (Shuts closing) tt refl ShutOver (given_within m.opened (number_of sid))
+  body_came n (Back sid stream stanza) well = server_came n (Gives stream stanza) well refl BackOver (given_within m.opened (number_of sid))
+  body_came n (Shut sid stream closing) well = server_came n (Shuts stream closing) tt refl ShutOver (given_within m.opened (number_of sid))
   body_came n LastLine well = ends_came
 
   arrival_came : (n : ℕ) (line : ScriptLine) → StepCame posts (posts_of line) over m (arrival_step m n line)
@@ -149,8 +149,8 @@ module _ (posts : List (List ℕ)) (report : List ReportLine) (over : List Plain
   arrival_came n (At moment) = ends_came
   arrival_came n (Post conn body) = ends_came
   arrival_came n (Close conn) = ends_came
-  arrival_came n (Back sid stanza) = ends_came
-  arrival_came n (Shut sid closing) = ends_came
+  arrival_came n (Back sid stream stanza) = ends_came
+  arrival_came n (Shut sid stream closing) = ends_came
   arrival_came n LastLine = ends_came
 
 module _ (posts : List (List ℕ)) (report : List ReportLine) (over : List PlainLive) where
@@ -161,8 +161,8 @@ module _ (posts : List (List ℕ)) (report : List ReportLine) (over : List Plain
   first_came holds came n (At moment) well = body_came posts report over new_manager holds came n (At moment) well
   first_came holds came n (Post conn body) well = body_came posts report over new_manager holds came n (Post conn body) well
   first_came holds came n (Close conn) well = body_came posts report over new_manager holds came n (Close conn) well
-  first_came holds came n (Back sid stanza) well = body_came posts report over new_manager holds came n (Back sid stanza) well
-  first_came holds came n (Shut sid closing) well = body_came posts report over new_manager holds came n (Shut sid closing) well
+  first_came holds came n (Back sid stream stanza) well = body_came posts report over new_manager holds came n (Back sid stream stanza) well
+  first_came holds came n (Shut sid stream closing) well = body_came posts report over new_manager holds came n (Shut sid stream closing) well
   first_came holds came n LastLine well = ends_came posts report over new_manager holds came
 
   said_came : (run : PlainRun) → Holds report over (manager_of run) → Came posts over (manager_of run).live → (n : ℕ) (line : ScriptLine) → IsSaid line

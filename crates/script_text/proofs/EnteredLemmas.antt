@@ -59,8 +59,8 @@ module _ (report : List ReportLine) (over : List PlainLive) (m : PlainManager) (
   line_enters (Close conn) = split (Enters (λ s. None)) (is_waiting m conn) _ _
       (λ waits well. closed_stands (begun m) conn)
       (λ free. bad_enters (λ s. None) Connection)
-  line_enters (Back sid stanza) = server_enters (Gives stanza) BackOver (number_of sid)
-  line_enters (Shut sid closing) = server_enters (Shuts closing) ShutOver (number_of sid)
+  line_enters (Back sid stream stanza) = server_enters (Gives stream stanza) BackOver (number_of sid)
+  line_enters (Shut sid stream closing) = server_enters (Shuts stream closing) ShutOver (number_of sid)
   line_enters LastLine = λ well. all_same m.live
 
 stage_entered : OfEach IsEntered

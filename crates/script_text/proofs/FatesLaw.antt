@@ -104,8 +104,8 @@ module _ (report : List ReportLine) (over : List PlainLive) (m : PlainManager) (
   body_fate (Close other) said = split (OfLine (Close other)) (is_waiting m other) _ _
       (λ waits. change_fate nothing none_closed (λ conn. closed_on_it conn m (Close other)) (closed (begun m) other) (λ conn. closed_fate conn report (begun m) other wells holds.tells.going))
       (λ free. bad_fate nothing none_closed (λ conn. closed_on_it conn m (Close other)) Connection)
-  body_fate (Back sid stanza) said = server_fate (Gives stanza) said (λ conn. refl) BackOver (number_of sid)
-  body_fate (Shut sid closing) said = server_fate (Shuts closing) tt (λ conn. refl) ShutOver (number_of sid)
+  body_fate (Back sid stream stanza) said = server_fate (Gives stream stanza) said (λ conn. refl) BackOver (number_of sid)
+  body_fate (Shut sid stream closing) said = server_fate (Shuts stream closing) tt (λ conn. refl) ShutOver (number_of sid)
   body_fate LastLine said = still_line (done_step n) refl refl (λ conn. (refl, refl, refl))
 
 -- All that a line leaves.
@@ -128,8 +128,8 @@ arrival_well report over m holds well n line = by line
     by (At moment) = same
     by (Post conn body) = same
     by (Close conn) = same
-    by (Back sid stanza) = same
-    by (Shut sid closing) = same
+    by (Back sid stream stanza) = same
+    by (Shut sid stream closing) = same
     by LastLine = same
 
 body_well : (report : List ReportLine) (over : List PlainLive) (m : PlainManager) → Holds report over m → All Well m.live → (n : ℕ) (line : ScriptLine) → IsSaid line → WellAfter (Bodies m) (body_step m n line)
@@ -160,8 +160,8 @@ first_well report over holds n (Host name greeting) said = as_first (first_step 
 first_well report over holds n (At moment) said = as_first (first_step n (At moment)) (body_well report over new_manager holds none_well n (At moment) said)
 first_well report over holds n (Post conn body) said = as_first (first_step n (Post conn body)) (body_well report over new_manager holds none_well n (Post conn body) said)
 first_well report over holds n (Close conn) said = as_first (first_step n (Close conn)) (body_well report over new_manager holds none_well n (Close conn) said)
-first_well report over holds n (Back sid stanza) said = as_first (first_step n (Back sid stanza)) (body_well report over new_manager holds none_well n (Back sid stanza) said)
-first_well report over holds n (Shut sid closing) said = as_first (first_step n (Shut sid closing)) (body_well report over new_manager holds none_well n (Shut sid closing) said)
+first_well report over holds n (Back sid stream stanza) said = as_first (first_step n (Back sid stream stanza)) (body_well report over new_manager holds none_well n (Back sid stream stanza) said)
+first_well report over holds n (Shut sid stream closing) said = as_first (first_step n (Shut sid stream closing)) (body_well report over new_manager holds none_well n (Shut sid stream closing) said)
 first_well report over holds n LastLine said = (none_well, All-nil Ended)
 
 read_well : (report : List ReportLine) (over : List PlainLive) (run : PlainRun) → Holds report over (manager_of run) → All Well (manager_of run).live → (n : ℕ) (read : LineRead) → IsWellRead read
@@ -186,8 +186,8 @@ first_same n (Host name greeting) opening heard = refl
 first_same n (At moment) opening heard = refl
 first_same n (Post conn body) opening heard = refl
 first_same n (Close conn) opening heard = refl
-first_same n (Back sid stanza) opening heard = refl
-first_same n (Shut sid closing) opening heard = refl
+first_same n (Back sid stream stanza) opening heard = refl
+first_same n (Shut sid stream closing) opening heard = refl
 first_same n LastLine opening heard = refl
 
 stage_fates : (posted : List Posting) (report : List ReportLine) (over : List PlainLive) (run : PlainRun) → Holds report over (manager_of run) → All Well (manager_of run).live

@@ -250,8 +250,8 @@ module _ (entries : List SessionEntry) (m : PlainManager) (has : All (HasJournal
   body_continues n (Close conn) = split (After (Bodies m)) (is_waiting m conn) _ _
       (λ waits. closed_continues entries (begun m) has none conn)
       (λ free. bad_continues (Bodies m) refl refl n Connection)
-  body_continues n (BackLine sid stanza) = server_continues n (Gives stanza) BackOver (was_given m.opened (number_of sid))
-  body_continues n (Shut sid closing) = server_continues n (Shuts closing) ShutOver (was_given m.opened (number_of sid))
+  body_continues n (BackLine sid stream stanza) = server_continues n (Gives stream stanza) BackOver (was_given m.opened (number_of sid))
+  body_continues n (Shut sid stream closing) = server_continues n (Shuts stream closing) ShutOver (was_given m.opened (number_of sid))
   body_continues n LastLine = bad_continues (Bodies m) refl refl n Grammar
 
   pub read_continues : (n : ℕ) (read : LineRead) → After (Bodies m) (step_by (Bodies m) n read)
@@ -271,8 +271,8 @@ body_bodies m n (Host name greeting) = split (λ (step : Step). IsBodies (run_af
 body_bodies m n (At moment) = split (λ (step : Step). IsBodies (run_after (Bodies m) step.next)) (nat_lt moment m.moment) _ _ (λ is. (m, refl)) (λ is. (_, refl))
 body_bodies m n (Post conn body) = split (λ (step : Step). IsBodies (run_after (Bodies m) step.next)) (is_waiting m conn) _ _ (λ is. (m, refl)) (λ is. (_, refl))
 body_bodies m n (Close conn) = split (λ (step : Step). IsBodies (run_after (Bodies m) step.next)) (is_waiting m conn) _ _ (λ is. (_, refl)) (λ is. (m, refl))
-body_bodies m n (BackLine sid stanza) = server_bodies m n (Gives stanza) BackOver (was_given m.opened (number_of sid))
-body_bodies m n (Shut sid closing) = server_bodies m n (Shuts closing) ShutOver (was_given m.opened (number_of sid))
+body_bodies m n (BackLine sid stream stanza) = server_bodies m n (Gives stream stanza) BackOver (was_given m.opened (number_of sid))
+body_bodies m n (Shut sid stream closing) = server_bodies m n (Shuts stream closing) ShutOver (was_given m.opened (number_of sid))
 body_bodies m n LastLine = (m, refl)
 
 pub read_bodies : (m : PlainManager) (n : ℕ) (read : LineRead) → IsBodies (run_after (Bodies m) (step_by (Bodies m) n read).next)

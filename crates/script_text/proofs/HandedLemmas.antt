@@ -336,18 +336,18 @@ first_of lines turn k none is = by (list_any (is_refused k) lines) refl
 -- what may come of the server
 abbrev IsOfServer : Event → Type 0
 IsOfServer (Arrives conn request body) = ⊥
-IsOfServer (Gives stanza) = ⊤
-IsOfServer (Shuts closing) = ⊤
+IsOfServer (Gives stream stanza) = ⊤
+IsOfServer (Shuts stream closing) = ⊤
 IsOfServer Passes = ⊥
 
 turn_of : (now : ℕ) (event : Event) (s : PlainLive) (k : ℕ) → IsOfServer event → list_any (is_refused k) (turn_at now event s).lines ≡ true → k ≡ s.number
 turn_of now (Arrives conn request body) s k server is = absurd server
-turn_of now (Gives stanza) s k server is =
-    let later : PlainLive = with_journal s (after_call s.journal (Back unnamed stanza now)) in
-    back_of s.number k (back (state s) unnamed stanza now).1 (first_of (refusal_of_back s.number (back (state s) unnamed stanza now).1) (told later []) k (none_told later [] (λ n. refl)) is)
-turn_of now (Shuts closing) s k server is =
-    let later : PlainLive = with_journal s (after_call s.journal (BackClosed unnamed closing now)) in
-    shut_of s.number k (back_closed (state s) unnamed closing now).1 (first_of (refusal_of_shut s.number (back_closed (state s) unnamed closing now).1) (told later []) k (none_told later [] (λ n. refl)) is)
+turn_of now (Gives stream stanza) s k server is =
+    let later : PlainLive = with_journal s (after_call s.journal (Back stream stanza now)) in
+    back_of s.number k (back (state s) stream stanza now).1 (first_of (refusal_of_back s.number (back (state s) stream stanza now).1) (told later []) k (none_told later [] (λ n. refl)) is)
+turn_of now (Shuts stream closing) s k server is =
+    let later : PlainLive = with_journal s (after_call s.journal (BackClosed stream closing now)) in
+    shut_of s.number k (back_closed (state s) stream closing now).1 (first_of (refusal_of_shut s.number (back_closed (state s) stream closing now).1) (told later []) k (none_told later [] (λ n. refl)) is)
 turn_of now Passes s k server is = absurd server
 
 comes_of : (m : PlainManager) (event : Event) (refusal : Refusal) (number k : ℕ) → IsOfServer event → list_any (is_refused k) (comes m event (Refused number refusal) number).lines ≡ true → k ≡ number
@@ -443,8 +443,8 @@ module _ (m : PlainManager) (n : ℕ) where
   body_names (lines.Post conn body) = split (Names (Line (lines.Post conn body))) (is_waiting m conn) _ _ (λ waits. none_names (Line (lines.Post conn body)) (bad_step n Connection) (λ k. refl))
       (λ free. none_names (Line (lines.Post conn body)) (change_step (posted (begun m) conn body)) (none_posted (begun m) conn body))
   body_names (lines.Close conn) = split (Names (Line (lines.Close conn))) (is_waiting m conn) _ _ (λ waits. none_names (Line (lines.Close conn)) (change_step (closed (begun m) conn)) (λ k. refl)) (λ free. none_names (Line (lines.Close conn)) (bad_step n Connection) (λ k. refl))
-  body_names (lines.Back sid stanza) = server_names (Line (lines.Back sid stanza)) (record { sid = sid; item = Stanza unnamed stanza; cost = stanza_cost stanza }) refl (Gives stanza) tt BackOver (number_of sid) refl
-  body_names (lines.Shut sid closing) = server_names (Line (lines.Shut sid closing)) (record { sid = sid; item = Closes unnamed closing; cost = plain_cost }) refl (Shuts closing) tt ShutOver (number_of sid) refl
+  body_names (lines.Back sid stream stanza) = server_names (Line (lines.Back sid stream stanza)) (record { sid = sid; item = Stanza stream stanza; cost = stanza_cost stanza }) refl (Gives stream stanza) tt BackOver (number_of sid) refl
+  body_names (lines.Shut sid stream closing) = server_names (Line (lines.Shut sid stream closing)) (record { sid = sid; item = Closes stream closing; cost = plain_cost }) refl (Shuts stream closing) tt ShutOver (number_of sid) refl
   body_names lines.End = none_names (Line lines.End) (done_step n) (λ k. refl)
 
   arrival_names : (line : ScriptLine) → Names (Line line) (arrival_step m n line)
@@ -454,8 +454,8 @@ module _ (m : PlainManager) (n : ℕ) where
   arrival_names (lines.At moment) = none_names (Line (lines.At moment)) (bad_step n Grammar) (λ k. refl)
   arrival_names (lines.Post conn body) = none_names (Line (lines.Post conn body)) (bad_step n Grammar) (λ k. refl)
   arrival_names (lines.Close conn) = none_names (Line (lines.Close conn)) (bad_step n Grammar) (λ k. refl)
-  arrival_names (lines.Back sid stanza) = none_names (Line (lines.Back sid stanza)) (bad_step n Grammar) (λ k. refl)
-  arrival_names (lines.Shut sid closing) = none_names (Line (lines.Shut sid closing)) (bad_step n Grammar) (λ k. refl)
+  arrival_names (lines.Back sid stream stanza) = none_names (Line (lines.Back sid stream stanza)) (bad_step n Grammar) (λ k. refl)
+  arrival_names (lines.Shut sid stream closing) = none_names (Line (lines.Shut sid stream closing)) (bad_step n Grammar) (λ k. refl)
   arrival_names lines.End = none_names (Line lines.End) (done_step n) (λ k. refl)
 
 first_names : (n : ℕ) (line : ScriptLine) → Names new_manager n (Line line) (first_step n line)
@@ -465,8 +465,8 @@ first_names n (lines.Host name greeting) = body_names new_manager n (lines.Host 
 first_names n (lines.At moment) = body_names new_manager n (lines.At moment)
 first_names n (lines.Post conn body) = body_names new_manager n (lines.Post conn body)
 first_names n (lines.Close conn) = body_names new_manager n (lines.Close conn)
-first_names n (lines.Back sid stanza) = body_names new_manager n (lines.Back sid stanza)
-first_names n (lines.Shut sid closing) = body_names new_manager n (lines.Shut sid closing)
+first_names n (lines.Back sid stream stanza) = body_names new_manager n (lines.Back sid stream stanza)
+first_names n (lines.Shut sid stream closing) = body_names new_manager n (lines.Shut sid stream closing)
 first_names n lines.End = none_names new_manager n (Line lines.End) (done_step n) (λ k. refl)
 
 read_names : (run : PlainRun) (n : ℕ) (read : LineRead) → Names (manager_of run) n read (step_by run n read)
@@ -500,19 +500,19 @@ module _ (m : PlainManager) (n : ℕ) (h : Handing) where
         (λ few heard. comes_handed report over (begun m) (begun_holds report over m holds) event (Refused number refusal) number h names hands)
         (λ many heard. absurd (true_false heard))
 
-handed_back : (sid stanza : List ℕ) (now : ℕ) (s : PlainLive) → is_over (state s) ≡ false
-    → Hands (record { sid = sid; item = Stanza unnamed stanza; cost = stanza_cost stanza }) now (turn_at now (Gives stanza) s).lines s (turn_at now (Gives stanza) s).after
-handed_back sid stanza now s on =
-    let r : PlainSession × Taken = back (state s) unnamed stanza now in
-    turn_hands s on now (Back unnamed stanza now) (record { sid = sid; item = Stanza unnamed stanza; cost = stanza_cost stanza }) (refusal_of_back s.number) r
-    (after_is s.journal (Back unnamed stanza now) ∙ called_state ToBack r) (back_does s.number (state s) on now unnamed stanza)
+handed_back : (sid : List ℕ) (stream : ℕ) (stanza : List ℕ) (now : ℕ) (s : PlainLive) → is_over (state s) ≡ false
+    → Hands (record { sid = sid; item = Stanza stream stanza; cost = stanza_cost stanza }) now (turn_at now (Gives stream stanza) s).lines s (turn_at now (Gives stream stanza) s).after
+handed_back sid stream stanza now s on =
+    let r : PlainSession × Taken = back (state s) stream stanza now in
+    turn_hands s on now (Back stream stanza now) (record { sid = sid; item = Stanza stream stanza; cost = stanza_cost stanza }) (refusal_of_back s.number) r
+    (after_is s.journal (Back stream stanza now) ∙ called_state ToBack r) (back_does s.number (state s) on now stream stanza)
 
-handed_shut : (sid : List ℕ) (closing : Closing) (now : ℕ) (s : PlainLive) → is_over (state s) ≡ false
-    → Hands (record { sid = sid; item = Closes unnamed closing; cost = plain_cost }) now (turn_at now (Shuts closing) s).lines s (turn_at now (Shuts closing) s).after
-handed_shut sid closing now s on =
-    let r : PlainSession × Taken = back_closed (state s) unnamed closing now in
-    turn_hands s on now (BackClosed unnamed closing now) (record { sid = sid; item = Closes unnamed closing; cost = plain_cost }) (refusal_of_shut s.number) r
-    (after_is s.journal (BackClosed unnamed closing now) ∙ called_state ToBack r) (shut_does s.number (state s) on now unnamed closing)
+handed_shut : (sid : List ℕ) (stream : ℕ) (closing : Closing) (now : ℕ) (s : PlainLive) → is_over (state s) ≡ false
+    → Hands (record { sid = sid; item = Closes stream closing; cost = plain_cost }) now (turn_at now (Shuts stream closing) s).lines s (turn_at now (Shuts stream closing) s).after
+handed_shut sid stream closing now s on =
+    let r : PlainSession × Taken = back_closed (state s) stream closing now in
+    turn_hands s on now (BackClosed stream closing now) (record { sid = sid; item = Closes stream closing; cost = plain_cost }) (refusal_of_shut s.number) r
+    (after_is s.journal (BackClosed stream closing now) ∙ called_state ToBack r) (shut_does s.number (state s) on now stream closing)
 
 some_handing : (one other : Handing) → Some one ≡ Some other → one ≡ other
 some_handing one other is = cc
@@ -525,12 +525,12 @@ line_hands report over m holds n h (lines.Host name greeting) is = absurd (cc)
 line_hands report over m holds n h (lines.At moment) is = absurd (cc)
 line_hands report over m holds n h (lines.Post conn body) is = absurd (cc)
 line_hands report over m holds n h (lines.Close conn) is = absurd (cc)
-line_hands report over m holds n h (lines.Back sid stanza) is =
-    subst (λ k. Hears m n k report over holds (body_step m n (lines.Back sid stanza))) (some_handing _ h is)
-    (server_hands m n (record { sid = sid; item = Stanza unnamed stanza; cost = stanza_cost stanza }) report over holds (Gives stanza) BackOver (handed_back sid stanza m.moment) (number_of sid) refl)
-line_hands report over m holds n h (lines.Shut sid closing) is =
-    subst (λ k. Hears m n k report over holds (body_step m n (lines.Shut sid closing))) (some_handing _ h is)
-    (server_hands m n (record { sid = sid; item = Closes unnamed closing; cost = plain_cost }) report over holds (Shuts closing) ShutOver (handed_shut sid closing m.moment) (number_of sid) refl)
+line_hands report over m holds n h (lines.Back sid stream stanza) is =
+    subst (λ k. Hears m n k report over holds (body_step m n (lines.Back sid stream stanza))) (some_handing _ h is)
+    (server_hands m n (record { sid = sid; item = Stanza stream stanza; cost = stanza_cost stanza }) report over holds (Gives stream stanza) BackOver (handed_back sid stream stanza m.moment) (number_of sid) refl)
+line_hands report over m holds n h (lines.Shut sid stream closing) is =
+    subst (λ k. Hears m n k report over holds (body_step m n (lines.Shut sid stream closing))) (some_handing _ h is)
+    (server_hands m n (record { sid = sid; item = Closes stream closing; cost = plain_cost }) report over holds (Shuts stream closing) ShutOver (handed_shut sid stream closing m.moment) (number_of sid) refl)
 line_hands report over m holds n h lines.End is = absurd (cc)
 
 line_tells : (m : PlainManager) (n : ℕ) (h : Handing) (line : ScriptLine) → handing_in line ≡ Some h → Tells m n h (body_step m n line)
@@ -540,8 +540,8 @@ line_tells m n h (lines.Host name greeting) is = absurd (cc)
 line_tells m n h (lines.At moment) is = absurd (cc)
 line_tells m n h (lines.Post conn body) is = absurd (cc)
 line_tells m n h (lines.Close conn) is = absurd (cc)
-line_tells m n h (lines.Back sid stanza) is = server_tells m n h (Gives stanza) BackOver (number_of sid) (ap (λ (k : Handing). number_of k.sid) (sym (some_handing _ h is)))
-line_tells m n h (lines.Shut sid closing) is = server_tells m n h (Shuts closing) ShutOver (number_of sid) (ap (λ (k : Handing). number_of k.sid) (sym (some_handing _ h is)))
+line_tells m n h (lines.Back sid stream stanza) is = server_tells m n h (Gives stream stanza) BackOver (number_of sid) (ap (λ (k : Handing). number_of k.sid) (sym (some_handing _ h is)))
+line_tells m n h (lines.Shut sid stream closing) is = server_tells m n h (Shuts stream closing) ShutOver (number_of sid) (ap (λ (k : Handing). number_of k.sid) (sym (some_handing _ h is)))
 line_tells m n h lines.End is = absurd (cc)
 
 -- the first line of a script of bodies
@@ -552,8 +552,8 @@ first_tells n h (lines.Host name greeting) is = absurd (cc)
 first_tells n h (lines.At moment) is = absurd (cc)
 first_tells n h (lines.Post conn body) is = absurd (cc)
 first_tells n h (lines.Close conn) is = absurd (cc)
-first_tells n h (lines.Back sid stanza) is = line_tells new_manager n h (lines.Back sid stanza) is
-first_tells n h (lines.Shut sid closing) is = line_tells new_manager n h (lines.Shut sid closing) is
+first_tells n h (lines.Back sid stream stanza) is = line_tells new_manager n h (lines.Back sid stream stanza) is
+first_tells n h (lines.Shut sid stream closing) is = line_tells new_manager n h (lines.Shut sid stream closing) is
 first_tells n h lines.End is = absurd (cc)
 
 stage_handed : OfEach IsHanded

@@ -96,8 +96,8 @@ module _ (report : List ReportLine) (over : List PlainLive) (m : PlainManager) (
   body_holds n (Close conn) well = split (StepHolds report over m) (is_waiting m conn) _ _
       (λ waits. closed_holds report over (begun m) begun_holds conn)
       (λ free. bad_holds n Connection)
-  body_holds n (Back sid stanza) well = server_holds n (Gives stanza) well BackOver (given_within m.opened (number_of sid)) (given_by (number_of sid) (numbers_positive sid))
-  body_holds n (Shut sid closing) well = server_holds n (Shuts closing) tt ShutOver (given_within m.opened (number_of sid)) (given_by (number_of sid) (numbers_positive sid))
+  body_holds n (Back sid stream stanza) well = server_holds n (Gives stream stanza) well BackOver (given_within m.opened (number_of sid)) (given_by (number_of sid) (numbers_positive sid))
+  body_holds n (Shut sid stream closing) well = server_holds n (Shuts stream closing) tt ShutOver (given_within m.opened (number_of sid)) (given_by (number_of sid) (numbers_positive sid))
   body_holds n LastLine well = done_holds n
 
   -- of these only some lines are reported
@@ -114,8 +114,8 @@ module _ (report : List ReportLine) (over : List PlainLive) (m : PlainManager) (
   arrival_holds n (At moment) = bad_holds n Grammar
   arrival_holds n (Post conn body) = bad_holds n Grammar
   arrival_holds n (Close conn) = bad_holds n Grammar
-  arrival_holds n (Back sid stanza) = bad_holds n Grammar
-  arrival_holds n (Shut sid closing) = bad_holds n Grammar
+  arrival_holds n (Back sid stream stanza) = bad_holds n Grammar
+  arrival_holds n (Shut sid stream closing) = bad_holds n Grammar
   arrival_holds n LastLine = done_holds n
 
 module _ (report : List ReportLine) (over : List PlainLive) where
@@ -129,8 +129,8 @@ module _ (report : List ReportLine) (over : List PlainLive) where
   first_holds holds n (At moment) well = body_holds report over new_manager holds n (At moment) well
   first_holds holds n (Post conn body) well = body_holds report over new_manager holds n (Post conn body) well
   first_holds holds n (Close conn) well = body_holds report over new_manager holds n (Close conn) well
-  first_holds holds n (Back sid stanza) well = body_holds report over new_manager holds n (Back sid stanza) well
-  first_holds holds n (Shut sid closing) well = body_holds report over new_manager holds n (Shut sid closing) well
+  first_holds holds n (Back sid stream stanza) well = body_holds report over new_manager holds n (Back sid stream stanza) well
+  first_holds holds n (Shut sid stream closing) well = body_holds report over new_manager holds n (Shut sid stream closing) well
   first_holds holds n LastLine well = done_holds report over new_manager holds n
 
   said_holds : (run : PlainRun) → Holds report over (manager_of run) → (n : ℕ) (line : ScriptLine) → IsSaid line → StepHolds report over (manager_of run) (said_step run n line)

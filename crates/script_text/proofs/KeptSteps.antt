@@ -53,8 +53,8 @@ body_none m n (Host name greeting) = split EndsNone (takes_host m name) _ _ (λ 
 body_none m n (At moment) = split EndsNone (nat_lt moment m.moment) _ _ (λ is outcome ends. refl) (λ is outcome ends. absurd (cc))
 body_none m n (Post conn body) = split EndsNone (is_waiting m conn) _ _ (λ is outcome ends. refl) (λ is outcome ends. absurd (cc))
 body_none m n (Close conn) = split EndsNone (is_waiting m conn) _ _ (λ is outcome ends. absurd (cc)) (λ is outcome ends. refl)
-body_none m n (Back sid stanza) = server_none m n (Gives stanza) BackOver (was_given m.opened (number_of sid))
-body_none m n (Shut sid closing) = server_none m n (Shuts closing) ShutOver (was_given m.opened (number_of sid))
+body_none m n (Back sid stream stanza) = server_none m n (Gives stream stanza) BackOver (was_given m.opened (number_of sid))
+body_none m n (Shut sid stream closing) = server_none m n (Shuts stream closing) ShutOver (was_given m.opened (number_of sid))
 body_none m n LastLine = λ outcome is. refl
 
 read_none : (run : PlainRun) → IsBodies run → (n : ℕ) (read : LineRead) → EndsNone (step_by run n read)

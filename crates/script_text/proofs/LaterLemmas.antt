@@ -75,6 +75,6 @@ module _ (s : PlainLive) (call : Call) where
 -- whatever comes to a session
 pub turn_later : (now : ℕ) (event : Event) (s : PlainLive) → IsLater s (turn_at now event s).after
 turn_later now (Arrives conn request body) s = arrived_later s (Arrive request body now) conn (arrive (state s) request body now).1
-turn_later now (Gives stanza) s = called_later s (Back unnamed stanza now) s.parked []
-turn_later now (Shuts closing) s = called_later s (BackClosed unnamed closing now) s.parked []
+turn_later now (Gives stream stanza) s = called_later s (Back stream stanza now) s.parked []
+turn_later now (Shuts stream closing) s = called_later s (BackClosed stream closing now) s.parked []
 turn_later now Passes s = ticked_later s (Tick now) (tick (state s) now).1

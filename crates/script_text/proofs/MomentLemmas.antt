@@ -93,8 +93,8 @@ module _ (m : PlainManager) (n : ℕ) where
   body_at (Post conn body) = split (λ (step : Step). GoesAt m.moment step.next) (is_waiting m conn) _ _ (λ waits. tt)
       (λ free. bodies_at (posted (begun m) conn body).after m.moment (posted_moment (begun m) conn body))
   body_at (Close conn) = split (λ (step : Step). GoesAt m.moment step.next) (is_waiting m conn) _ _ (λ waits. bodies_at _ m.moment refl) (λ free. tt)
-  body_at (Back sid stanza) = server_at (Gives stanza) BackOver (was_given m.opened (number_of sid))
-  body_at (Shut sid closing) = server_at (Shuts closing) ShutOver (was_given m.opened (number_of sid))
+  body_at (Back sid stream stanza) = server_at (Gives stream stanza) BackOver (was_given m.opened (number_of sid))
+  body_at (Shut sid stream closing) = server_at (Shuts stream closing) ShutOver (was_given m.opened (number_of sid))
   body_at LastLine = tt
 
   arrival_at : (now : ℕ) (line : ScriptLine) → GoesAt now (arrival_step m n line).next
@@ -104,8 +104,8 @@ module _ (m : PlainManager) (n : ℕ) where
   arrival_at now (At moment) = tt
   arrival_at now (Post conn body) = tt
   arrival_at now (Close conn) = tt
-  arrival_at now (Back sid stanza) = tt
-  arrival_at now (Shut sid closing) = tt
+  arrival_at now (Back sid stream stanza) = tt
+  arrival_at now (Shut sid stream closing) = tt
   arrival_at now LastLine = tt
 
 first_at : (n : ℕ) (line : ScriptLine) → GoesAt (moment_by 0 line) (first_step n line).next
@@ -115,8 +115,8 @@ first_at n (Host name greeting) = body_at new_manager n (Host name greeting)
 first_at n (At moment) = body_at new_manager n (At moment)
 first_at n (Post conn body) = body_at new_manager n (Post conn body)
 first_at n (Close conn) = body_at new_manager n (Close conn)
-first_at n (Back sid stanza) = body_at new_manager n (Back sid stanza)
-first_at n (Shut sid closing) = body_at new_manager n (Shut sid closing)
+first_at n (Back sid stream stanza) = body_at new_manager n (Back sid stream stanza)
+first_at n (Shut sid stream closing) = body_at new_manager n (Shut sid stream closing)
 first_at n LastLine = tt
 
 read_at : (run : PlainRun) (now : ℕ) → IsAt now run → (n : ℕ) (read : LineRead) → GoesAt (moment_said now read) (step_by run n read).next

@@ -73,8 +73,8 @@ told_owns s answer = owns_on s.journal (all_taken s.journal) _ (all_taken_own (l
 -- what comes to a live session enters this
 abbrev pub event_entry : ℕ → Event → PlainLive → Option Entered
 event_entry now (Arrives conn request body) s = Some (within_limit (state s) Arrival now (Arrive request body now))
-event_entry now (Gives stanza) s = Some (within_limit (state s) ServerStanza now (Back unnamed stanza now))
-event_entry now (Shuts closing) s = Some (within_limit (state s) ServerClosing now (BackClosed unnamed closing now))
+event_entry now (Gives stream stanza) s = Some (within_limit (state s) ServerStanza now (Back stream stanza now))
+event_entry now (Shuts stream closing) s = Some (within_limit (state s) ServerClosing now (BackClosed stream closing now))
 event_entry now Passes s = if is_due (state s) now then Some (within_limit (state s) Time now (Tick now)) else None
 
 module _ (s : PlainLive) (call : Call) (e : Entered) (is : entered_by (state s) call ≡ Some e) where
@@ -117,6 +117,6 @@ module _ (s : PlainLive) (on : is_over (state s) ≡ false) (now : ℕ) where
   -- whatever comes to a session that goes on
   pub turn_goes : (event : Event) → GoesOnWith (event_entry now event s) s.journal (turn_at now event s).after.journal
   turn_goes (Arrives conn request body) = arrived_goes s (Arrive request body now) _ (unended (within_limit (state s) Arrival now (Arrive request body now))) conn (arrive (state s) request body now).1
-  turn_goes (Gives stanza) = called_goes s (Back unnamed stanza now) _ (unended (within_limit (state s) ServerStanza now (Back unnamed stanza now))) s.parked []
-  turn_goes (Shuts closing) = called_goes s (BackClosed unnamed closing now) _ (unended (within_limit (state s) ServerClosing now (BackClosed unnamed closing now))) s.parked []
+  turn_goes (Gives stream stanza) = called_goes s (Back stream stanza now) _ (unended (within_limit (state s) ServerStanza now (Back stream stanza now))) s.parked []
+  turn_goes (Shuts stream closing) = called_goes s (BackClosed stream closing now) _ (unended (within_limit (state s) ServerClosing now (BackClosed stream closing now))) s.parked []
   turn_goes Passes = passes_goes

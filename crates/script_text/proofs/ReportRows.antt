@@ -141,7 +141,7 @@ abbrev at_five : PlainManager
 at_five = record { hosts = []; moment = 5; begun = true; opened = 2; live = begun ∷ [] }
 
 -- the stanza of a line `back s1 <iq/>` at the moment 5 is this entry
-gives_it : StandsWith (after_this 1 (Made (Back 0 (codes "<iq/>") 5)) ∷ []) begun (entry_at at_five (GivesBack (codes "s1") (codes "<iq/>")) begun)
+gives_it : StandsWith (after_this 1 (Made (Back 0 (codes "<iq/>") 5)) ∷ []) begun (entry_at at_five (GivesBack (codes "s1") 0 (codes "<iq/>")) begun)
 unfolding scripts_compute
 gives_it = (after_this 1 (Made (Back 0 (codes "<iq/>") 5)), ([], [], refl), refl, ([], refl, All-nil IsOwn))
 
@@ -172,29 +172,34 @@ stands_so t stanza (u, one, number, (rest, is, own)) =
     )
 
 -- another stanza, another moment, and another session aren't what the line says
-another_stanza : StandsWith (after_this 1 (Made (Back 0 (codes "<message/>") 5)) ∷ []) begun (entry_at at_five (GivesBack (codes "s1") (codes "<iq/>")) begun) → ⊥
+another_stanza : StandsWith (after_this 1 (Made (Back 0 (codes "<message/>") 5)) ∷ []) begun (entry_at at_five (GivesBack (codes "s1") 0 (codes "<iq/>")) begun) → ⊥
 unfolding scripts_compute
 another_stanza stands =
     let is = (stands_so (after_this 1 (Made (Back 0 (codes "<message/>") 5))) (codes "<iq/>") stands).1 in
     let same : 10 ≡ 5 = ap (λ (p : ℕ × ℕ). p.0) is in
     absurd (omega (arith, same))
 
-another_moment : StandsWith (after_this 1 (Made (Back 0 (codes "<iq/>") 6)) ∷ []) begun (entry_at at_five (GivesBack (codes "s1") (codes "<iq/>")) begun) → ⊥
+another_moment : StandsWith (after_this 1 (Made (Back 0 (codes "<iq/>") 6)) ∷ []) begun (entry_at at_five (GivesBack (codes "s1") 0 (codes "<iq/>")) begun) → ⊥
 unfolding scripts_compute
 another_moment stands =
     let is = (stands_so (after_this 1 (Made (Back 0 (codes "<iq/>") 6))) (codes "<iq/>") stands).1 in
     let same : 6 ≡ 5 = ap (λ (p : ℕ × ℕ). p.1) is in
     absurd (omega (arith, same))
 
-another_session : StandsWith (after_this 2 (Made (Back 0 (codes "<iq/>") 5)) ∷ []) begun (entry_at at_five (GivesBack (codes "s1") (codes "<iq/>")) begun) → ⊥
+another_session : StandsWith (after_this 2 (Made (Back 0 (codes "<iq/>") 5)) ∷ []) begun (entry_at at_five (GivesBack (codes "s1") 0 (codes "<iq/>")) begun) → ⊥
 unfolding scripts_compute
 another_session stands =
     let is = (stands_so (after_this 2 (Made (Back 0 (codes "<iq/>") 5))) (codes "<iq/>") stands).0 in
     let same : 2 ≡ 1 = is in
     absurd (omega (arith, same))
 
+-- a line `backon` is the entry on its stream
+gives_it_on : entry_at at_five (GivesBack (codes "s1") 3 (codes "<iq/>")) begun ≡ Some (Made (Back 3 (codes "<iq/>") 5))
+unfolding scripts_compute
+gives_it_on = refl
+
 -- a line for another session enters nothing here
-for_another : entry_at at_five (GivesBack (codes "s2") (codes "<iq/>")) begun ≡ None
+for_another : entry_at at_five (GivesBack (codes "s2") 0 (codes "<iq/>")) begun ≡ None
 unfolding scripts_compute
 for_another = refl
 

@@ -6,12 +6,13 @@ use Rattle.bosh_types.specs.Rid.{rid_of}
 use Rattle.bosh_types.specs.declared.ending.Closing.{Closing}
 use Rattle.body_cutter.specs.declared.parts.Cut.{Cut}
 use Rattle.body_cutter.specs.Cutting.{is_stanza}
+use Rattle.session_core.specs.Copy.{unnamed}
 use Rattle.script_text.specs.declared.line.BadKind.TheVariants.{Grammar}
 use Rattle.script_text.specs.declared.line.LineRead.{LineRead}
 use Rattle.script_text.specs.declared.line.LineRead.TheVariants.{Line, BadLine}
 use Rattle.script_text.specs.declared.line.ScriptLine.TheVariants.{Open, At, Close}
 use Rattle.session_attrs.specs.Serving.{is_host_name, may_greet}
-use Rattle.script_text.specs.Line.{word_of, rest_of, open_of, short_of, request_of, host_of, host_with, greeting_of, post_of, body_of, connection_of, moment_of, at_of, close_of, given_of, back_of, closing_of, shutting_of, closed_of, shut_of, later_line, line_of}
+use Rattle.script_text.specs.Line.{word_of, rest_of, open_of, short_of, request_of, host_of, host_with, greeting_of, post_of, body_of, connection_of, moment_of, at_of, close_of, given_of, given_on, named_given, back_of, back_on_of, closing_of, shutting_of, closed_of, closed_on, named_closed, shut_of, shut_on_of, stream_of, later_line, line_of}
 use Rattle.script_text.specs.Names.{is_sid}
 use Rattle.script_text.specs.Said.{IsWellRead}
 use Rattle.script_text.specs.Stanza.{parts_of, within_body, slices_of, is_row, greeting_in, row_in, row_of}
@@ -108,25 +109,49 @@ well_close (Some text) = at (connection_of (rid_of text))
     at None = tt
     at (Some conn) = tt
 
-well_given : (sid : List ℕ) (stanza : Option (List ℕ)) → IsWellRead (given_of sid stanza)
-well_given sid None = tt
-well_given sid (Some stanza) = either (is_stanza stanza) _ _ (λ is. is) tt
+well_given : (sid : List ℕ) (stream : ℕ) (stanza : Option (List ℕ)) → IsWellRead (given_of sid stream stanza)
+well_given sid stream None = tt
+well_given sid stream (Some stanza) = either (is_stanza stanza) _ _ (λ is. is) tt
 
 well_back : (text : Option (List ℕ)) → IsWellRead (back_of text)
 well_back None = tt
-well_back (Some text) = either (is_sid (word_of text)) _ _ (λ _. well_given (word_of text) (rest_of text)) tt
+well_back (Some text) = either (is_sid (word_of text)) _ _ (λ _. well_given (word_of text) unnamed (rest_of text)) tt
 
-well_shutting : (sid : List ℕ) (closing : Option Closing) → IsWellRead (shutting_of sid closing)
-well_shutting sid None = tt
-well_shutting sid (Some closing) = tt
+well_given_on : (sid : List ℕ) (stream : Option ℕ) (stanza : Option (List ℕ)) → IsWellRead (given_on sid stream stanza)
+well_given_on sid None stanza = tt
+well_given_on sid (Some stream) stanza = well_given sid stream stanza
 
-well_closed : (sid : List ℕ) (word : Option (List ℕ)) → IsWellRead (closed_of sid word)
-well_closed sid None = tt
-well_closed sid (Some word) = well_shutting sid (closing_of word)
+well_named_given : (sid : List ℕ) (text : Option (List ℕ)) → IsWellRead (named_given sid text)
+well_named_given sid None = tt
+well_named_given sid (Some text) = well_given_on sid (stream_of (word_of text)) (rest_of text)
+
+well_back_on : (text : Option (List ℕ)) → IsWellRead (back_on_of text)
+well_back_on None = tt
+well_back_on (Some text) = either (is_sid (word_of text)) _ _ (λ _. well_named_given (word_of text) (rest_of text)) tt
+
+well_shutting : (sid : List ℕ) (stream : ℕ) (closing : Option Closing) → IsWellRead (shutting_of sid stream closing)
+well_shutting sid stream None = tt
+well_shutting sid stream (Some closing) = tt
+
+well_closed : (sid : List ℕ) (stream : ℕ) (word : Option (List ℕ)) → IsWellRead (closed_of sid stream word)
+well_closed sid stream None = tt
+well_closed sid stream (Some word) = well_shutting sid stream (closing_of word)
 
 well_shut : (text : Option (List ℕ)) → IsWellRead (shut_of text)
 well_shut None = tt
-well_shut (Some text) = either (is_sid (word_of text)) _ _ (λ _. well_closed (word_of text) (rest_of text)) tt
+well_shut (Some text) = either (is_sid (word_of text)) _ _ (λ _. well_closed (word_of text) unnamed (rest_of text)) tt
+
+well_closed_on : (sid : List ℕ) (stream : Option ℕ) (word : Option (List ℕ)) → IsWellRead (closed_on sid stream word)
+well_closed_on sid None word = tt
+well_closed_on sid (Some stream) word = well_closed sid stream word
+
+well_named_closed : (sid : List ℕ) (text : Option (List ℕ)) → IsWellRead (named_closed sid text)
+well_named_closed sid None = tt
+well_named_closed sid (Some text) = well_closed_on sid (stream_of (word_of text)) (rest_of text)
+
+well_shut_on : (text : Option (List ℕ)) → IsWellRead (shut_on_of text)
+well_shut_on None = tt
+well_shut_on (Some text) = either (is_sid (word_of text)) _ _ (λ _. well_named_closed (word_of text) (rest_of text)) tt
 
 well_later : (line : List ℕ) → IsWellRead (later_line line)
 unfolding later_line
@@ -135,7 +160,9 @@ well_later line =
     (either (bytes_eq (word_of line) (codes "close")) _ _ (λ _. well_close (rest_of line))
     (either (bytes_eq (word_of line) (codes "back")) _ _ (λ _. well_back (rest_of line))
     (either (bytes_eq (word_of line) (codes "shut")) _ _ (λ _. well_shut (rest_of line))
-    (either (bytes_eq line (codes "end")) _ _ (λ _. tt) tt))))
+    (either (bytes_eq (word_of line) (codes "backon")) _ _ (λ _. well_back_on (rest_of line))
+    (either (bytes_eq (word_of line) (codes "shuton")) _ _ (λ _. well_shut_on (rest_of line))
+    (either (bytes_eq line (codes "end")) _ _ (λ _. tt) tt))))))
 
 -- what a line says is well said
 pub lines_well : (line : List ℕ) → IsWellRead (line_of line)

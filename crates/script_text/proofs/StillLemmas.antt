@@ -86,8 +86,8 @@ module _ (report : List ReportLine) (over : List PlainLive) (m : PlainManager) (
   body_still (Close conn) = split (Stays (Bodies m)) (is_waiting m conn) _ _
       (λ waits. change_still (closed (begun m) conn) (λ s. None) (closed_stands (begun m) conn))
       (λ free. still_all m.live)
-  body_still (Back sid stanza) = server_still (Gives stanza) BackOver (was_given m.opened (number_of sid))
-  body_still (Shut sid closing) = server_still (Shuts closing) ShutOver (was_given m.opened (number_of sid))
+  body_still (Back sid stream stanza) = server_still (Gives stream stanza) BackOver (was_given m.opened (number_of sid))
+  body_still (Shut sid stream closing) = server_still (Shuts stream closing) ShutOver (was_given m.opened (number_of sid))
   body_still LastLine = still_all m.live
 
   arrival_still : (line : ScriptLine) → Stays (Arrivals m) (arrival_step m n line)
@@ -98,8 +98,8 @@ module _ (report : List ReportLine) (over : List PlainLive) (m : PlainManager) (
   arrival_still (At moment) = still_all m.live
   arrival_still (Post conn body) = still_all m.live
   arrival_still (Close conn) = still_all m.live
-  arrival_still (Back sid stanza) = still_all m.live
-  arrival_still (Shut sid closing) = still_all m.live
+  arrival_still (Back sid stream stanza) = still_all m.live
+  arrival_still (Shut sid stream closing) = still_all m.live
   arrival_still LastLine = still_all m.live
 
 step_still : (report : List ReportLine) (over : List PlainLive) (run : PlainRun) → Holds report over (manager_of run) → (n : ℕ) (read : LineRead)

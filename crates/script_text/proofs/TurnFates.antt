@@ -131,8 +131,8 @@ module _ (conn : ℕ) where
   -- how many requests come with an event on this connection
   abbrev pub posted_with : Event → ℕ
   posted_with (Arrives other request body) = if other == conn then 1 else 0
-  posted_with (Gives stanza) = 0
-  posted_with (Shuts closing) = 0
+  posted_with (Gives stream stanza) = 0
+  posted_with (Shuts stream closing) = 0
   posted_with Passes = 0
 
   module _ (s : PlainLive) (up : IsUp s) (call : Call) (allowed : IsAllowed call) (comes : Comes call) (well : WaitWell s.journal s.parked) (e : Entered) (is : entered_by (state s) call ≡ Some e) where
@@ -273,16 +273,16 @@ module _ (conn : ℕ) where
     -- whatever comes to a session
     pub turn_fate : (event : Event) → IsEvent event → FateOf event (turn_at now event s)
     turn_fate (Arrives other request body) allowed = arrived_fate other request body allowed (arrive (state s) request body now).1 refl
-    turn_fate (Gives stanza) allowed =
-        let e : Entered = within_limit (state s) ServerStanza now (Back unnamed stanza now) in
-        let reply : Taken = (back (state s) unnamed stanza now).1 in
-        refused_fate s 0 _ _ (refusal_of_back s.number reply) (told (with_journal s (after_call s.journal (Back unnamed stanza now))) [])
+    turn_fate (Gives stream stanza) allowed =
+        let e : Entered = within_limit (state s) ServerStanza now (Back stream stanza now) in
+        let reply : Taken = (back (state s) stream stanza now).1 in
+        refused_fate s 0 _ _ (refusal_of_back s.number reply) (told (with_journal s (after_call s.journal (Back stream stanza now))) [])
         (back_none (is_out conn) (λ n r. refl) s.number reply) (back_none (is_gone conn) (λ n r. refl) s.number reply) (back_none (is_lost conn) (λ n r. refl) s.number reply)
-        (called_fate s up (Back unnamed stanza now) allowed tt well e (unended e) [] none_aside)
-    turn_fate (Shuts closing) allowed =
-        let e : Entered = within_limit (state s) ServerClosing now (BackClosed unnamed closing now) in
-        let reply : Taken = (back_closed (state s) unnamed closing now).1 in
-        refused_fate s 0 _ _ (refusal_of_shut s.number reply) (told (with_journal s (after_call s.journal (BackClosed unnamed closing now))) [])
+        (called_fate s up (Back stream stanza now) allowed tt well e (unended e) [] none_aside)
+    turn_fate (Shuts stream closing) allowed =
+        let e : Entered = within_limit (state s) ServerClosing now (BackClosed stream closing now) in
+        let reply : Taken = (back_closed (state s) stream closing now).1 in
+        refused_fate s 0 _ _ (refusal_of_shut s.number reply) (told (with_journal s (after_call s.journal (BackClosed stream closing now))) [])
         (shut_none (is_out conn) (λ n r. refl) s.number reply) (shut_none (is_gone conn) (λ n r. refl) s.number reply) (shut_none (is_lost conn) (λ n r. refl) s.number reply)
-        (called_fate s up (BackClosed unnamed closing now) tt tt well e (unended e) [] none_aside)
+        (called_fate s up (BackClosed stream closing now) tt tt well e (unended e) [] none_aside)
     turn_fate Passes allowed = passes_fate

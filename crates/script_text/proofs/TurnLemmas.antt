@@ -140,8 +140,8 @@ module _ (s : PlainLive) (up : IsUp s) (call : Call) (allowed : IsAllowed call) 
 -- whatever comes to a session
 pub comes_turn : (s : PlainLive) (now : ℕ) (event : Event) → IsUp s → IsEvent event → IsTurnOf s (turn_at now event s)
 comes_turn s now (Arrives conn request body) up allowed = called_arrived s up (Arrive request body now) allowed tt conn (arrive (state s) request body now).1
-comes_turn s now (Gives stanza) up allowed =
-    refused_turn s _ _ (back_refused s.number (back (state s) unnamed stanza now).1) (called_turn s up (Back unnamed stanza now) allowed tt s.parked [] none_of_none)
-comes_turn s now (Shuts closing) up allowed =
-    refused_turn s _ _ (shut_refused s.number (back_closed (state s) unnamed closing now).1) (called_turn s up (BackClosed unnamed closing now) tt tt s.parked [] none_of_none)
+comes_turn s now (Gives stream stanza) up allowed =
+    refused_turn s _ _ (back_refused s.number (back (state s) stream stanza now).1) (called_turn s up (Back stream stanza now) allowed tt s.parked [] none_of_none)
+comes_turn s now (Shuts stream closing) up allowed =
+    refused_turn s _ _ (shut_refused s.number (back_closed (state s) stream closing now).1) (called_turn s up (BackClosed stream closing now) tt tt s.parked [] none_of_none)
 comes_turn s now Passes up allowed = called_ticked s up (Tick now) tt tt (tick (state s) now).1

@@ -38,8 +38,8 @@ postings_of (Host name greeting) = []
 postings_of (At moment) = []
 postings_of (Post conn body) = record { conn = conn; body = body } ∷ []
 postings_of (Close conn) = []
-postings_of (Back sid stanza) = []
-postings_of (Shut sid closing) = []
+postings_of (Back sid stream stanza) = []
+postings_of (Shut sid stream closing) = []
 postings_of LastLine = []
 
 abbrev pub postings_in : LineRead → List Posting

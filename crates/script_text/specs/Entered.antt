@@ -34,10 +34,10 @@ entry_at m (Host name greeting) s = None
 entry_at m (At moment) s = if is_due (state s) moment then Some (within_limit (state s) Time moment (Tick moment)) else None
 entry_at m (Post conn body) s = arrives_at m.moment body s (request_in body)
 entry_at m (Close conn) s = None
-entry_at m (GivesBack sid stanza) s =
-    if is_number s.number (number_of sid) then Some (within_limit (state s) ServerStanza m.moment (Back unnamed stanza m.moment)) else None
-entry_at m (Shut sid closing) s =
-    if is_number s.number (number_of sid) then Some (within_limit (state s) ServerClosing m.moment (BackClosed unnamed closing m.moment)) else None
+entry_at m (GivesBack sid stream stanza) s =
+    if is_number s.number (number_of sid) then Some (within_limit (state s) ServerStanza m.moment (Back stream stanza m.moment)) else None
+entry_at m (Shut sid stream closing) s =
+    if is_number s.number (number_of sid) then Some (within_limit (state s) ServerClosing m.moment (BackClosed stream closing m.moment)) else None
 entry_at m LastLine s = None
 
 -- what went inward was taken, or what a request that waited was told was collected
@@ -103,8 +103,8 @@ moment_by now (Host name greeting) = now
 moment_by now (At moment) = moment
 moment_by now (Post conn body) = now
 moment_by now (Close conn) = now
-moment_by now (GivesBack sid stanza) = now
-moment_by now (Shut sid closing) = now
+moment_by now (GivesBack sid stream stanza) = now
+moment_by now (Shut sid stream closing) = now
 moment_by now LastLine = now
 
 abbrev pub moment_said : ℕ → LineRead → ℕ

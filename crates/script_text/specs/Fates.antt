@@ -87,8 +87,8 @@ posted_on conn (Host name greeting) = 0
 posted_on conn (At moment) = 0
 posted_on conn (Post other body) = if other == conn then 1 else 0
 posted_on conn (Close other) = 0
-posted_on conn (Back sid stanza) = 0
-posted_on conn (Shut sid closing) = 0
+posted_on conn (Back sid stream stanza) = 0
+posted_on conn (Shut sid stream closing) = 0
 posted_on conn LastLine = 0
 
 abbrev pub closed_on_it : ℕ → PlainManager → ScriptLine → ℕ
@@ -98,8 +98,8 @@ closed_on_it conn m (Host name greeting) = 0
 closed_on_it conn m (At moment) = 0
 closed_on_it conn m (Post other body) = 0
 closed_on_it conn m (Close other) = if other == conn then waiting_in (waits_on conn) m.live else 0
-closed_on_it conn m (Back sid stanza) = 0
-closed_on_it conn m (Shut sid closing) = 0
+closed_on_it conn m (Back sid stream stanza) = 0
+closed_on_it conn m (Shut sid stream closing) = 0
 closed_on_it conn m LastLine = 0
 
 -- the line opens the session of a script that tells of its requests alone
@@ -110,8 +110,8 @@ opens (Host name greeting) = false
 opens (At moment) = false
 opens (Post conn body) = false
 opens (Close conn) = false
-opens (Back sid stanza) = false
-opens (Shut sid closing) = false
+opens (Back sid stream stanza) = false
+opens (Shut sid stream closing) = false
 opens LastLine = false
 
 -- what becomes of the requests on a connection with a line

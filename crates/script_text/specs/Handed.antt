@@ -31,8 +31,8 @@ handing_in (Host name greeting) = None
 handing_in (At moment) = None
 handing_in (Post conn body) = None
 handing_in (Close conn) = None
-handing_in (Back sid stanza) = Some (record { sid = sid; item = Stanza unnamed stanza; cost = stanza_cost stanza })
-handing_in (Shut sid closing) = Some (record { sid = sid; item = Closes unnamed closing; cost = plain_cost })
+handing_in (Back sid stream stanza) = Some (record { sid = sid; item = Stanza stream stanza; cost = stanza_cost stanza })
+handing_in (Shut sid stream closing) = Some (record { sid = sid; item = Closes stream closing; cost = plain_cost })
 handing_in LastLine = None
 
 abbrev pub handing_of : LineRead → Option Handing

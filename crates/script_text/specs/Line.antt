@@ -1,7 +1,8 @@
 -- What one line of a script says, by its own bytes. Words are separated by one space.
-use Rattle.std.specs.Prelude.{ℕ, ◌+◌, ◌==◌, nat_le, List, [], Option, None, Some, take, drop, position, codes, if◌then◌else◌}
+use Rattle.std.specs.Prelude.{ℕ, ◌+◌, ◌==◌, nat_le, nat_lt, List, [], Option, None, Some, take, drop, position, codes, if◌then◌else◌}
 use Rattle.std.specs.Str.{bytes_eq}
 use Rattle.body_cutter.specs.Cutting.{is_stanza}
+use Rattle.bosh_types.specs.Limits.{most_streams}
 use Rattle.bosh_types.specs.Rid.{rid_of}
 use Rattle.bosh_types.specs.Condition.{name_of}
 use Rattle.bosh_types.specs.declared.condition.Condition.TheVariants as conditions
@@ -12,6 +13,7 @@ use Rattle.script_text.specs.declared.line.ScriptLine.TheVariants.{Open, Short, 
 use Rattle.script_text.specs.declared.line.LineRead.{LineRead}
 use Rattle.script_text.specs.declared.line.LineRead.TheVariants.{Line, BadLine}
 use Rattle.session_attrs.specs.Serving.{is_host_name}
+use Rattle.session_core.specs.Copy.{unnamed}
 use Rattle.script_text.specs.Names.{is_sid}
 use Rattle.script_text.specs.Stanza.{row_of}
 
@@ -82,15 +84,36 @@ abbrev pub close_of : Option (List ℕ) → LineRead
 close_of None = BadLine Grammar
 close_of (Some text) = elim (connection_of (rid_of text)) [ None ↦ BadLine Grammar | Some conn ↦ Line (Close conn) ]
 
--- what a session is given: a stanza
-abbrev pub given_of : List ℕ → Option (List ℕ) → LineRead
-given_of sid None = BadLine Grammar
-given_of sid (Some stanza) = if is_stanza stanza then Line (Back sid stanza) else BadLine Grammar
+-- the number of a stream: 0 to 7
+abbrev pub within_streams : Option ℕ → Option ℕ
+within_streams None = None
+within_streams (Some number) = if nat_lt number most_streams then Some number else None
+
+unfoldable pub stream_of : List ℕ → Option ℕ
+stream_of text = if bytes_eq text (codes "0") then Some 0 else within_streams (rid_of text)
+
+-- what a session is given on a stream: a stanza
+abbrev pub given_of : List ℕ → ℕ → Option (List ℕ) → LineRead
+given_of sid stream None = BadLine Grammar
+given_of sid stream (Some stanza) = if is_stanza stanza then Line (Back sid stream stanza) else BadLine Grammar
 
 -- `back SID STANZA`
 abbrev pub back_of : Option (List ℕ) → LineRead
 back_of None = BadLine Grammar
-back_of (Some text) = if is_sid (word_of text) then given_of (word_of text) (rest_of text) else BadLine Grammar
+back_of (Some text) = if is_sid (word_of text) then given_of (word_of text) unnamed (rest_of text) else BadLine Grammar
+
+abbrev pub given_on : List ℕ → Option ℕ → Option (List ℕ) → LineRead
+given_on sid None stanza = BadLine Grammar
+given_on sid (Some stream) stanza = given_of sid stream stanza
+
+abbrev pub named_given : List ℕ → Option (List ℕ) → LineRead
+named_given sid None = BadLine Grammar
+named_given sid (Some text) = given_on sid (stream_of (word_of text)) (rest_of text)
+
+-- `backon SID STREAM STANZA`
+abbrev pub back_on_of : Option (List ℕ) → LineRead
+back_on_of None = BadLine Grammar
+back_on_of (Some text) = if is_sid (word_of text) then named_given (word_of text) (rest_of text) else BadLine Grammar
 
 -- the word for a closing of the server
 unfoldable pub closing_of : List ℕ → Option Closing
@@ -101,18 +124,31 @@ closing_of word =
     else if bytes_eq word (name_of conditions.SystemShutdown) then Some SystemShutdown
     else None
 
-abbrev pub shutting_of : List ℕ → Option Closing → LineRead
-shutting_of sid None = BadLine Grammar
-shutting_of sid (Some closing) = Line (Shut sid closing)
+abbrev pub shutting_of : List ℕ → ℕ → Option Closing → LineRead
+shutting_of sid stream None = BadLine Grammar
+shutting_of sid stream (Some closing) = Line (Shut sid stream closing)
 
-abbrev pub closed_of : List ℕ → Option (List ℕ) → LineRead
-closed_of sid None = BadLine Grammar
-closed_of sid (Some word) = shutting_of sid (closing_of word)
+abbrev pub closed_of : List ℕ → ℕ → Option (List ℕ) → LineRead
+closed_of sid stream None = BadLine Grammar
+closed_of sid stream (Some word) = shutting_of sid stream (closing_of word)
 
 -- `shut SID CLOSING`
 abbrev pub shut_of : Option (List ℕ) → LineRead
 shut_of None = BadLine Grammar
-shut_of (Some text) = if is_sid (word_of text) then closed_of (word_of text) (rest_of text) else BadLine Grammar
+shut_of (Some text) = if is_sid (word_of text) then closed_of (word_of text) unnamed (rest_of text) else BadLine Grammar
+
+abbrev pub closed_on : List ℕ → Option ℕ → Option (List ℕ) → LineRead
+closed_on sid None word = BadLine Grammar
+closed_on sid (Some stream) word = closed_of sid stream word
+
+abbrev pub named_closed : List ℕ → Option (List ℕ) → LineRead
+named_closed sid None = BadLine Grammar
+named_closed sid (Some text) = closed_on sid (stream_of (word_of text)) (rest_of text)
+
+-- `shuton SID STREAM CLOSING`
+abbrev pub shut_on_of : Option (List ℕ) → LineRead
+shut_on_of None = BadLine Grammar
+shut_on_of (Some text) = if is_sid (word_of text) then named_closed (word_of text) (rest_of text) else BadLine Grammar
 
 -- a line about a session that there is, or the last one
 unfoldable pub later_line : List ℕ → LineRead
@@ -121,6 +157,8 @@ later_line line =
     else if bytes_eq (word_of line) (codes "close") then close_of (rest_of line)
     else if bytes_eq (word_of line) (codes "back") then back_of (rest_of line)
     else if bytes_eq (word_of line) (codes "shut") then shut_of (rest_of line)
+    else if bytes_eq (word_of line) (codes "backon") then back_on_of (rest_of line)
+    else if bytes_eq (word_of line) (codes "shuton") then shut_on_of (rest_of line)
     else if bytes_eq line (codes "end") then Line End
     else BadLine Grammar
 

@@ -139,12 +139,12 @@ ticked s after Changed = told after []
 abbrev pub turn_at : ℕ → Event → PlainLive → Turn
 turn_at now (Arrives conn request body) s =
     arrived (with_journal s (after_call s.journal (Arrive request body now))) conn (arrive (state s) request body now).1
-turn_at now (Gives stanza) s =
-    refused_first (refusal_of_back s.number (back (state s) unnamed stanza now).1)
-    (told (with_journal s (after_call s.journal (Back unnamed stanza now))) [])
-turn_at now (Shuts closing) s =
-    refused_first (refusal_of_shut s.number (back_closed (state s) unnamed closing now).1)
-    (told (with_journal s (after_call s.journal (BackClosed unnamed closing now))) [])
+turn_at now (Gives stream stanza) s =
+    refused_first (refusal_of_back s.number (back (state s) stream stanza now).1)
+    (told (with_journal s (after_call s.journal (Back stream stanza now))) [])
+turn_at now (Shuts stream closing) s =
+    refused_first (refusal_of_shut s.number (back_closed (state s) stream closing now).1)
+    (told (with_journal s (after_call s.journal (BackClosed stream closing now))) [])
 turn_at now Passes s = ticked s (with_journal s (after_call s.journal (Tick now))) (tick (state s) now).1
 
 -- the sessions that go on, and those that are over: a session is live until its line `over`

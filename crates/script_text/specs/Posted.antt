@@ -40,8 +40,8 @@ posts_of (Host name greeting) = []
 posts_of (At moment) = []
 posts_of (Post conn body) = body ∷ []
 posts_of (Close conn) = []
-posts_of (Back sid stanza) = []
-posts_of (Shut sid closing) = []
+posts_of (Back sid stream stanza) = []
+posts_of (Shut sid stream closing) = []
 posts_of LastLine = []
 
 abbrev pub posts_in : LineRead → List (List ℕ)

@@ -15,8 +15,8 @@ IsSaid (Host name greeting) = IsTrue (can_serve (record { name = name; greeting 
 IsSaid (At moment) = ⊤
 IsSaid (Post conn body) = ⊤
 IsSaid (Close conn) = ⊤
-IsSaid (Back sid stanza) = IsTrue (is_stanza stanza)
-IsSaid (Shut sid closing) = ⊤
+IsSaid (Back sid stream stanza) = IsTrue (is_stanza stanza)
+IsSaid (Shut sid stream closing) = ⊤
 IsSaid End = ⊤
 
 abbrev pub IsWellRead : LineRead → Type 0

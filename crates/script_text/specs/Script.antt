@@ -104,8 +104,8 @@ body_step m n (Host name greeting) = host_step m n name greeting
 body_step m n (At moment) = at_step m n moment
 body_step m n (Post conn body) = post_step m n conn body
 body_step m n (Close conn) = close_step m n conn
-body_step m n (Back sid stanza) = server_step m n (Gives stanza) BackOver (was_given m.opened (number_of sid))
-body_step m n (Shut sid closing) = server_step m n (Shuts closing) ShutOver (was_given m.opened (number_of sid))
+body_step m n (Back sid stream stanza) = server_step m n (Gives stream stanza) BackOver (was_given m.opened (number_of sid))
+body_step m n (Shut sid stream closing) = server_step m n (Shuts stream closing) ShutOver (was_given m.opened (number_of sid))
 body_step m n LastLine = done_step n
 
 -- Scripts of the requests of one session.
@@ -150,8 +150,8 @@ arrival_step m n (Host name greeting) = bad_step n Grammar
 arrival_step m n (At moment) = bad_step n Grammar
 arrival_step m n (Post conn body) = bad_step n Grammar
 arrival_step m n (Close conn) = bad_step n Grammar
-arrival_step m n (Back sid stanza) = bad_step n Grammar
-arrival_step m n (Shut sid closing) = bad_step n Grammar
+arrival_step m n (Back sid stream stanza) = bad_step n Grammar
+arrival_step m n (Shut sid stream closing) = bad_step n Grammar
 arrival_step m n LastLine = done_step n
 
 -- The first line tells what the script is about.
@@ -163,8 +163,8 @@ first_step n (Host name greeting) = body_step new_manager n (Host name greeting)
 first_step n (At moment) = body_step new_manager n (At moment)
 first_step n (Post conn body) = body_step new_manager n (Post conn body)
 first_step n (Close conn) = body_step new_manager n (Close conn)
-first_step n (Back sid stanza) = body_step new_manager n (Back sid stanza)
-first_step n (Shut sid closing) = body_step new_manager n (Shut sid closing)
+first_step n (Back sid stream stanza) = body_step new_manager n (Back sid stream stanza)
+first_step n (Shut sid stream closing) = body_step new_manager n (Shut sid stream closing)
 first_step n LastLine = done_step n
 
 -- what a line does that says this

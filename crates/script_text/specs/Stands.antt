@@ -25,8 +25,8 @@ use Rattle.script_text.specs.Script.{PlainRun, Beginning, Arrivals, Bodies, Plai
 -- what may come to a session: a later request as its body gives it, a stanza, a closing, time
 abbrev pub IsEvent : Event → Type 0
 IsEvent (Arrives conn request body) = IsReadFrom body request × ((sid : List ℕ) × (request.kind ≡ kinds.Later sid))
-IsEvent (Gives stanza) = IsTrue (is_stanza stanza)
-IsEvent (Shuts closing) = ⊤
+IsEvent (Gives stream stanza) = IsTrue (is_stanza stanza)
+IsEvent (Shuts stream closing) = ⊤
 IsEvent Passes = ⊤
 
 -- a session: its entries tell the journal

@@ -29,14 +29,22 @@ pub(crate) fn body_effect(
         ScriptLine::At { moment } => pass(alloc, manager, n, moment),
         ScriptLine::Post { conn, body } => post(alloc, manager, n, conn, body),
         ScriptLine::Close { conn } => close(alloc, manager, n, conn),
-        ScriptLine::Back { sid, stanza } => {
+        ScriptLine::Back {
+            sid,
+            stream,
+            stanza,
+        } => {
             let stanza = SharedText::new(alloc, stanza)?;
-            let event = Event::Gives { stanza };
+            let event = Event::Gives { stream, stanza };
             let session = manager.given(number_of(sid.as_slice()));
             serve(alloc, manager, n, session, event, Refusal::BackOver)
         }
-        ScriptLine::Shut { sid, closing } => {
-            let event = Event::Shuts { closing };
+        ScriptLine::Shut {
+            sid,
+            stream,
+            closing,
+        } => {
+            let event = Event::Shuts { stream, closing };
             let session = manager.given(number_of(sid.as_slice()));
             serve(alloc, manager, n, session, event, Refusal::ShutOver)
         }

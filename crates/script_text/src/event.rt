@@ -1,5 +1,5 @@
 // What comes to one session of a script.
-use bosh_types::{Closing, SharedText};
+use bosh_types::{Closing, SharedText, StreamNo};
 use session_attrs::Request;
 
 #[derive(Drop)]
@@ -10,12 +10,14 @@ pub(crate) enum Event {
         request: Request,
         body: SharedText,
     },
-    // The server gives a stanza.
+    // The server gives a stanza on this stream.
     Gives {
+        stream: StreamNo,
         stanza: SharedText,
     },
-    // The server closes the stream.
+    // The server closes this stream.
     Shuts {
+        stream: StreamNo,
         closing: Closing,
     },
     // Time passes.

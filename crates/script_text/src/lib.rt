@@ -26,7 +26,7 @@ pub use driven::{DriveError, Driven};
 pub use ending::push_ending;
 pub use kept::{KeptError, drive_over};
 pub use laws::{crashes_leave_no_damage, reports_tell_of_sessions};
-pub use line::{BadKind, LineRead, ScriptLine, read_closing, read_line, split_word};
+pub use line::{BadKind, LineRead, ScriptLine, read_closing, read_line, read_stream, split_word};
 pub use report::{ReportLine, kind_name, print_line, push_inward};
 pub use resumed::Sessions;
 pub use text::push_number;

@@ -3,10 +3,10 @@ ghost use Rattle.std.specs.Prelude.{◌≡◌, ◌==◌, IfOk, position};
 ghost use Rattle.std.specs.Option.{option_copied};
 ghost use Rattle.bosh_types.specs.Rid.{rid_of};
 ghost use Rattle.script_text.specs.Names.{is_sid};
-ghost use Rattle.script_text.specs.Line.{line_of, open_of, short_of, host_of, greeting_of, post_of, connection_of, word_of, rest_of, later_line, moment_of, at_of, close_of, back_of, closing_of, shut_of};
+ghost use Rattle.script_text.specs.Line.{line_of, open_of, short_of, host_of, greeting_of, post_of, connection_of, word_of, rest_of, later_line, moment_of, at_of, close_of, back_of, back_on_of, closed_of, closing_of, given_of, shut_of, shut_on_of, stream_of};
 
 use crate::stanza::row_of;
-use bosh_types::{Closing, Condition, Moment, Rid, Stanzas, Text};
+use bosh_types::{Closing, Condition, Moment, Rid, Stanzas, StreamNo, Text};
 use session_attrs::{is_host_name, is_stanza};
 use std::alloc::{AllocError, Global};
 
@@ -37,21 +37,44 @@ pub enum BadKind {
 #[derive(Debug, Drop)]
 pub enum ScriptLine {
     /// `open RID`: a session is created with this request id.
-    Open { rid: Rid },
+    Open {
+        rid: Rid,
+    },
     /// `short RID STANZA`: a request with one stanza arrives.
-    Short { rid: Rid, stanza: Text },
+    Short {
+        rid: Rid,
+        stanza: Text,
+    },
     /// `host NAME GREETING`: the manager serves this host, and greets each new session with these stanzas.
-    Host { name: Text, greeting: Stanzas },
+    Host {
+        name: Text,
+        greeting: Stanzas,
+    },
     /// `at MILLISECONDS`: it is this moment, counted from the beginning of the script.
-    At { moment: Moment },
+    At {
+        moment: Moment,
+    },
     /// `post CONNECTION BODY`: a body arrives on this connection.
-    Post { conn: u16, body: Text },
+    Post {
+        conn: u16,
+        body: Text,
+    },
     /// `close CONNECTION`: the connection breaks.
-    Close { conn: u16 },
-    /// `back SID STANZA`: the server gives the session a stanza.
-    Back { sid: Text, stanza: Text },
-    /// `shut SID CLOSING`: the server closes the stream of the session.
-    Shut { sid: Text, closing: Closing },
+    Close {
+        conn: u16,
+    },
+    /// `back SID STANZA`, `backon SID STREAM STANZA`: the server gives the session a stanza, on its first stream or on this one.
+    Back {
+        sid: Text,
+        stream: StreamNo,
+        stanza: Text,
+    },
+    /// `shut SID CLOSING`, `shuton SID STREAM CLOSING`: the server closes the first stream of the session, or this one.
+    Shut {
+        sid: Text,
+        stream: StreamNo,
+        closing: Closing,
+    },
     /// `end`
     End,
 }
@@ -101,6 +124,12 @@ fn read_later(alloc: Global, line: &[u8]) -> Result<LineRead, AllocError>
     }
     if word == b"shut".as_slice() {
         return read_shut(alloc, rest);
+    }
+    if word == b"backon".as_slice() {
+        return read_back_on(alloc, rest);
+    }
+    if word == b"shuton".as_slice() {
+        return read_shut_on(alloc, rest);
     }
     if line == b"end".as_slice() {
         return Ok(LineRead::Line(ScriptLine::End));
@@ -243,6 +272,39 @@ fn read_back(alloc: Global, rest: Option<&[u8]>) -> Result<LineRead, AllocError>
     if !is_sid(sid) {
         return Ok(LineRead::BadLine(BadKind::Grammar));
     }
+    given(alloc, sid, StreamNo::unnamed(), stanza)
+}
+
+// The rest of a line `backon SID STREAM STANZA`.
+fn read_back_on(alloc: Global, rest: Option<&[u8]>) -> Result<LineRead, AllocError>
+    ensures { IfOk result (λ read. read ≡ back_on_of (option_copied rest.entry)) }
+{
+    let Some(rest) = rest else {
+        return Ok(LineRead::BadLine(BadKind::Grammar));
+    };
+    let (sid, named) = split_word(rest);
+    if !is_sid(sid) {
+        return Ok(LineRead::BadLine(BadKind::Grammar));
+    }
+    let Some(named) = named else {
+        return Ok(LineRead::BadLine(BadKind::Grammar));
+    };
+    let (word, stanza) = split_word(named);
+    let Some(stream) = read_stream(word) else {
+        return Ok(LineRead::BadLine(BadKind::Grammar));
+    };
+    given(alloc, sid, stream, stanza)
+}
+
+// What the session is given on this stream, if it is a stanza.
+fn given(
+    alloc: Global,
+    sid: &[u8],
+    stream: StreamNo,
+    stanza: Option<&[u8]>,
+) -> Result<LineRead, AllocError>
+    ensures { IfOk result (λ read. read ≡ given_of sid.now stream (option_copied stanza.entry)) }
+{
     let Some(stanza) = stanza else {
         return Ok(LineRead::BadLine(BadKind::Grammar));
     };
@@ -251,7 +313,11 @@ fn read_back(alloc: Global, rest: Option<&[u8]>) -> Result<LineRead, AllocError>
     }
     let sid = Text::from_vec(Vec::from_slice(alloc, sid)?);
     let stanza = Text::from_vec(Vec::from_slice(alloc, stanza)?);
-    Ok(LineRead::Line(ScriptLine::Back { sid, stanza }))
+    Ok(LineRead::Line(ScriptLine::Back {
+        sid,
+        stream,
+        stanza,
+    }))
 }
 
 // The rest of a line `shut SID CLOSING`.
@@ -265,6 +331,39 @@ fn read_shut(alloc: Global, rest: Option<&[u8]>) -> Result<LineRead, AllocError>
     if !is_sid(sid) {
         return Ok(LineRead::BadLine(BadKind::Grammar));
     }
+    closed(alloc, sid, StreamNo::unnamed(), word)
+}
+
+// The rest of a line `shuton SID STREAM CLOSING`.
+fn read_shut_on(alloc: Global, rest: Option<&[u8]>) -> Result<LineRead, AllocError>
+    ensures { IfOk result (λ read. read ≡ shut_on_of (option_copied rest.entry)) }
+{
+    let Some(rest) = rest else {
+        return Ok(LineRead::BadLine(BadKind::Grammar));
+    };
+    let (sid, named) = split_word(rest);
+    if !is_sid(sid) {
+        return Ok(LineRead::BadLine(BadKind::Grammar));
+    }
+    let Some(named) = named else {
+        return Ok(LineRead::BadLine(BadKind::Grammar));
+    };
+    let (word, closing) = split_word(named);
+    let Some(stream) = read_stream(word) else {
+        return Ok(LineRead::BadLine(BadKind::Grammar));
+    };
+    closed(alloc, sid, stream, closing)
+}
+
+// The closing of this stream, if the word is one.
+fn closed(
+    alloc: Global,
+    sid: &[u8],
+    stream: StreamNo,
+    word: Option<&[u8]>,
+) -> Result<LineRead, AllocError>
+    ensures { IfOk result (λ read. read ≡ closed_of sid.now stream (option_copied word.entry)) }
+{
     let Some(word) = word else {
         return Ok(LineRead::BadLine(BadKind::Grammar));
     };
@@ -272,7 +371,23 @@ fn read_shut(alloc: Global, rest: Option<&[u8]>) -> Result<LineRead, AllocError>
         return Ok(LineRead::BadLine(BadKind::Grammar));
     };
     let sid = Text::from_vec(Vec::from_slice(alloc, sid)?);
-    Ok(LineRead::Line(ScriptLine::Shut { sid, closing }))
+    Ok(LineRead::Line(ScriptLine::Shut {
+        sid,
+        stream,
+        closing,
+    }))
+}
+
+/// The number of a stream, from 0 to 7.
+#[tactic(auto, unfolding(crate::specs::Line::stream_of))]
+pub fn read_stream(word: &[u8]) -> Option<StreamNo>
+    ensures { result ≡ stream_of word.now }
+{
+    if word == b"0".as_slice() {
+        return Some(StreamNo::unnamed());
+    }
+    let number = Rid::read(word)?.value();
+    StreamNo::new(u16::try_from(number).ok()?)
 }
 
 /// The closing that the word names: `plain`, or a condition of RFC 6120, section 4.9.3.

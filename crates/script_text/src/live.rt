@@ -107,8 +107,8 @@ impl Live {
                 request,
                 body,
             } => self.arrive(alloc, now, conn, request, body),
-            Event::Gives { stanza } => self.give(alloc, now, stanza),
-            Event::Shuts { closing } => self.shut(alloc, now, closing),
+            Event::Gives { stream, stanza } => self.give(alloc, now, stream, stanza),
+            Event::Shuts { stream, closing } => self.shut(alloc, now, stream, closing),
             Event::Passes => self.pass(alloc, now),
         }
     }
@@ -150,19 +150,31 @@ impl Live {
         }
     }
 
-    fn give(mut self, alloc: Global, now: Moment, stanza: SharedText) -> Result<Turned, AllocError>
-        requires { IsEvent (Gives stanza) }
-        ensures { IfOk result (λ turned. (s : PlainLive) → IsLive self s → IsTurn turned (turn_at now (Gives stanza) s)) }
+    fn give(
+        mut self,
+        alloc: Global,
+        now: Moment,
+        stream: StreamNo,
+        stanza: SharedText,
+    ) -> Result<Turned, AllocError>
+        requires { IsEvent (Gives stream stanza) }
+        ensures { IfOk result (λ turned. (s : PlainLive) → IsLive self s → IsTurn turned (turn_at now (Gives stream stanza) s)) }
     {
-        let taken = back(&mut self.session, StreamNo::unnamed(), stanza, now)?;
+        let taken = back(&mut self.session, stream, stanza, now)?;
         let lines = refused_back(alloc, self.number, taken)?;
         self.told(alloc, lines, None)
     }
 
-    fn shut(mut self, alloc: Global, now: Moment, closing: Closing) -> Result<Turned, AllocError>
-        ensures { IfOk result (λ turned. (s : PlainLive) → IsLive self s → IsTurn turned (turn_at now (Shuts closing) s)) }
+    fn shut(
+        mut self,
+        alloc: Global,
+        now: Moment,
+        stream: StreamNo,
+        closing: Closing,
+    ) -> Result<Turned, AllocError>
+        ensures { IfOk result (λ turned. (s : PlainLive) → IsLive self s → IsTurn turned (turn_at now (Shuts stream closing) s)) }
     {
-        let taken = back_closed(&mut self.session, StreamNo::unnamed(), closing, now)?;
+        let taken = back_closed(&mut self.session, stream, closing, now)?;
         let lines = refused_shut(alloc, self.number, taken)?;
         self.told(alloc, lines, None)
     }

@@ -17,8 +17,8 @@ first_as n (Host name greeting) other = refl
 first_as n (At moment) other = refl
 first_as n (Post conn body) other = refl
 first_as n (Close conn) other = refl
-first_as n (Back sid stanza) other = refl
-first_as n (Shut sid closing) other = refl
+first_as n (Back sid stream stanza) other = refl
+first_as n (Shut sid stream closing) other = refl
 first_as n End other = refl
 
 first_by : {E : Type 0} (r : Result Effect E) (manager : Manager) (hosts : List HostName) (n : ℕ) (said : ScriptLine) → hosts ≡ []
