@@ -17,7 +17,7 @@ use Rattle.client_run.specs.declared.entry.Entered.TheVariants.{Called as IsCall
 use Rattle.client_run.specs.declared.entry.Entry.{Entry}
 use Rattle.client_run.specs.Adding.{AddsOnly, by_call, is_entry, is_hand_out}
 use Rattle.client_run.specs.Calls.{changes, reply_in}
-use Rattle.client_run.specs.Handing.{Drains, Out, Writes, WritesLast, line, nothing}
+use Rattle.client_run.specs.Handing.{Drains, HandsOut, Out, Writes, WritesLast, line, nothing}
 use Rattle.client_run.specs.History.{Enters}
 use Rattle.client_run.specs.Queueing.{Offers, OffersBy, Puts, full, none, wanting}
 use Rattle.client_run.specs.Working.{Called}
@@ -60,8 +60,12 @@ module _ (p : Call → Bool) where
   adds_called old new call false is made = adds_none old new made
 
 -- what is handed out
-hands_adds : (old new : Known Entry) (stanza : Option (List ℕ)) → Called calls.HandOut (Ok (replies.HandOut stanza)) old new → AddsOnly is_hand_out old new
-hands_adds old new stanza c = adds_called is_hand_out old new calls.HandOut (changes (reply_in (replies.HandOut stanza))) refl (called_makes calls.HandOut (replies.HandOut stanza) old new c)
+pub none_handed : (old new : Known Entry) → HandsOut old new (Ok None) → Called calls.HandOut (Ok (replies.HandOut None)) old new
+none_handed old new h = subst (λ payload. Called calls.HandOut (Ok (replies.HandOut payload)) old new) h.stanza_is h.called
+
+hands_adds : (old new : Known Entry) (stanza : Option (List ℕ)) → HandsOut old new (Ok stanza) → AddsOnly is_hand_out old new
+hands_adds old new stanza h =
+    adds_called is_hand_out old new calls.HandOut (changes (reply_in (replies.HandOut h.payload))) refl (called_makes calls.HandOut (replies.HandOut h.payload) old new h.called)
 
 writes_adds : (s t : Out) → Writes s t → AddsOnly is_hand_out s.known t.known
 writes_adds s t nothing = adds_none is_hand_out s.known s.known refl

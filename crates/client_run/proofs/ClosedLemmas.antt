@@ -41,6 +41,9 @@ terminate_over c = by_terminate (λ q. queueings.Over ≡ q → is_over c ≡ tr
 never_full : (c : PlainClient) → queueings.Full ≡ (terminate c).1 → ⊥
 never_full c = by_terminate (λ q. queueings.Full ≡ q → ⊥) c (λ over is. absurd (cc)) (λ is. absurd (cc))
 
+never_lacks : (c : PlainClient) → queueings.NoStream ≡ (terminate c).1 → ⊥
+never_lacks c = by_terminate (λ q. queueings.NoStream ≡ q → ⊥) c (λ over is. absurd (cc)) (λ is. absurd (cc))
+
 never_long : (c : PlainClient) → queueings.TooLong ≡ (terminate c).1 → ⊥
 never_long c = by_terminate (λ q. queueings.TooLong ≡ q → ⊥) c (λ over is. absurd (cc)) (λ is. absurd (cc))
 
@@ -69,6 +72,7 @@ closed_by : (old new : Known Entry) (queued : Queued) → Called calls.Terminate
 closed_by old new queueings.Done c = closed_made old new (called_makes calls.Terminate (replies.Queued queueings.Done) old new c)
 closed_by old new queueings.Over c = closed_over old new c
 closed_by old new queueings.Full c = absurd (never_full c.says.plain (queue_name (terminate c.says.plain) queueings.Full c.says.reply_is))
+closed_by old new queueings.NoStream c = absurd (never_lacks c.says.plain (queue_name (terminate c.says.plain) queueings.NoStream c.says.reply_is))
 closed_by old new queueings.TooLong c = absurd (never_long c.says.plain (queue_name (terminate c.says.plain) queueings.TooLong c.says.reply_is))
 
 and_both : (a b : Bool) → a ≡ true → b ≡ true → (a && b) ≡ true

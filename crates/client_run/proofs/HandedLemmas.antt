@@ -28,13 +28,13 @@ use Rattle.client_run.specs.Adding.{by_call, is_entry, is_hand_out}
 use Rattle.client_run.specs.Calls.{changes, reply_in}
 use Rattle.client_run.specs.Asking.{LooksBy}
 use Rattle.client_run.specs.Handed.{GivesUpTo, GoesOn, Handed, Hands, goes_on, hands_out, is_talk_whole, is_write_whole, as_lines, none}
-use Rattle.client_run.specs.Handing.{Drains, Out, Writes, WritesLast, line, line_of, nothing, out_of}
+use Rattle.client_run.specs.Handing.{Drains, HandsOut, Out, Writes, WritesLast, line, line_of, nothing, out_of}
 use Rattle.client_run.specs.Queueing.{Offers, Puts, QueuesBy, full, wanting}
 use Rattle.client_run.specs.Queueing.{none as offers_none}
 use Rattle.client_run.specs.Talking.{EndsTalk, Says, SaysBy, Speaks, Stops, Takes, Talk, Talks, spoke, talk_of}
 use Rattle.client_run.specs.Talking.{none as speaks_none}
 use Rattle.client_run.specs.Working.{Called}
-use Rattle.client_run.proofs.AddingLemmas.{Makes, called_makes, called_wants}
+use Rattle.client_run.proofs.AddingLemmas.{Makes, called_makes, called_wants, none_handed}
 use Rattle.client_run.proofs.HandingLemmas.{appends_both}
 use Rattle.client_run.proofs.RiseLemmas.{calls_begin, starts_later, starts_same}
 
@@ -68,8 +68,10 @@ goes_called call (Ok reply) old new other c = goes_made call (changes (reply_in 
 goes_called call (Err error) old new other c = later_same old new (calls_begin old new c) (called_wants call error old new c)
 
 -- where nothing was left
-goes_none : (old new : Known Entry) → Called calls.HandOut (Ok (replies.HandOut None)) old new → GoesOn old new
-goes_none old new c = later_same old new (calls_begin old new c) (called_makes calls.HandOut (replies.HandOut None) old new c)
+goes_none : (old new : Known Entry) → HandsOut old new (Ok None) → GoesOn old new
+goes_none old new h =
+    let c = none_handed old new h in
+    later_same old new (calls_begin old new c) (called_makes calls.HandOut (replies.HandOut None) old new c)
 
 goes_wanting : (old new : Known Entry) (error : AllocError) → Called calls.HandOut (Err error) old new → GoesOn old new
 goes_wanting old new error c = later_same old new (calls_begin old new c) (called_wants calls.HandOut error old new c)

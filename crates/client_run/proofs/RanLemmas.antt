@@ -35,6 +35,7 @@ use Rattle.client_run.specs.Queueing.{AsksLast}
 use Rattle.client_run.specs.Ran.{Closes, Concludes, ConversesBy, EndsWith, FinishesBy, IsSpent, Ran, RanBy, Scene, WasEmptied, ran_by, ran_spent, scene_of, well}
 use Rattle.client_run.specs.Running.{Gathers, GatheredTells, IsOver, TakesBoth, WasOver, is_done}
 use Rattle.client_run.specs.Worked.{IsDone}
+use Rattle.client_run.proofs.AddingLemmas.{none_handed}
 use Rattle.client_run.proofs.RiseLemmas.{calls_begin, starts_by, starts_later, starts_same}
 use Rattle.client_run.proofs.RunningLemmas.{both_finished, finished_later, still_over, was_later}
 use Rattle.client_run.proofs.TalkLemmas.{handed_spoken}
@@ -130,11 +131,11 @@ finish_as t t' g old new writes later result is f = subst (λ t. FinishesBy t g 
 
 writes_begin : (s t : Out) → Writes s t → StartsWith t.known.seen s.known.seen
 writes_begin s t nothing = starts_same s.known.seen
-writes_begin s t (line {t = mid} new given stanza writes hands appends) = starts_later s.known.seen mid.known.seen new.seen (writes_begin s mid writes) (calls_begin mid.known new hands)
+writes_begin s t (line {t = mid} new given stanza writes hands appends) = starts_later s.known.seen mid.known.seen new.seen (writes_begin s mid writes) (calls_begin mid.known new hands.called)
 
 last_begins : (s t : Out) (result : Result Written AllocError) → WritesLast s t result → StartsWith t.known.seen s.known.seen
-last_begins s t (Ok written.Done) last = calls_begin s.known t.known last.0
-last_begins s t (Ok written.WriteFault) last = calls_begin s.known t.known last.1
+last_begins s t (Ok written.Done) last = calls_begin s.known t.known last.0.called
+last_begins s t (Ok written.WriteFault) last = calls_begin s.known t.known last.1.called
 last_begins s t (Err error) last = calls_begin s.known t.known last.0
 
 pub drains_begin : (s t : Out) (new : Known Entry) (result : Result Written AllocError) → Drains s t result → StartsWith new.seen t.known.seen → StartsWith new.seen s.known.seen
@@ -146,7 +147,7 @@ drains_over s t result d was = was_later s.known.seen t.known.seen was (starts_l
 -- writing that is done leaves nothing
 pub emptied_by : (s t : Out) (new : Known Entry) → Drains s t (Ok written.Done) → StartsWith new.seen t.known.seen → WasOver s.known.seen → WasEmptied new.seen
 emptied_by s t new d later was =
-    let asked = d.ends.0 in
+    let asked = none_handed d.last.known t.known d.ends.0 in
     record {
       log = asked.before;
       begins = starts_later asked.before t.known.seen new.seen (starts_by d.last.known.number asked.before t.known.seen asked.made asked.seen) later;

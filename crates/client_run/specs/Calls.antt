@@ -35,13 +35,14 @@ IsReplyTo (calls.Pause seconds) reply = (queued : Queued) × (reply ≡ replies.
 IsReplyTo calls.Terminate reply = (queued : Queued) × (reply ≡ replies.Queued queued)
 IsReplyTo (calls.Next now) reply = (next : Next) × (reply ≡ replies.Next next)
 IsReplyTo (calls.Answer rid body now) reply = (answered : Answered) × (reply ≡ replies.Answered answered)
-IsReplyTo calls.HandOut reply = (payload : Option (List ℕ)) × (reply ≡ replies.HandOut payload)
+IsReplyTo calls.HandOut reply = (payload : Option (ℕ × List ℕ)) × (reply ≡ replies.HandOut payload)
 
 -- what a reply says of its call: whether it changed the client
 abbrev pub changes : plain.Reply → Bool
 changes (plain.ToQueue queueings.Done) = true
 changes (plain.ToQueue queueings.Over) = false
 changes (plain.ToQueue queueings.Full) = false
+changes (plain.ToQueue queueings.NoStream) = false
 changes (plain.ToQueue queueings.TooLong) = false
 changes (plain.ToNext (nexts.Request rid body)) = true
 changes (plain.ToNext nexts.Nothing) = false

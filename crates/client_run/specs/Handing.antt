@@ -5,6 +5,7 @@ use Rattle.std.specs.declared.alloc.AllocError.{AllocError}
 use Rattle.bosh_ports.specs.Sink.{AppendsFront}
 use Rattle.parked_gate.specs.Passes.{Known}
 use Rattle.client_run.specs.declared.call.Call.TheVariants as calls
+use Rattle.client_run.specs.declared.call.Reply.{Reply}
 use Rattle.client_run.specs.declared.call.Reply.TheVariants as replies
 use Rattle.client_run.specs.declared.draining.Written.{Written}
 use Rattle.client_run.specs.declared.draining.Written.TheVariants as written
@@ -23,9 +24,23 @@ out_of known given = record { known = known; given = given }
 abbrev pub line_of : List ℕ → List ℕ
 line_of stanza = stanza ++ 10 ∷ []
 
--- the next stanza was handed out to the pass, or none was left
+-- this is the stanza of the payload, on whatever stream it lies
+abbrev pub IsStanzaOf : Option (ℕ × List ℕ) → Option (List ℕ) → Type 0
+IsStanzaOf payload None = payload ≡ None
+IsStanzaOf payload (Some stanza) = (stream : ℕ) × (payload ≡ Some (stream, stanza))
+
+-- and of the one that was handed out with this reply
+abbrev pub HasStanza : Reply → Option (List ℕ) → Type 0
+HasStanza reply stanza = (payload : Option (ℕ × List ℕ)) × (reply ≡ replies.HandOut payload) × IsStanzaOf payload stanza
+
+-- the next payload, with the stream on which it lies, was handed out to the pass, and this is its stanza; or none was left
+pub record HandsPayload (old new : Known Entry) (stanza : Option (List ℕ)) : Type 0 where
+  pub payload : Option (ℕ × List ℕ)
+  pub called : Called calls.HandOut (Ok (replies.HandOut payload)) old new
+  pub stanza_is : IsStanzaOf payload stanza
+
 abbrev pub HandsOut : Known Entry → Known Entry → Result (Option (List ℕ)) AllocError → Type 0
-HandsOut old new (Ok stanza) = Called calls.HandOut (Ok (replies.HandOut stanza)) old new
+HandsOut old new (Ok stanza) = HandsPayload old new stanza
 HandsOut old new (Err error) = Called calls.HandOut (Err error) old new
 
 -- stanzas were handed out one after the other, and each was written as a line before the next was asked for

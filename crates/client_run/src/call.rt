@@ -1,5 +1,5 @@
 use bosh_client::{Answered, ClientEnd, Next, Queued};
-use bosh_types::{Moment, Rid, Text};
+use bosh_types::{Moment, Rid, StreamNo, Text};
 
 /// A call of a client.
 #[derive(Debug, Drop)]
@@ -20,13 +20,14 @@ pub enum Call {
     HandOut,
 }
 
-/// What a call is replied: the first by the four that queue, each other one by the call of that name.
+/// What a call is replied: the first by the four that queue, each other one by the call of that name. A payload has the stream on which it
+/// lies.
 #[derive(Debug, Drop)]
 pub enum Reply {
     Queued(Queued),
     Next(Next),
     Answered(Answered),
-    HandOut(Option<Text>),
+    HandOut(Option<(StreamNo, Text)>),
 }
 
 /// What a client is asked.

@@ -4,12 +4,12 @@ ghost use Rattle.bosh_ports.specs.Faults.{HasRisen};
 ghost use Rattle.bosh_ports.specs.Sink.{GivesAll};
 ghost use Rattle.parked_gate.specs.Passes.{IsPassOf, known};
 ghost use Rattle.client_run.specs.Adding.{AddsOnly, is_hand_out};
-ghost use Rattle.client_run.specs.Handing.{Drains, HandsOut, line_of, out_of};
+ghost use Rattle.client_run.specs.Handing.{Drains, HandsOut, HasStanza, IsStanzaOf, line_of, out_of};
 
 use crate::call::{Call, Reply};
 use crate::object::ClientObject;
 use bosh_ports::{Sink, WriteFault, give_all};
-use bosh_types::Text;
+use bosh_types::{StreamNo, Text};
 use parked_gate::{Gate, Pass};
 use std::alloc::AllocError;
 use std::sync::Wait;
@@ -86,18 +86,28 @@ fn hand_out<R: Wait>(
     ensures hands { HandsOut (known pass.old) (known pass.new) result }
 {
     let reply = gate.call(rt, pass, Call::HandOut)?;
-    Ok(payload_in(reply))
+    Ok(stanza_in(reply))
 }
 
-fn payload_in(reply: Reply) -> Option<Text>
-    requires { (payload : Option (List ℕ)) × (reply ≡ Reply.HandOut payload) }
-    ensures { reply ≡ Reply.HandOut result }
+// The stanza of a payload, on whatever stream it lies.
+fn stanza_in(reply: Reply) -> Option<Text>
+    requires { (payload : Option (ℕ × List ℕ)) × (reply ≡ Reply.HandOut payload) }
+    ensures { HasStanza reply result }
 {
     match reply {
-        Reply::HandOut(payload) => payload,
+        Reply::HandOut(payload) => stanza_of(payload),
         Reply::Queued(_) => unreachable!(),
         Reply::Next(_) => unreachable!(),
         Reply::Answered(_) => unreachable!(),
+    }
+}
+
+fn stanza_of(payload: Option<(StreamNo, Text)>) -> Option<Text>
+    ensures { IsStanzaOf payload result }
+{
+    match payload {
+        Some((_, stanza)) => Some(stanza),
+        None => None,
     }
 }
 

@@ -175,7 +175,7 @@ fn made(client: &mut Client, alloc: Global, call: &Call) -> Result<Reply, AllocE
             let answered = client.answer(alloc, *rid, body.as_slice(), *now)?;
             Ok(Reply::Answered(answered))
         }
-        Call::HandOut => Ok(Reply::HandOut(client.hand_out())),
+        Call::HandOut => Ok(Reply::HandOut(client.hand_out_on())),
     }
 }
 

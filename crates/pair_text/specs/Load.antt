@@ -149,7 +149,8 @@ told_of number load = record {
 abbrev pub load_text : ℕ → List ℕ
 load_text number = line_of (told_of number (load_of number))
 
--- the session of a load goes on, or its client was silent for too long, or its journal is full, or one of the two ends ended it
+-- the session of a load goes on, or its client was silent for too long, or its journal is full, or one of the two ends ended it: its client
+-- names no stream
 abbrev pub IsOverWell : Option Ending → Type 0
 IsOverWell ending = IfSome ending IsFaultless
 

@@ -34,8 +34,8 @@ pub record TellsOfEvents (w : PlainWorld) (lines : List PairReport) : Type 0 whe
   pub world_is : w ≡ after (new_world host greeting setup) events
   pub seen_is : seen_in lines ≡ all_seen (report (new_world host greeting setup) events)
 
--- so its `in` lines are what went inward at the manager, a beginning of what the client made, and its `got` lines what the
--- client handed out, a beginning of what the server gave
+-- so its `in` lines are what went inward at the manager, on each stream a beginning of what the client made for it, and its `got` lines
+-- what the client handed out, on each stream a beginning of what the server gave on it
 pub record TellsOfWorld (w : PlainWorld) (lines : List PairReport) : Type 0 where
   pub events : TellsOfEvents w lines
   pub inward_is : seen_inward (seen_in lines) ≡ went_inward w

@@ -20,10 +20,10 @@ use world_laws::{
 };
 
 impl World {
-    /// Events happen one after the other. Where the world was new, what was seen to be passed on to the server is a beginning
-    /// of what the client made, and what was seen to be handed out a beginning of what the server gave; and where no copy of a
-    /// request came after its answer was taken, nothing went wrong by itself between the two. The only error is want of memory,
-    /// after which nothing is said of the world.
+    /// Events happen one after the other. Where the world was new, on each stream, what was seen to be passed on to the server is a
+    /// beginning of what the client made for it, and what was seen to be handed out a beginning of what the server gave on it; and
+    /// where no copy of a request came after its answer was taken, nothing went wrong by itself between the two. The only error is
+    /// want of memory, after which nothing is said of the world.
     pub fn run(&mut self, alloc: Global, events: Vec<WorldEvent>) -> Result<Report, AllocError>
         requires { All IsAllowed events.items }
         ensures run { IfOk result (λ report. (w : PlainWorld) → IsWorld self.old w → IsRun report self.new w events.items) }

@@ -1,6 +1,6 @@
 use Rattle.std.proofs.Common.{subst, sym}
 use Rattle.world_laws.specs.Setup.{IsAllowed}
-use Rattle.world_laws.specs.Steps.{step}
+use Rattle.world_laws.specs.Steps.{gives_to, shuts_to, step}
 use Rattle.two_ends.specs.Worlds.{IsPlainStep}
 use Rattle.two_ends.proofs.TurnLemmas.{IfOk-from}
 use Rattle.two_ends.proofs.world.World.happen.Goals as goal
@@ -51,10 +51,12 @@ pub returns-in-Carry : goal.returns-in-Carry
 returns-in-Carry c = IfOk-from c.carry.result _ _ (λ news it w is. subst (λ e. IsPlainStep news c.carry.new.self (step w e)) (sym c.in-Carry.is) (it w is)) c.carry.ensures
 
 pub returns-in-Give : goal.returns-in-Give
-returns-in-Give c = IfOk-from c.give.result _ _ (λ news it w is. subst (λ e. IsPlainStep news c.give.new.self (step w e)) (sym c.in-Give.is) (it w is)) c.give.ensures
+returns-in-Give c = IfOk-from c.give.result _ _ (λ news it w is. subst (λ e. IsPlainStep news c.give.new.self (step w e)) (sym c.in-Give.is)
+    (subst (λ stream. IsPlainStep news c.give.new.self (gives_to w stream c.in-Give.stanza w.manager)) c.unnamed.ensures (it w is))) c.give.ensures
 
 pub returns-in-Shut : goal.returns-in-Shut
-returns-in-Shut c = IfOk-from c.shut.result _ _ (λ news it w is. subst (λ e. IsPlainStep news c.shut.new.self (step w e)) (sym c.in-Shut.is) (it w is)) c.shut.ensures
+returns-in-Shut c = IfOk-from c.shut.result _ _ (λ news it w is. subst (λ e. IsPlainStep news c.shut.new.self (step w e)) (sym c.in-Shut.is)
+    (subst (λ stream. IsPlainStep news c.shut.new.self (shuts_to w stream c.in-Shut.closing w.manager)) c.unnamed-in-Shut.ensures (it w is))) c.shut.ensures
 
 pub returns-in-GiveOn : goal.returns-in-GiveOn
 returns-in-GiveOn c = IfOk-from c.give-in-GiveOn.result _ _ (λ news it w is. subst (λ e. IsPlainStep news c.give-in-GiveOn.new.self (step w e)) (sym c.in-GiveOn.is) (it w is)) c.give-in-GiveOn.ensures
