@@ -11,7 +11,7 @@ use Rattle.bosh_client.specs.declared.replies.Why.{Why}
 use Rattle.bosh_client.specs.declared.setup.ClientSetup.{ClientSetup}
 use Rattle.bosh_client.specs.declared.told.Told.{Told}
 use Rattle.bosh_client.specs.AnswerReading.{answer_of}
-use Rattle.bosh_client.specs.Machine.{answer, copy, is_due, is_due_by, lacks_sid, new_client, next_made, next_request, take_answer}
+use Rattle.bosh_client.specs.Machine.{answer, copy, is_due, is_due_by, lacks_sid, misnames, new_client, next_made, next_request, take_answer}
 use Rattle.bosh_client.specs.PlainClient.{Made, PlainClient, bytes_of, id_of, next_id, request_at, taken}
 use Rattle.bosh_client.specs.Requests.{agreed}
 use Rattle.bosh_client.specs.Runs as plain
@@ -128,8 +128,9 @@ taken_names : (c : PlainClient) (rid : ℕ) (body : List ℕ) (now : ℕ) (told 
     → NamesUpTo rid (take_answer c rid body now told).1
 taken_names c rid body now (Err why) ids made none = tt
 taken_names c rid body now (Ok tells) ids made none =
-    by_if (λ (p : PlainClient × Answered). NamesUpTo rid p.1) tells.error _ _ (λ _. (lowest_at_most c rid ids made none, refl))
-    (λ _. by_if (λ (p : PlainClient × Answered). NamesUpTo rid p.1) (lacks_sid c rid tells) _ _ (λ _. tt) (λ _. tt))
+    by_if (λ (p : PlainClient × Answered). NamesUpTo rid p.1) (misnames c rid tells) _ _ (λ _. tt)
+    (λ _. by_if (λ (p : PlainClient × Answered). NamesUpTo rid p.1) tells.error _ _ (λ _. (lowest_at_most c rid ids made none, refl))
+    (λ _. by_if (λ (p : PlainClient × Answered). NamesUpTo rid p.1) (lacks_sid c rid tells) _ _ (λ _. tt) (λ _. tt)))
 
 answer_names : (c : PlainClient) (rid : ℕ) (body : List ℕ) (now : ℕ) → AreFrom c.setup.first c.requests → NamesUpTo rid (answer c rid body now).1
 answer_names c rid body now ids =

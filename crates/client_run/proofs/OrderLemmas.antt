@@ -57,7 +57,7 @@ further_hands old new stanzas none = further_same old
 further_hands old new stanzas (goes_on {t = mid} {stanzas = before} later hands goes) =
     further_both old mid later (further_hands old mid before hands) (record { begins = goes.begins; adds = record { added = goes.adds.added; mine = goes.adds.mine; holds = tt } })
 further_hands old new stanzas (hands_out {t = mid} {stanzas = before} later stanza hands handed) =
-    further_both old mid later (further_hands old mid before hands) (record { begins = calls_begin mid later handed; adds = record { added = option_to_list handed.made; mine = handed.mine; holds = tt } })
+    further_both old mid later (further_hands old mid before hands) (record { begins = calls_begin mid later handed.called; adds = record { added = option_to_list handed.called.made; mine = handed.called.mine; holds = tt } })
 
 pub further_handed : (whole : Bool) (s t : Out) (faults later : ℕ) → Handed whole s t faults later → GoesFurther s.known t.known
 further_handed whole s t faults later handed = further_hands s.known t.known handed.stanzas handed.hands
