@@ -209,8 +209,8 @@ well_shared_said (said.Host name greeting) well = well
 well_shared_said (said.At moment) well = tt
 well_shared_said (said.Post conn body) well = tt
 well_shared_said (said.Close conn) well = tt
-well_shared_said (said.Back sid stanza) well = tt
-well_shared_said (said.Shut sid closing) well = tt
+well_shared_said (said.Back sid stream stanza) well = tt
+well_shared_said (said.Shut sid stream closing) well = tt
 well_shared_said said.End well = tt
 
 well_shared : (read : LineRead) → IsWellRead read → IsWellSaid (shared_line read)

@@ -80,8 +80,8 @@ shared_said (said.Host name greeting) = Some (lines.Host name greeting)
 shared_said (said.At moment) = None
 shared_said (said.Post conn body) = None
 shared_said (said.Close conn) = None
-shared_said (said.Back sid stanza) = None
-shared_said (said.Shut sid closing) = None
+shared_said (said.Back sid stream stanza) = None
+shared_said (said.Shut sid stream closing) = None
 shared_said said.End = Some lines.End
 
 abbrev pub shared_line : LineRead → Option PairLine
